@@ -1,1 +1,12 @@
+-- The definitions, from the bottom up. Read them in this order beside document 01; docs/READING.md goes by 01's order.
 pub mod Pick
+pub mod Limits
+pub mod Node
+pub mod Procedures
+pub mod React
+pub mod Range
+pub mod State
+pub mod Step
+pub mod History
+pub mod Answers
+pub mod Claims

@@ -1,0 +1,33 @@
+-- Document 01's numbers for the cases of the enums that are answered or printed.
+use Prim.Native.Nat.{ℕ}
+use Rattle.model.specs.State.{State, view}
+use Rattle.model.specs.Step.{Result, refused, accepted, kept}
+use Rattle.model.specs.declared.Status.{Status}
+use Rattle.model.specs.declared.Status.the-variants.{Down, Election, Reorganization, Normal}
+use Rattle.model.specs.declared.Answer.{Answer}
+use Rattle.model.specs.declared.Answer.the-variants.{Accepted, NotInRange, WrongNumber, WrongTask, WrongStatus, WrongActivity, NoMessage, CounterAtEnd, CallsAtEnd, QueueFull}
+
+-- "status: 0 Down, 1 Election, 2 Reorganization, 3 Normal"
+abbrev pub statusNumber : Status → ℕ
+statusNumber Down = 0
+statusNumber Election = 1
+statusNumber Reorganization = 2
+statusNumber Normal = 3
+
+-- the number of the refusal, and 0 where the event is accepted
+abbrev pub answerNumber : Answer → ℕ
+answerNumber Accepted = 0
+answerNumber NotInRange = 1
+answerNumber WrongNumber = 7
+answerNumber WrongTask = 8
+answerNumber WrongStatus = 9
+answerNumber WrongActivity = 10
+answerNumber NoMessage = 11
+answerNumber CounterAtEnd = 12
+answerNumber CallsAtEnd = 13
+answerNumber QueueFull = 14
+
+-- the same of a result of the definitions
+abbrev pub resultNumber : Result → ℕ
+resultNumber (refused r) = r
+resultNumber (accepted u k) = 0

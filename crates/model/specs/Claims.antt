@@ -1,0 +1,95 @@
+-- What is claimed of the definitions. The proofs are in proofs/.
+use Prim.Native.Nat.{ℕ, _≤_, _<_}
+use mathlib.Core.Bool.{Bool, true, false}
+use mathlib.Core.Path.{_≡_}
+use mathlib.Core.Logic.{_⊎_}
+use mathlib.Core.List.{List, [], _∷_, _++_}
+use lib.ListN.{length}
+use Rattle.model.specs.Limits.{nodeLimit}
+use Rattle.model.specs.State.{State, start, nodeAt, inRange}
+use Rattle.model.specs.Step.{actor, reactionTo, remaining, sent, forms, Result, refused, accepted, step, after, run}
+use Rattle.model.specs.History.{Entry, NotFormed, NoTask, Task, History, newest, coming, history}
+use Rattle.model.specs.declared.Status.{Status}
+use Rattle.model.specs.declared.Status.the-variants.{Down, Election, Reorganization, Normal}
+use Rattle.model.specs.declared.Node.{Node}
+use Rattle.model.specs.declared.TaskNo.{TaskNo}
+use Rattle.model.specs.declared.Message.{Message}
+use Rattle.model.specs.declared.Mark.{Mark}
+use Rattle.model.specs.declared.Event.{Event}
+use Rattle.model.specs.declared.Event.the-variants.{Finish}
+
+-- ── demand 3 ──
+
+-- in Reorganization or Normal
+abbrev pub isActive : Status → Bool
+isActive Down = false
+isActive Election = false
+isActive Reorganization = true
+isActive Normal = true
+
+-- no message of the queue holds group g
+abbrev pub Unsent : ℕ → List Message → Type 0
+Unsent g [] = Unit {0}
+Unsent g (m ∷ ms) = (m .group .number ≡ g → ⊥) × Unsent g ms
+
+-- the table does not hold g "as a group number, in a cabinet (Down ones too) or a waiting message"
+pub record Lacks (s : State) (g : ℕ) : Type 0 where
+  pub in-nodes : (j : ℕ) → 1 ≤ j → j ≤ s .n → nodeAt s j .group .number ≡ g → ⊥
+  pub in-messages : Unsent g (s .queue)
+
+-- Demand 3, of every list of events from the starting table of n nodes. `es` is the list so far, and `e` an event after it that is accepted with the mark k
+-- and leaves the table u.
+pub record RunFixes (n : ℕ) : Type 0 where
+  -- two nodes in Reorganization or Normal with the same group have the same coordinator
+  pub same-coordinator : (es : List Event) (i j : ℕ) → 1 ≤ i → i ≤ n → 1 ≤ j → j ≤ n
+      → isActive (nodeAt (run n es) i .status) ≡ true → isActive (nodeAt (run n es) j .status) ≡ true
+      → nodeAt (run n es) i .group .number ≡ nodeAt (run n es) j .group .number
+      → nodeAt (run n es) i .coordinator ≡ nodeAt (run n es) j .coordinator
+  -- "The book's task is the one the list fixed": each Normal node's task is the history's task of its group
+  pub same-task : (es : List Event) (i : ℕ) → 1 ≤ i → i ≤ n → nodeAt (run n es) i .status ≡ Normal
+      → history n es .entry (nodeAt (run n es) i .group .number) ≡ Task (nodeAt (run n es) i .task .number)
+  -- "A new group gets the book's number"
+  pub numbered : (es : List Event) (e : Event) (u : State) (k : Mark) → step (run n es) e ≡ accepted u k → forms k ≡ true
+      → nodeAt u (actor e) .group .number ≡ coming (history n es) (actor e)
+  -- "and no table from the starting one to the one just before that event holds it": `es` is any beginning of the list before e
+  pub fresh : (es fs : List Event) (e : Event) (u : State) (k : Mark) → step (run n (es ++ fs)) e ≡ accepted u k → forms k ≡ true
+      → Lacks (run n es) (coming (history n (es ++ fs)) (actor e))
+  -- any other group in a table comes from a message, or was there before
+  pub borrowed : (es : List Event) (e : Event) (u : State) (k : Mark) → step (run n es) e ≡ accepted u k → forms k ≡ false
+      → (j : ℕ) → 1 ≤ j → j ≤ n → Lacks (run n es) (nodeAt u j .group .number) → ⊥
+  -- "no group ever gets a second task": a group that is formed was not formed before, and a group that gets its task by a finish has none
+  pub formed-once : (es : List Event) (e : Event) (u : State) (k : Mark) → step (run n es) e ≡ accepted u k → forms k ≡ true
+      → history n es .entry (coming (history n es) (actor e)) ≡ NotFormed
+  pub given-once : (es : List Event) (i : ℕ) (t : TaskNo) (u : State) (k : Mark) → step (run n es) (Finish i t) ≡ accepted u k
+      → history n es .entry (newest (history n es) i) ≡ NoTask
+  -- and a task once given stays
+  pub lasts : (es fs : List Event) (g t : ℕ) → history n es .entry g ≡ Task t → history n (es ++ fs) .entry g ≡ Task t
+
+-- ── the range ──
+
+pub record StaysInRange : Type 0 where
+  -- the starting table is in range
+  pub starts : (n : ℕ) → 1 ≤ n → n ≤ nodeLimit → inRange (start n) ≡ true
+  -- an accepted event leaves a table in range (one that is not in range meets ground 1)
+  pub keeps : (s : State) (e : Event) (u : State) (k : Mark) → step s e ≡ accepted u k → inRange u ≡ true
+  -- so every table of a run is in range, and no run meets ground 1
+  pub runs : (n : ℕ) → 1 ≤ n → n ≤ nodeLimit → (es : List Event) → inRange (run n es) ≡ true
+  pub never-one : (n : ℕ) → 1 ≤ n → n ≤ nodeLimit → (es : List Event) (e : Event) → step (run n es) e ≡ refused 1 → ⊥
+
+-- ── how little a step changes ──
+
+-- r is q, or q without one of its messages
+abbrev pub AtMostOneOut : List Message → List Message → Type 0
+AtMostOneOut q r = (r ≡ q) ⊎ ((xs : List Message) × (m : Message) × (ys : List Message) × (q ≡ xs ++ (m ∷ ys)) × (r ≡ xs ++ ys))
+
+-- from s to u: one record at most, at most one message out, and at most one in, behind the others
+pub record ChangesLittle (s : State) (e : Event) (u : State) : Type 0 where
+  pub same-n : u .n ≡ s .n
+  pub same-length : length (u .nodes) ≡ length (s .nodes)
+  pub others-kept : (j : ℕ) → 1 ≤ j → (j ≡ actor e → ⊥) → nodeAt u j ≡ nodeAt s j
+  pub one-out : AtMostOneOut (s .queue) (remaining s e)
+  pub one-in : u .queue ≡ remaining s e ++ sent (reactionTo s e .outgoing)
+
+pub record StepIsLocal : Type 0 where
+  pub refused-nothing : (s : State) (e : Event) (r : ℕ) → step s e ≡ refused r → after s e ≡ s
+  pub accepted-little : (s : State) (e : Event) (u : State) (k : Mark) → step s e ≡ accepted u k → ChangesLittle s e u

@@ -1,0 +1,96 @@
+-- The procedures of one node: what it does next, each as a reaction (its new record, the message out or none, the mark for the history).
+-- No procedure speaks of a refusal: Step holds the grounds.
+use Prim.Native.Nat.{ℕ, _+_, _-_}
+use mathlib.Core.Bool.{Bool, true, false}
+use lib.Dec.{eqb, leb, ltb}
+use Rattle.node_set.specs.NodeSet.{without, lowest, highest}
+use Rattle.model.specs.Pick.{pick}
+use Rattle.model.specs.Node.{turned, calling, settled, tasked, recovered, merged, asks, calls, readies, replies}
+use Rattle.model.specs.declared.Status.{Status}
+use Rattle.model.specs.declared.Status.the-variants.{Down, Election, Reorganization, Normal}
+use Rattle.model.specs.declared.Activity.{Activity}
+use Rattle.model.specs.declared.Activity.the-variants.{Idle, Asking, Waiting, Inviting, Collecting, Handing, Contacting, Forwarding, Accepting}
+use Rattle.model.specs.declared.Node.{Node}
+use Rattle.model.specs.declared.CallNo.{CallNo}
+use Rattle.model.specs.declared.TaskNo.{TaskNo}
+use Rattle.model.specs.declared.Message.{Message}
+use Rattle.model.specs.declared.Outgoing.{Outgoing}
+use Rattle.model.specs.declared.Outgoing.the-variants.{Nothing, Send}
+use Rattle.model.specs.declared.Mark.{Mark}
+use Rattle.model.specs.declared.Mark.the-variants.{Plain, Recovers, Merges}
+use Rattle.model.specs.declared.Reaction.{Reaction}
+
+abbrev pub reaction : Node → Outgoing → Mark → Reaction
+reaction c o k = record { node = c; outgoing = o; mark = k }
+
+-- the record c, and nothing sent
+abbrev pub stays : Node → Reaction
+stays c = reaction c Nothing Plain
+
+-- the record c, and a reply to the sender of m
+abbrev pub answers : ℕ → Node → Message → Bool → Reaction
+answers i c m y = reaction c (Send (replies i (m .sender) (m .call) y)) Plain
+
+-- "recover i: .. 'Recovers' below means this."
+abbrev pub recovers : ℕ → Node → Reaction
+recovers i c = reaction (recovered i c) Nothing Recovers
+
+-- "Sets are walked from the lowest number up": whom inviting, forwarding and handing take next
+abbrev pub next : ℕ → ℕ
+next s = lowest s
+
+-- "It invites the cabinets found, then those set aside (one in both is invited twice), and then collects."
+unfoldable pub inviteNext : ℕ → Node → Mark → ℕ → ℕ → Reaction
+inviteNext i c k found former =
+    pick (eqb found 0)
+    (pick (eqb former 0)
+    (reaction (turned c Collecting) Nothing k)
+    (reaction (calling c (Inviting 0 (without former (next former)) (next former)))
+    (Send (calls i 3 (next former) (record { number = c .last .number + 1 }) (c .group))) k))
+    (reaction (calling c (Inviting (without found (next found)) former (next found)))
+    (Send (calls i 3 (next found) (record { number = c .last .number + 1 }) (c .group))) k)
+
+-- "merge: Election; counter plus one, new group, coordinator i; members are set aside and emptied."
+unfoldable pub merges : ℕ → Node → ℕ → Reaction
+merges i c found = inviteNext i (merged i c) Merges found (c .members)
+
+-- "It hands Ready to each member; after the last, or with none, Normal and idle."
+unfoldable pub handNext : ℕ → Node → ℕ → Reaction
+handNext i c rest =
+    pick (eqb rest 0)
+    (stays (settled c Normal))
+    (reaction (calling c (Handing (without rest (next rest)) (next rest)))
+    (Send (readies i (next rest) (record { number = c .last .number + 1 }) (c .group) (c .task))) Plain)
+
+-- "finish i with task t: Reorganization, task t."
+unfoldable pub finishes : ℕ → Node → TaskNo → Reaction
+finishes i c t = handNext i (tasked c Reorganization t) (c .members)
+
+-- "it forwards the invitation to each member; then it calls Accept on the new coordinator"
+unfoldable pub forwardNext : ℕ → Node → ℕ → ℕ → CallNo → Reaction
+forwardNext i c rest caller call =
+    pick (eqb rest 0)
+    (reaction (calling c (Accepting caller call))
+    (Send (calls i 4 (c .coordinator) (record { number = c .last .number + 1 }) (c .group))) Plain)
+    (reaction (calling c (Forwarding (without rest (next rest)) (next rest) caller call))
+    (Send (calls i 3 (next rest) (record { number = c .last .number + 1 }) (c .group))) Plain)
+
+-- "After the last: none found, idle. Else let p be the highest found: if i < p it waits p − i ticks, else it merges."
+unfoldable pub askedAll : ℕ → Node → ℕ → Reaction
+askedAll i c found =
+    pick (eqb found 0)
+    (stays (turned c Idle))
+    (pick (ltb i (highest found))
+    (stays (turned c (Waiting (highest found - i) found)))
+    (merges i c found))
+
+-- node j is asked "with kind 1", or where there is none, the asking ends
+unfoldable pub askAt : ℕ → ℕ → Node → ℕ → ℕ → Reaction
+askAt n i c j found =
+    pick (leb j n)
+    (reaction (calling c (Asking j found)) (Send (asks i j (record { number = c .last .number + 1 }))) Plain)
+    (askedAll i c found)
+
+-- "it asks every other cabinet in turn": the one after j is asked, i itself left out
+unfoldable pub askAfter : ℕ → ℕ → Node → ℕ → ℕ → Reaction
+askAfter n i c j found = pick (eqb (j + 1) i) (askAt n i c (j + 2) found) (askAt n i c (j + 1) found)

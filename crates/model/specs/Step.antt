@@ -1,0 +1,215 @@
+-- The step: the table of grounds, the effect of an event, and runs.
+use Prim.Native.Nat.{ℕ, _+_, _-_}
+use mathlib.Core.Bool.{Bool, true, false, not, _&&_}
+use mathlib.Core.List.{List, [], _∷_, _++_}
+use lib.Dec.{eqb, leb, ltb}
+use lib.ListN.{length, set}
+use Rattle.model.specs.Pick.{pick}
+use Rattle.model.specs.Limits.{queueLimit, counterEnd, callEnd}
+use Rattle.model.specs.Node.{isDown, isIdle, isWaiting, isCollecting, hasOpenCall}
+use Rattle.model.specs.Procedures.{stays}
+use Rattle.model.specs.React.{react}
+use Rattle.model.specs.Range.{isNode, isOther, isGivenTask}
+use Rattle.model.specs.State.{State, start, nodeAt, waits, oldest, withoutOldest, inRange}
+use Rattle.model.specs.declared.Status.{Status}
+use Rattle.model.specs.declared.Activity.{Activity}
+use Rattle.model.specs.declared.Message.{Message}
+use Rattle.model.specs.declared.Outgoing.{Outgoing}
+use Rattle.model.specs.declared.Outgoing.the-variants.{Nothing, Send}
+use Rattle.model.specs.declared.Mark.{Mark}
+use Rattle.model.specs.declared.Mark.the-variants.{Plain, Recovers, Merges}
+use Rattle.model.specs.declared.Reaction.{Reaction}
+use Rattle.model.specs.declared.Input.{Input}
+use Rattle.model.specs.declared.Input.the-variants as Input
+use Rattle.model.specs.declared.Event.{Event}
+use Rattle.model.specs.declared.Event.the-variants.{Crash, Recover, Check, Timeout, Tick, Expire, Finish, Deliver, Lose}
+
+-- ── what an event is about ──
+
+-- the event's node; "for deliver, the receiver", and for lose too, whose record stays as it is
+abbrev pub actor : Event → ℕ
+actor (Crash i) = i
+actor (Recover i) = i
+actor (Check i) = i
+actor (Timeout i) = i
+actor (Tick i) = i
+actor (Expire i) = i
+actor (Finish i t) = i
+actor (Deliver a b) = b
+actor (Lose a b) = b
+
+-- what the event's node does
+unfoldable pub reactionTo : State → Event → Reaction
+reactionTo s (Crash i) = react (s .n) i (nodeAt s i) Input.Crash
+reactionTo s (Recover i) = react (s .n) i (nodeAt s i) Input.Recover
+reactionTo s (Check i) = react (s .n) i (nodeAt s i) Input.Check
+reactionTo s (Timeout i) = react (s .n) i (nodeAt s i) Input.Timeout
+reactionTo s (Tick i) = react (s .n) i (nodeAt s i) Input.Tick
+reactionTo s (Expire i) = react (s .n) i (nodeAt s i) Input.Expire
+reactionTo s (Finish i t) = react (s .n) i (nodeAt s i) (Input.Finish t)
+-- "deliver a b: that message is taken out and acted on"
+reactionTo s (Deliver a b) = react (s .n) b (nodeAt s b) (Input.Receive (oldest a b (s .queue)))
+-- "lose a b: the oldest message from a to b vanishes"
+reactionTo s (Lose a b) = stays (nodeAt s b)
+
+-- the messages that wait once the event's own is taken out
+unfoldable pub remaining : State → Event → List Message
+remaining s (Crash i) = s .queue
+remaining s (Recover i) = s .queue
+remaining s (Check i) = s .queue
+remaining s (Timeout i) = s .queue
+remaining s (Tick i) = s .queue
+remaining s (Expire i) = s .queue
+remaining s (Finish i t) = s .queue
+remaining s (Deliver a b) = withoutOldest a b (s .queue)
+remaining s (Lose a b) = withoutOldest a b (s .queue)
+
+abbrev pub sent : Outgoing → List Message
+sent Nothing = []
+sent (Send m) = m ∷ []
+
+-- the state after an accepted event: one record stored, the event's message out, at most one message in
+unfoldable pub effect : State → Event → State
+effect s e = record {
+  n = s .n;
+  nodes = set (s .nodes) (actor e - 1) (reactionTo s e .node);
+  queue = remaining s e ++ sent (reactionTo s e .outgoing);
+}
+
+-- ── "Where each refusal is met" ──
+
+-- 7: "cabinet outside 1 to n, or sender equals receiver"
+unfoldable pub wrongNumber : ℕ → Event → Bool
+wrongNumber n (Crash i) = not (isNode n i)
+wrongNumber n (Recover i) = not (isNode n i)
+wrongNumber n (Check i) = not (isNode n i)
+wrongNumber n (Timeout i) = not (isNode n i)
+wrongNumber n (Tick i) = not (isNode n i)
+wrongNumber n (Expire i) = not (isNode n i)
+wrongNumber n (Finish i t) = not (isNode n i)
+wrongNumber n (Deliver a b) = not (isNode n a && isOther n a b)
+wrongNumber n (Lose a b) = not (isNode n a && isOther n a b)
+
+-- 8: "finish task outside 100 to 65,535"
+unfoldable pub wrongTask : Event → Bool
+wrongTask (Crash i) = false
+wrongTask (Recover i) = false
+wrongTask (Check i) = false
+wrongTask (Timeout i) = false
+wrongTask (Tick i) = false
+wrongTask (Expire i) = false
+wrongTask (Finish i t) = not (isGivenTask (t .number))
+wrongTask (Deliver a b) = false
+wrongTask (Lose a b) = false
+
+-- 9: "recover: not Down; all others but lose: cabinet (for deliver, the receiver) Down", by the status of the event's node
+unfoldable pub wrongStatus : Status → Event → Bool
+wrongStatus s (Crash i) = isDown s
+wrongStatus s (Recover i) = not (isDown s)
+wrongStatus s (Check i) = isDown s
+wrongStatus s (Timeout i) = isDown s
+wrongStatus s (Tick i) = isDown s
+wrongStatus s (Expire i) = isDown s
+wrongStatus s (Finish i t) = isDown s
+wrongStatus s (Deliver a b) = isDown s
+wrongStatus s (Lose a b) = false
+
+-- 10: "check, timeout: not idle; tick: not waiting; expire: no open call; finish: not collecting", by the activity of the event's node
+unfoldable pub wrongActivity : Activity → Event → Bool
+wrongActivity a (Crash i) = false
+wrongActivity a (Recover i) = false
+wrongActivity a (Check i) = not (isIdle a)
+wrongActivity a (Timeout i) = not (isIdle a)
+wrongActivity a (Tick i) = not (isWaiting a)
+wrongActivity a (Expire i) = not (hasOpenCall a)
+wrongActivity a (Finish i t) = not (isCollecting a)
+wrongActivity a (Deliver x y) = false
+wrongActivity a (Lose x y) = false
+
+-- 11: "deliver, lose: no message from a to b"
+unfoldable pub noneWaits : List Message → Event → Bool
+noneWaits q (Crash i) = false
+noneWaits q (Recover i) = false
+noneWaits q (Check i) = false
+noneWaits q (Timeout i) = false
+noneWaits q (Tick i) = false
+noneWaits q (Expire i) = false
+noneWaits q (Finish i t) = false
+noneWaits q (Deliver a b) = not (waits a b q)
+noneWaits q (Lose a b) = not (waits a b q)
+
+-- 12: "a new group is needed": the node recovers or merges
+abbrev pub forms : Mark → Bool
+forms Plain = false
+forms Recovers = true
+forms Merges = true
+
+-- 13: "a call is needed": what is sent is no reply
+abbrev pub isCalling : Outgoing → Bool
+isCalling Nothing = false
+isCalling (Send m) = ltb (m .kind) 6
+
+-- 14: "a message is needed"
+abbrev pub isSending : Outgoing → Bool
+isSending Nothing = false
+isSending (Send m) = true
+
+-- a line of the table of grounds: its number, and whether it applies
+pub record Ground : Type 0 where
+  pub number : ℕ
+  pub applies : Bool
+
+abbrev pub ground : ℕ → Bool → Ground
+ground r b = record { number = r; applies = b }
+
+-- the table of grounds of an event, in 01's order; 2 to 6 are the list's and 15 is the listing's
+unfoldable pub grounds : State → Event → List Ground
+grounds s e =
+    -- "table handed in": "not in range"
+    ground 1 (not (inRange s))
+    -- "event's numbers"
+    ∷ ground 7 (wrongNumber (s .n) e)
+    ∷ ground 8 (wrongTask e)
+    -- "state"
+    ∷ ground 9 (wrongStatus (nodeAt s (actor e) .status) e)
+    ∷ ground 10 (wrongActivity (nodeAt s (actor e) .activity) e)
+    ∷ ground 11 (noneWaits (s .queue) e)
+    -- "ends of ranges"
+    ∷ ground 12 (forms (reactionTo s e .mark) && eqb (nodeAt s (actor e) .counter) counterEnd)
+    ∷ ground 13 (isCalling (reactionTo s e .outgoing) && eqb (nodeAt s (actor e) .last .number) callEnd)
+    -- "(a delivered one is already out)"
+    ∷ ground 14 (isSending (reactionTo s e .outgoing) && eqb (length (remaining s e)) queueLimit)
+    ∷ []
+
+-- ── the step ──
+
+-- an event is refused with a ground's number, or accepted: the state after it, and the mark for the history
+pub data Result : Type 0 where
+  refused : ℕ → Result
+  accepted : State → Mark → Result
+
+-- "Checked from the top; the first that applies is given, and none without its ground."
+unfoldable pub judged : Result → List Ground → Result
+judged r [] = r
+judged r (g ∷ gs) = pick (g .applies) (refused (g .number)) (judged r gs)
+
+unfoldable pub step : State → Event → Result
+step s e = judged (accepted (effect s e) (reactionTo s e .mark)) (grounds s e)
+
+-- "A refusal returns its number; table .. stay[s] as [it] stood when it was met."
+abbrev pub kept : State → Result → State
+kept s (refused r) = s
+kept s (accepted u k) = u
+
+abbrev pub after : State → Event → State
+after s e = kept s (step s e)
+
+-- ── "A run is a list of these nine events, of any length, refused ones included, from the starting table of any n." ──
+
+unfoldable pub runFrom : State → List Event → State
+runFrom s [] = s
+runFrom s (e ∷ es) = runFrom (after s e) es
+
+-- the table after a run
+abbrev pub run : ℕ → List Event → State
+run n es = runFrom (start n) es
