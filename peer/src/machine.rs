@@ -1,0 +1,703 @@
+//! The reference machine: the table, when it is in range, and what each of the nine events does to
+//! it. Words in quotation marks in the comments are document 01's; its cabinet is called node here.
+
+pub const MAX_NODES: u8 = 16;
+pub const MAX_COUNTER: u32 = 1_048_575;
+pub const MAX_CALL: u32 = 16_777_215;
+pub const MAX_TICKS: u8 = 15;
+pub const MIN_TASK: u16 = 100;
+pub const MAX_MESSAGES: usize = 64;
+
+/// A set of nodes: bit i - 1 stands for node i.
+pub type Set = u16;
+
+/// "status: 0 Down, 1 Election, 2 Reorganization, 3 Normal"
+#[derive(Clone, Copy, Debug, PartialEq, Eq)]
+pub enum Status {
+    Down = 0,
+    Election = 1,
+    Reorganization = 2,
+    Normal = 3,
+}
+
+/// "activity, with what it needs to go on". Whom now has left the set of whom still that it was in.
+#[derive(Clone, Copy, Debug, PartialEq, Eq)]
+pub enum Activity {
+    Idle,
+    Asking {
+        asked: u8,
+        found: Set,
+    },
+    Waiting {
+        ticks: u8,
+        found: Set,
+    },
+    /// "whom still, in two sets, and whom now": those found, then the former members.
+    Inviting {
+        found: Set,
+        former: Set,
+        now: u8,
+    },
+    Collecting,
+    Handing {
+        rest: Set,
+        now: u8,
+    },
+    Contacting,
+    Forwarding {
+        rest: Set,
+        now: u8,
+        caller: u8,
+        call: u32,
+    },
+    Accepting {
+        caller: u8,
+        call: u32,
+    },
+}
+
+/// "Each cabinet has": 0 stands for none in group, coordinator and task.
+#[derive(Clone, Copy, Debug, PartialEq, Eq)]
+pub struct Node {
+    pub status: Status,
+    pub counter: u32,
+    pub group: u32,
+    pub coordinator: u8,
+    pub task: u16,
+    pub members: Set,
+    pub last_call: u32,
+    pub activity: Activity,
+}
+
+/// What a message of each kind carries. Unknown is a kind outside 1 to 6, which is never in range.
+#[derive(Clone, Copy, Debug, PartialEq, Eq)]
+pub enum Body {
+    AreYouCoordinator,
+    AreYouThere { group: u32 },
+    Invitation { group: u32 },
+    Accept { group: u32 },
+    Ready { group: u32, task: u16 },
+    Reply { yes: bool },
+    Unknown { kind: u8 },
+}
+
+/// "Each has a sender, a receiver (another cabinet), a kind and a call number."
+#[derive(Clone, Copy, Debug, PartialEq, Eq)]
+pub struct Message {
+    pub sender: u8,
+    pub receiver: u8,
+    pub call: u32,
+    pub body: Body,
+}
+
+/// Node i stands at nodes[i - 1]; those above n are no part of the table and are never written.
+/// The messages stand "in the order sent".
+#[derive(Clone, Debug, PartialEq, Eq)]
+pub struct Table {
+    pub n: u8,
+    pub nodes: [Node; MAX_NODES as usize],
+    pub messages: Vec<Message>,
+}
+
+/// The nine events, with their numbers in the order of the list's fields.
+#[derive(Clone, Copy, Debug, PartialEq, Eq)]
+pub enum Event {
+    Crash(u8),
+    Recover(u8),
+    Check(u8),
+    Timeout(u8),
+    Tick(u8),
+    Expire(u8),
+    /// node, task
+    Finish(u8, u16),
+    /// sender, receiver
+    Deliver(u8, u8),
+    /// sender, receiver
+    Lose(u8, u8),
+}
+
+/// The node that formed a new group in an event, and how.
+#[derive(Clone, Copy, Debug, PartialEq, Eq)]
+pub enum Formed {
+    Recovered(u8),
+    Merged(u8),
+}
+
+/// "group number = counter × 16 + (owner − 1)"
+pub fn group_number(counter: u32, owner: u8) -> u32 {
+    counter * 16 + (u32::from(owner) - 1)
+}
+
+/// "the owner is the cabinet that formed it"
+pub fn owner(group: u32) -> u8 {
+    (group % 16) as u8 + 1
+}
+
+/// The set that holds node i alone.
+pub fn only(i: u8) -> Set {
+    1 << (i - 1)
+}
+
+fn highest(set: Set) -> u8 {
+    16 - set.leading_zeros() as u8
+}
+
+/// "Sets are walked from the lowest number up."
+fn take_lowest(set: &mut Set) -> Option<u8> {
+    if *set == 0 {
+        return None;
+    }
+    let i = set.trailing_zeros() as u8 + 1;
+    *set &= *set - 1;
+    Some(i)
+}
+
+impl Node {
+    /// "all Down and idle, every number 0, every set empty"
+    pub const START: Node = Node {
+        status: Status::Down,
+        counter: 0,
+        group: 0,
+        coordinator: 0,
+        task: 0,
+        members: 0,
+        last_call: 0,
+        activity: Activity::Idle,
+    };
+
+    /// "Asking, inviting, handing, contacting, forwarding and accepting have an open call, whose
+    /// number is the last call number."
+    pub fn open_call(&self) -> Option<u32> {
+        use Activity::*;
+        match self.activity {
+            Asking { .. }
+            | Inviting { .. }
+            | Handing { .. }
+            | Contacting
+            | Forwarding { .. }
+            | Accepting { .. } => Some(self.last_call),
+            Idle | Waiting { .. } | Collecting => None,
+        }
+    }
+}
+
+impl Body {
+    /// The kind number.
+    pub fn kind(&self) -> u8 {
+        match *self {
+            Body::AreYouCoordinator => 1,
+            Body::AreYouThere { .. } => 2,
+            Body::Invitation { .. } => 3,
+            Body::Accept { .. } => 4,
+            Body::Ready { .. } => 5,
+            Body::Reply { .. } => 6,
+            Body::Unknown { kind } => kind,
+        }
+    }
+
+    /// The group, in the kinds that carry one.
+    pub fn group(&self) -> Option<u32> {
+        match *self {
+            Body::AreYouThere { group }
+            | Body::Invitation { group }
+            | Body::Accept { group }
+            | Body::Ready { group, .. } => Some(group),
+            Body::AreYouCoordinator | Body::Reply { .. } | Body::Unknown { .. } => None,
+        }
+    }
+}
+
+impl Table {
+    /// The "starting table" of n nodes.
+    pub fn start(n: u8) -> Table {
+        Table {
+            n,
+            nodes: [Node::START; MAX_NODES as usize],
+            messages: Vec::with_capacity(MAX_MESSAGES),
+        }
+    }
+
+    /// Node i, which must be 1 to 16.
+    pub fn node(&self, i: u8) -> &Node {
+        &self.nodes[usize::from(i) - 1]
+    }
+
+    /// "A table is in range when".
+    pub fn in_range(&self) -> bool {
+        (1..=MAX_NODES).contains(&self.n)
+            && (1..=self.n).all(|i| self.node_in_range(i))
+            && self.messages.len() <= MAX_MESSAGES
+            && self.messages.iter().all(|m| self.message_in_range(m))
+    }
+
+    fn node_in_range(&self, i: u8) -> bool {
+        let node = self.node(i);
+        let all: Set = u16::MAX >> (MAX_NODES - self.n);
+        // "all cabinet numbers are 1 to n, no set, caller or cabinet asked or called names its
+        // holder"
+        let other = |j: u8| (1..=self.n).contains(&j) && j != i;
+        let others = |set: Set| set & !(all & !only(i)) == 0;
+        let call = |c: u32| (1..=MAX_CALL).contains(&c);
+        let activity = match node.activity {
+            Activity::Idle | Activity::Collecting | Activity::Contacting => true,
+            Activity::Asking { asked, found } => other(asked) && others(found),
+            Activity::Waiting { ticks, found } => (1..=MAX_TICKS).contains(&ticks) && others(found),
+            Activity::Inviting { found, former, now } => {
+                others(found) && others(former) && other(now)
+            }
+            // "a handing cabinet's task is 100 to 65,535"
+            Activity::Handing { rest, now } => others(rest) && other(now) && node.task >= MIN_TASK,
+            // "a forwarding or accepting cabinet isn't that owner"
+            Activity::Forwarding { rest, now, caller, call: c } => {
+                others(rest) && other(now) && other(caller) && call(c) && node.coordinator != i
+            }
+            Activity::Accepting { caller, call: c } => {
+                other(caller) && call(c) && node.coordinator != i
+            }
+        };
+        // "a cabinet that isn't Down has a group of counter at least 1 whose owner is 1 to n and is
+        // its coordinator ... a Down one is idle"
+        let by_status = match node.status {
+            Status::Down => {
+                (node.group == 0 || self.group_in_range(node.group))
+                    && node.coordinator <= self.n
+                    && node.activity == Activity::Idle
+            }
+            _ => self.group_in_range(node.group) && node.coordinator == owner(node.group),
+        };
+        node.counter <= MAX_COUNTER
+            && others(node.members)
+            && node.last_call <= MAX_CALL
+            && activity
+            && by_status
+    }
+
+    /// "has counter at least 1 and owner 1 to n"
+    fn group_in_range(&self, group: u32) -> bool {
+        (1..=MAX_COUNTER).contains(&(group / 16)) && owner(group) <= self.n
+    }
+
+    /// "message groups aren't 0, call numbers in messages ... are at least 1 and Ready tasks are
+    /// 100 to 65,535"
+    fn message_in_range(&self, m: &Message) -> bool {
+        let body = match m.body {
+            Body::AreYouCoordinator | Body::Reply { .. } => true,
+            Body::AreYouThere { group } | Body::Invitation { group } | Body::Accept { group } => {
+                self.group_in_range(group)
+            }
+            Body::Ready { group, task } => self.group_in_range(group) && task >= MIN_TASK,
+            Body::Unknown { .. } => false,
+        };
+        (1..=self.n).contains(&m.sender)
+            && (1..=self.n).contains(&m.receiver)
+            && m.sender != m.receiver
+            && (1..=MAX_CALL).contains(&m.call)
+            && body
+    }
+}
+
+/// Applies an event to a table; the error is the refusal's number, and then nothing has changed.
+pub fn step(table: &mut Table, event: &Event) -> Result<(), u8> {
+    if !table.in_range() {
+        return Err(1);
+    }
+    advance(table, event)
+}
+
+/// The same for a table that is known to be in range, as every table of a run is.
+pub fn advance(table: &mut Table, event: &Event) -> Result<(), u8> {
+    advance_noting(table, event).map(|_| ())
+}
+
+/// The same, and says which node recovered or merged, if one did.
+pub fn advance_noting(table: &mut Table, event: &Event) -> Result<Option<Formed>, u8> {
+    let i = acting_node(table.n, event)?;
+    let place = check_state(table, event, i)?;
+    let mut turn = Turn {
+        i,
+        n: table.n,
+        node: *table.node(i),
+        // "a delivered one is already out"
+        waiting: table.messages.len() - usize::from(place.is_some()),
+        sent: None,
+        formed: None,
+    };
+    match (*event, place) {
+        (Event::Crash(_), _) => turn.crash(),
+        (Event::Recover(_), _) => turn.recover()?,
+        (Event::Check(_), _) => turn.check()?,
+        (Event::Timeout(_), _) => turn.timeout()?,
+        (Event::Tick(_), _) => turn.tick()?,
+        (Event::Expire(_), _) => turn.expire()?,
+        (Event::Finish(_, task), _) => turn.finish(task)?,
+        (Event::Deliver(..), Some(place)) => turn.deliver(table.messages[place])?,
+        (Event::Deliver(..), None) | (Event::Lose(..), _) => {}
+    }
+    // No refusal can follow: only here is the table written.
+    table.nodes[usize::from(i) - 1] = turn.node;
+    if let Some(place) = place {
+        table.messages.remove(place);
+    }
+    table.messages.extend(turn.sent);
+    Ok(turn.formed)
+}
+
+/// Grounds 7 and 8, "event's numbers". Gives the node whose turn it is; for deliver and lose this is
+/// the receiver.
+fn acting_node(n: u8, event: &Event) -> Result<u8, u8> {
+    let inside = |i: u8| (1..=n).contains(&i);
+    match *event {
+        Event::Crash(i)
+        | Event::Recover(i)
+        | Event::Check(i)
+        | Event::Timeout(i)
+        | Event::Tick(i)
+        | Event::Expire(i) => {
+            if !inside(i) {
+                return Err(7);
+            }
+            Ok(i)
+        }
+        Event::Finish(i, task) => {
+            if !inside(i) {
+                return Err(7);
+            }
+            if task < MIN_TASK {
+                return Err(8);
+            }
+            Ok(i)
+        }
+        Event::Deliver(a, b) | Event::Lose(a, b) => {
+            if !inside(a) || !inside(b) || a == b {
+                return Err(7);
+            }
+            Ok(b)
+        }
+    }
+}
+
+/// Grounds 9 to 11, "state". Gives the place of "the oldest message from a to b".
+fn check_state(table: &Table, event: &Event, i: u8) -> Result<Option<usize>, u8> {
+    let node = table.node(i);
+    let down = node.status == Status::Down;
+    // "recover: not Down; all others but lose: cabinet (for deliver, the receiver) Down"
+    let refused = match event {
+        Event::Recover(_) => !down,
+        Event::Lose(..) => false,
+        _ => down,
+    };
+    if refused {
+        return Err(9);
+    }
+    // "check, timeout: not idle; tick: not waiting; expire: no open call; finish: not collecting"
+    let fit = match event {
+        Event::Check(_) | Event::Timeout(_) => node.activity == Activity::Idle,
+        Event::Tick(_) => matches!(node.activity, Activity::Waiting { .. }),
+        Event::Expire(_) => node.open_call().is_some(),
+        Event::Finish(..) => node.activity == Activity::Collecting,
+        Event::Crash(_) | Event::Recover(_) | Event::Deliver(..) | Event::Lose(..) => true,
+    };
+    if !fit {
+        return Err(10);
+    }
+    match *event {
+        Event::Deliver(a, b) | Event::Lose(a, b) => {
+            let place = table.messages.iter().position(|m| m.sender == a && m.receiver == b);
+            if place.is_none() {
+                return Err(11);
+            }
+            Ok(place)
+        }
+        _ => Ok(None),
+    }
+}
+
+/// What an event does to the one node i that acts in it: a copy of the node to work on, and the one
+/// message it may send ("an event sends at most one message"). Grounds 12 to 14 are met here, and in
+/// this order, since a new group comes before a call and a call's number before its message.
+struct Turn {
+    i: u8,
+    n: u8,
+    node: Node,
+    /// How many messages wait.
+    waiting: usize,
+    sent: Option<Message>,
+    formed: Option<Formed>,
+}
+
+impl Turn {
+    fn own_coordinator(&self) -> bool {
+        self.node.coordinator == self.i
+    }
+
+    fn send(&mut self, receiver: u8, call: u32, body: Body) -> Result<(), u8> {
+        if self.waiting >= MAX_MESSAGES {
+            return Err(14);
+        }
+        self.sent = Some(Message { sender: self.i, receiver, call, body });
+        Ok(())
+    }
+
+    /// "its call number is that of the call it answers"
+    fn reply(&mut self, receiver: u8, call: u32, yes: bool) -> Result<(), u8> {
+        self.send(receiver, call, Body::Reply { yes })
+    }
+
+    /// "last call number plus one, one message added"
+    fn call(&mut self, receiver: u8, body: Body) -> Result<(), u8> {
+        if self.node.last_call >= MAX_CALL {
+            return Err(13);
+        }
+        self.node.last_call += 1;
+        self.send(receiver, self.node.last_call, body)
+    }
+
+    /// "counter plus one, new group, coordinator i"
+    fn form_group(&mut self, formed: Formed) -> Result<(), u8> {
+        if self.node.counter >= MAX_COUNTER {
+            return Err(12);
+        }
+        self.node.counter += 1;
+        self.node.group = group_number(self.node.counter, self.i);
+        self.node.coordinator = self.i;
+        self.formed = Some(formed);
+        Ok(())
+    }
+
+    /// "status Down, idle. All else is kept"
+    fn crash(&mut self) {
+        self.node.status = Status::Down;
+        self.node.activity = Activity::Idle;
+    }
+
+    /// "counter plus one, group from it, coordinator i, members empty, task i, Normal, idle"
+    fn recover(&mut self) -> Result<(), u8> {
+        self.form_group(Formed::Recovered(self.i))?;
+        self.node.members = 0;
+        self.node.task = u16::from(self.i);
+        self.node.status = Status::Normal;
+        self.node.activity = Activity::Idle;
+        Ok(())
+    }
+
+    /// "if Normal and its own coordinator, it asks every other cabinet in turn with kind 1.
+    /// Otherwise, or with n = 1, nothing changes."
+    fn check(&mut self) -> Result<(), u8> {
+        if self.node.status == Status::Normal && self.own_coordinator() {
+            self.ask_after(0, 0)?;
+        }
+        Ok(())
+    }
+
+    /// Asks the next node above j. "After the last: none found, idle. Else let p be the highest
+    /// found: if i < p it waits p − i ticks, else it merges."
+    fn ask_after(&mut self, j: u8, found: Set) -> Result<(), u8> {
+        let next = if j + 1 == self.i { j + 2 } else { j + 1 };
+        if next <= self.n {
+            self.node.activity = Activity::Asking { asked: next, found };
+            return self.call(next, Body::AreYouCoordinator);
+        }
+        if found == 0 {
+            self.node.activity = Activity::Idle;
+            return Ok(());
+        }
+        let p = highest(found);
+        if self.i < p {
+            self.node.activity = Activity::Waiting { ticks: p - self.i, found };
+            Ok(())
+        } else {
+            self.merge(found)
+        }
+    }
+
+    /// "one tick less; at none it merges"
+    fn tick(&mut self) -> Result<(), u8> {
+        match self.node.activity {
+            Activity::Waiting { ticks, found } if ticks > 1 => {
+                self.node.activity = Activity::Waiting { ticks: ticks - 1, found };
+                Ok(())
+            }
+            Activity::Waiting { found, .. } => self.merge(found),
+            _ => Ok(()), // ground 10
+        }
+    }
+
+    /// "Election; counter plus one, new group, coordinator i; members are set aside and emptied. It
+    /// invites the cabinets found, then those set aside (one in both is invited twice)"
+    fn merge(&mut self, found: Set) -> Result<(), u8> {
+        self.node.status = Status::Election;
+        self.form_group(Formed::Merged(self.i))?;
+        let former = self.node.members;
+        self.node.members = 0;
+        self.invite_next(found, former)
+    }
+
+    /// "and then collects"
+    fn invite_next(&mut self, mut found: Set, mut former: Set) -> Result<(), u8> {
+        match take_lowest(&mut found).or_else(|| take_lowest(&mut former)) {
+            Some(now) => {
+                self.node.activity = Activity::Inviting { found, former, now };
+                self.call(now, Body::Invitation { group: self.node.group })
+            }
+            None => {
+                self.node.activity = Activity::Collecting;
+                Ok(())
+            }
+        }
+    }
+
+    /// "Reorganization, task t. It hands Ready to each member"
+    fn finish(&mut self, task: u16) -> Result<(), u8> {
+        self.node.status = Status::Reorganization;
+        self.node.task = task;
+        self.hand_next(self.node.members)
+    }
+
+    /// "after the last, or with none, Normal and idle"
+    fn hand_next(&mut self, mut rest: Set) -> Result<(), u8> {
+        match take_lowest(&mut rest) {
+            Some(now) => {
+                self.node.activity = Activity::Handing { rest, now };
+                self.call(now, Body::Ready { group: self.node.group, task: self.node.task })
+            }
+            None => {
+                self.node.status = Status::Normal;
+                self.node.activity = Activity::Idle;
+                Ok(())
+            }
+        }
+    }
+
+    /// "if its own coordinator, nothing changes. Else it calls AreYouThere on its coordinator, with
+    /// its group."
+    fn timeout(&mut self) -> Result<(), u8> {
+        if self.own_coordinator() {
+            return Ok(());
+        }
+        self.node.activity = Activity::Contacting;
+        self.call(self.node.coordinator, Body::AreYouThere { group: self.node.group })
+    }
+
+    /// "the open call is given up. Asking, inviting, forwarding: on to the next. Handing, accepting,
+    /// contacting: it recovers"
+    fn expire(&mut self) -> Result<(), u8> {
+        match self.node.activity {
+            Activity::Asking { asked, found } => self.ask_after(asked, found),
+            Activity::Inviting { found, former, .. } => self.invite_next(found, former),
+            Activity::Forwarding { rest, caller, call, .. } => {
+                self.forward_next(rest, caller, call)
+            }
+            Activity::Handing { .. } | Activity::Accepting { .. } | Activity::Contacting => {
+                self.recover()
+            }
+            Activity::Idle | Activity::Waiting { .. } | Activity::Collecting => Ok(()), // ground 10
+        }
+    }
+
+    /// "On delivery"
+    fn deliver(&mut self, m: Message) -> Result<(), u8> {
+        let (from, call) = (m.sender, m.call);
+        match m.body {
+            // "reply yes exactly when Normal and its own coordinator"
+            Body::AreYouCoordinator => {
+                let yes = self.node.status == Status::Normal && self.own_coordinator();
+                self.reply(from, call, yes)
+            }
+            // "yes exactly when the group is equal, it is its own coordinator and the sender is a
+            // member"
+            Body::AreYouThere { group } => {
+                let yes = self.node.group == group
+                    && self.own_coordinator()
+                    && self.node.members & only(from) != 0;
+                self.reply(from, call, yes)
+            }
+            // "if not Normal, or it owns that group, plain reply and no change"
+            Body::Invitation { group } => {
+                if self.node.status != Status::Normal || owner(group) == self.i {
+                    self.reply(from, call, true)
+                } else {
+                    self.join(group, from, call)
+                }
+            }
+            // "if in Election, its own coordinator and in that group, the sender joins the members.
+            // Plain reply always."
+            Body::Accept { group } => {
+                if self.node.status == Status::Election
+                    && self.own_coordinator()
+                    && self.node.group == group
+                {
+                    self.node.members |= only(from);
+                }
+                self.reply(from, call, true)
+            }
+            // "if in Reorganization and in that group, task taken, Normal. Plain reply always."
+            Body::Ready { group, task } => {
+                if self.node.status == Status::Reorganization && self.node.group == group {
+                    self.node.task = task;
+                    self.node.status = Status::Normal;
+                }
+                self.reply(from, call, true)
+            }
+            // "if a call is open with this number, it goes on ... Otherwise the reply is dropped."
+            Body::Reply { yes } => {
+                if self.node.open_call() == Some(call) {
+                    self.go_on(yes)
+                } else {
+                    Ok(())
+                }
+            }
+            Body::Unknown { .. } => Ok(()), // ground 1
+        }
+    }
+
+    /// "its activity stops; Election, the new group and its owner as coordinator. If it was its own
+    /// coordinator, it forwards the invitation to each member ... The member set is kept."
+    fn join(&mut self, group: u32, caller: u8, call: u32) -> Result<(), u8> {
+        let forward = if self.own_coordinator() { self.node.members } else { 0 };
+        self.node.status = Status::Election;
+        self.node.group = group;
+        self.node.coordinator = owner(group);
+        self.forward_next(forward, caller, call)
+    }
+
+    /// "then it calls Accept on the new coordinator"
+    fn forward_next(&mut self, mut rest: Set, caller: u8, call: u32) -> Result<(), u8> {
+        let group = self.node.group;
+        match take_lowest(&mut rest) {
+            Some(now) => {
+                self.node.activity = Activity::Forwarding { rest, now, caller, call };
+                self.call(now, Body::Invitation { group })
+            }
+            None => {
+                self.node.activity = Activity::Accepting { caller, call };
+                self.call(self.node.coordinator, Body::Accept { group })
+            }
+        }
+    }
+
+    /// "asking adds the cabinet asked on yes; accepting turns to Reorganization, replies to its
+    /// caller and is idle; contacting is idle on yes and recovers on no"
+    fn go_on(&mut self, yes: bool) -> Result<(), u8> {
+        match self.node.activity {
+            Activity::Asking { asked, found } => {
+                self.ask_after(asked, if yes { found | only(asked) } else { found })
+            }
+            Activity::Inviting { found, former, .. } => self.invite_next(found, former),
+            Activity::Handing { rest, .. } => self.hand_next(rest),
+            Activity::Forwarding { rest, caller, call, .. } => {
+                self.forward_next(rest, caller, call)
+            }
+            Activity::Accepting { caller, call } => {
+                self.node.status = Status::Reorganization;
+                self.node.activity = Activity::Idle;
+                self.reply(caller, call, true)
+            }
+            Activity::Contacting if yes => {
+                self.node.activity = Activity::Idle;
+                Ok(())
+            }
+            Activity::Contacting => self.recover(),
+            Activity::Idle | Activity::Waiting { .. } | Activity::Collecting => Ok(()), // no open call
+        }
+    }
+}

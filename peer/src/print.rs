@@ -1,0 +1,62 @@
+//! The text that the bench program prints for a list.
+
+use crate::list::{read_list, Stop};
+use crate::machine::{advance, Table};
+use std::fmt::Write;
+
+/// Runs a list from the starting table and gives the whole text.
+pub fn run_list(list: &[u8]) -> Vec<u8> {
+    let mut text = String::new();
+    match read_list(list) {
+        // "if the whole list or the first field failed, that line is all that is printed"
+        Err(stop) => print_stop(&mut text, stop),
+        Ok(list) => {
+            let mut table = Table::start(list.n);
+            line(&mut text, format_args!("cabinets {}", list.n));
+            for (k, event) in list.events.iter().enumerate() {
+                // "e counts events from 1, r the number"
+                if let Err(r) = advance(&mut table, event) {
+                    line(&mut text, format_args!("refused {} {}", k + 1, r));
+                }
+            }
+            if let Some(stop) = list.stop {
+                print_stop(&mut text, stop);
+            }
+            print_table(&mut text, &table);
+        }
+    }
+    text.into_bytes()
+}
+
+/// "`stopped b r`"
+fn print_stop(text: &mut String, stop: Stop) {
+    line(text, format_args!("stopped {} {}", stop.offset, stop.number));
+}
+
+/// "a line per cabinet: number, status, coordinator, group, task, counter, count of members; last
+/// `messages` and how many wait"
+pub fn print_table(text: &mut String, table: &Table) {
+    for i in 1..=table.n {
+        let node = table.node(i);
+        line(
+            text,
+            format_args!(
+                "{} {} {} {} {} {} {}",
+                i,
+                node.status as u8,
+                node.coordinator,
+                node.group,
+                node.task,
+                node.counter,
+                node.members.count_ones()
+            ),
+        );
+    }
+    line(text, format_args!("messages {}", table.messages.len()));
+}
+
+/// "0x0A ends each line"
+fn line(text: &mut String, words: std::fmt::Arguments) {
+    text.write_fmt(words).expect("a String takes every line");
+    text.push('\n');
+}

@@ -1,0 +1,234 @@
+//! Reads and writes the vectors: single events on tables (the form of steps.txt), and pairs of a
+//! list and its printed text (NAME.list and NAME.txt).
+
+use crate::machine::{Activity, Body, Event, Message, Node, Status, Table, MAX_NODES};
+use std::fmt::Write;
+use std::path::Path;
+use std::str::SplitWhitespace;
+
+/// One event on one table, with what follows. After a refusal the table is as it was.
+#[derive(Clone, Debug)]
+pub struct StepCase {
+    pub number: u32,
+    pub table: Table,
+    pub event: Event,
+    pub answer: Result<(), u8>,
+    pub after: Table,
+}
+
+/// A list and the text that the bench program prints for it.
+#[derive(Clone, Debug)]
+pub struct ListCase {
+    pub name: String,
+    pub list: Vec<u8>,
+    pub text: Vec<u8>,
+}
+
+/// Reads every pair NAME.list, NAME.txt of a directory, in the order of the names.
+pub fn read_lists(directory: &Path) -> Result<Vec<ListCase>, String> {
+    let fault = |path: &Path, e: std::io::Error| format!("{}: {e}", path.display());
+    let mut cases = Vec::new();
+    for entry in std::fs::read_dir(directory).map_err(|e| fault(directory, e))? {
+        let path = entry.map_err(|e| fault(directory, e))?.path();
+        if path.extension().is_some_and(|x| x == "list") {
+            let text = path.with_extension("txt");
+            cases.push(ListCase {
+                name: path.file_stem().unwrap_or_default().to_string_lossy().into_owned(),
+                list: std::fs::read(&path).map_err(|e| fault(&path, e))?,
+                text: std::fs::read(&text).map_err(|e| fault(&text, e))?,
+            });
+        }
+    }
+    cases.sort_by(|a, b| a.name.cmp(&b.name));
+    Ok(cases)
+}
+
+/// The parts of a case as its lines come.
+struct Draft {
+    number: u32,
+    table: Table,
+    event: Option<Event>,
+    answer: Option<Result<(), u8>>,
+    after: Table,
+}
+
+/// Reads every case of a text in the form of steps.txt. The error names the line.
+pub fn read_steps(text: &str) -> Result<Vec<StepCase>, String> {
+    let mut cases = Vec::new();
+    let mut draft = None;
+    for (k, line) in text.lines().enumerate() {
+        let case = read_line(line, &mut draft).ok_or(format!("line {}: {line}", k + 1))?;
+        cases.extend(case);
+    }
+    match draft {
+        None => Ok(cases),
+        Some(_) => Err("the last case has no end".to_string()),
+    }
+}
+
+/// Takes in one line; gives the case when the line ends one, and None when the line is not in form.
+fn read_line(line: &str, draft: &mut Option<Draft>) -> Option<Option<StepCase>> {
+    let mut words = line.split_whitespace();
+    let Some(first) = words.next() else {
+        return Some(None);
+    };
+    if first == "case" {
+        if draft.is_some() {
+            return None;
+        }
+        let number = number(&mut words)?;
+        let (table, after) = (Table::start(0), Table::start(0));
+        *draft = Some(Draft { number, table, event: None, answer: None, after });
+        return Some(None);
+    }
+    let case = draft.as_mut()?;
+    let table = if case.answer.is_none() { &mut case.table } else { &mut case.after };
+    match first {
+        "n" => table.n = number(&mut words)?,
+        "cabinet" => {
+            let i: u8 = number(&mut words)?;
+            *table.nodes.get_mut(usize::from(i).checked_sub(1)?)? = read_node(&mut words)?;
+        }
+        "message" => table.messages.push(read_message(&mut words)?),
+        "event" => case.event = Some(read_event(&mut words)?),
+        "answer" => {
+            match words.next()? {
+                "accepted" => {
+                    case.after.n = case.table.n;
+                    case.answer = Some(Ok(()));
+                }
+                "refused" => {
+                    case.after = case.table.clone();
+                    case.answer = Some(Err(number(&mut words)?));
+                }
+                _ => return None,
+            };
+        }
+        "end" => {
+            let Draft { number, table, event, answer, after } = draft.take()?;
+            return Some(Some(StepCase { number, table, event: event?, answer: answer?, after }));
+        }
+        _ => return None,
+    }
+    if words.next().is_some() {
+        return None;
+    }
+    Some(None)
+}
+
+fn number<T: std::str::FromStr>(words: &mut SplitWhitespace) -> Option<T> {
+    words.next()?.parse().ok()
+}
+
+fn read_node(w: &mut SplitWhitespace) -> Option<Node> {
+    Some(Node {
+        status: match w.next()? {
+            "0" => Status::Down,
+            "1" => Status::Election,
+            "2" => Status::Reorganization,
+            "3" => Status::Normal,
+            _ => return None,
+        },
+        counter: number(w)?,
+        group: number(w)?,
+        coordinator: number(w)?,
+        task: number(w)?,
+        members: number(w)?,
+        last_call: number(w)?,
+        activity: match w.next()? {
+            "idle" => Activity::Idle,
+            "asking" => Activity::Asking { asked: number(w)?, found: number(w)? },
+            "waiting" => Activity::Waiting { ticks: number(w)?, found: number(w)? },
+            "inviting" => {
+                Activity::Inviting { found: number(w)?, former: number(w)?, now: number(w)? }
+            }
+            "collecting" => Activity::Collecting,
+            "handing" => Activity::Handing { rest: number(w)?, now: number(w)? },
+            "contacting" => Activity::Contacting,
+            "forwarding" => Activity::Forwarding {
+                rest: number(w)?,
+                now: number(w)?,
+                caller: number(w)?,
+                call: number(w)?,
+            },
+            "accepting" => Activity::Accepting { caller: number(w)?, call: number(w)? },
+            _ => return None,
+        },
+    })
+}
+
+/// A field that the message's kind does not carry is read past.
+fn read_message(w: &mut SplitWhitespace) -> Option<Message> {
+    let (sender, receiver) = (number(w)?, number(w)?);
+    let kind: u8 = number(w)?;
+    let call = number(w)?;
+    let (group, task, yes): (u32, u16, u8) = (number(w)?, number(w)?, number(w)?);
+    let body = match kind {
+        1 => Body::AreYouCoordinator,
+        2 => Body::AreYouThere { group },
+        3 => Body::Invitation { group },
+        4 => Body::Accept { group },
+        5 => Body::Ready { group, task },
+        6 => Body::Reply { yes: yes != 0 },
+        _ => Body::Unknown { kind },
+    };
+    Some(Message { sender, receiver, call, body })
+}
+
+fn read_event(w: &mut SplitWhitespace) -> Option<Event> {
+    Some(match w.next()? {
+        "crash" => Event::Crash(number(w)?),
+        "recover" => Event::Recover(number(w)?),
+        "check" => Event::Check(number(w)?),
+        "timeout" => Event::Timeout(number(w)?),
+        "tick" => Event::Tick(number(w)?),
+        "expire" => Event::Expire(number(w)?),
+        "finish" => Event::Finish(number(w)?, number(w)?),
+        "deliver" => Event::Deliver(number(w)?, number(w)?),
+        "lose" => Event::Lose(number(w)?, number(w)?),
+        _ => return None,
+    })
+}
+
+/// The cabinet and message lines of a table, as in steps.txt.
+pub fn table_text(table: &Table) -> String {
+    let mut text = String::new();
+    for i in 1..=table.n.min(MAX_NODES) {
+        let x = table.node(i);
+        let activity = match x.activity {
+            Activity::Idle => "idle".to_string(),
+            Activity::Asking { asked, found } => format!("asking {asked} {found}"),
+            Activity::Waiting { ticks, found } => format!("waiting {ticks} {found}"),
+            Activity::Inviting { found, former, now } => format!("inviting {found} {former} {now}"),
+            Activity::Collecting => "collecting".to_string(),
+            Activity::Handing { rest, now } => format!("handing {rest} {now}"),
+            Activity::Contacting => "contacting".to_string(),
+            Activity::Forwarding { rest, now, caller, call } => {
+                format!("forwarding {rest} {now} {caller} {call}")
+            }
+            Activity::Accepting { caller, call } => format!("accepting {caller} {call}"),
+        };
+        writeln!(
+            text,
+            "cabinet {i} {} {} {} {} {} {} {} {activity}",
+            x.status as u8, x.counter, x.group, x.coordinator, x.task, x.members, x.last_call
+        )
+        .expect("a String takes every line");
+    }
+    for m in &table.messages {
+        let task = if let Body::Ready { task, .. } = m.body { task } else { 0 };
+        let yes = matches!(m.body, Body::Reply { yes: true });
+        writeln!(
+            text,
+            "message {} {} {} {} {} {task} {}",
+            m.sender,
+            m.receiver,
+            m.body.kind(),
+            m.call,
+            m.body.group().unwrap_or(0),
+            u8::from(yes)
+        )
+        .expect("a String takes every line");
+    }
+    text
+}

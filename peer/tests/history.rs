@@ -1,0 +1,172 @@
+//! Random runs hold demand 3, and the check finds tables and machines that do not.
+
+use peer::history::{check_run, Checker};
+use peer::machine::*;
+
+/// A plain generator of numbers, so that every run can be repeated.
+struct Numbers(u64);
+
+impl Numbers {
+    fn below(&mut self, limit: u8) -> u8 {
+        self.0 ^= self.0 << 13;
+        self.0 ^= self.0 >> 7;
+        self.0 ^= self.0 << 17;
+        ((self.0 >> 32) % u64::from(limit)) as u8
+    }
+}
+
+/// An event that often fits the table: mostly deliveries of waiting messages.
+fn pick(numbers: &mut Numbers, table: &Table) -> Event {
+    let i = numbers.below(table.n) + 1;
+    let k = usize::from(numbers.below(MAX_MESSAGES as u8)) % table.messages.len().max(1);
+    let (a, b) = match table.messages.get(k) {
+        Some(m) => (m.sender, m.receiver),
+        None => (i, numbers.below(table.n) + 1),
+    };
+    match numbers.below(160) {
+        0 => Event::Crash(i),
+        1..=16 => Event::Recover(i),
+        17..=28 => Event::Check(i),
+        29..=34 => Event::Timeout(i),
+        35..=54 => Event::Tick(i),
+        55..=58 => Event::Expire(i),
+        59..=74 => Event::Finish(i, 100 + u16::from(numbers.below(5))),
+        75 => Event::Lose(a, b),
+        _ => Event::Deliver(a, b),
+    }
+}
+
+fn random_run(seed: u64, n: u8, length: usize) -> Vec<Event> {
+    let mut numbers = Numbers(seed);
+    let mut table = Table::start(n);
+    let mut events = Vec::new();
+    for _ in 0..length {
+        let event = pick(&mut numbers, &table);
+        let _ = advance(&mut table, &event);
+        events.push(event);
+    }
+    events
+}
+
+#[test]
+fn random_runs_hold() {
+    for seed in 1..=200u64 {
+        let n = (seed % 16) as u8 + 1;
+        let events = random_run(seed.wrapping_mul(0x9e37_79b9_7f4a_7c15), n, 2000);
+        if let Err(words) = check_run(n, &events) {
+            panic!("seed {seed}: {words}");
+        }
+    }
+}
+
+/// The random runs are no idle ones: every activity comes up, and a task reaches a member.
+#[test]
+fn random_runs_reach_every_activity() {
+    let mut activities = std::collections::BTreeSet::new();
+    let mut task_taken = 0;
+    for seed in 1..=200u64 {
+        let n = (seed % 16) as u8 + 1;
+        let mut table = Table::start(n);
+        for event in random_run(seed.wrapping_mul(0x9e37_79b9_7f4a_7c15), n, 2000) {
+            let _ = advance(&mut table, &event);
+            for i in 1..=n {
+                let node = table.node(i);
+                let name = format!("{:?}", node.activity);
+                activities.insert(name.split(' ').next().unwrap().to_string());
+                let taken = node.status == Status::Normal && node.task >= MIN_TASK;
+                if taken && node.coordinator != i {
+                    task_taken += 1;
+                }
+            }
+        }
+    }
+    assert_eq!(activities.len(), 9, "{activities:?}");
+    assert!(task_taken > 1000, "{task_taken}");
+}
+
+/// Runs a machine over random runs until the check finds something, and gives its words.
+fn found(machine: impl Fn(&mut Table, &Event)) -> Option<String> {
+    (1..=200u64).find_map(|seed| {
+        let n = (seed % 5) as u8 + 2;
+        let mut numbers = Numbers(seed.wrapping_mul(0x9e37_79b9_7f4a_7c15));
+        let mut table = Table::start(n);
+        let mut checker = Checker::new(n);
+        (0..2000).find_map(|_| {
+            let event = pick(&mut numbers, &table);
+            machine(&mut table, &event);
+            checker.check(&event, &table).err()
+        })
+    })
+}
+
+#[test]
+fn idle_machine_is_found() {
+    assert!(found(|_, _| {}).unwrap().contains("the history's new group"));
+}
+
+#[test]
+fn cleared_counter_is_found() {
+    let words = found(|table, event| {
+        let accepted = advance(table, event).is_ok();
+        if let (Event::Crash(i), true) = (event, accepted) {
+            table.nodes[usize::from(*i) - 1].counter = 0;
+        }
+    });
+    assert!(words.unwrap().contains("the history's new group"));
+}
+
+#[test]
+fn other_task_is_found() {
+    let words = found(|table, event| {
+        let _ = advance(table, event);
+        for node in &mut table.nodes {
+            if node.status == Status::Reorganization && node.activity == Activity::Idle {
+                node.status = Status::Normal;
+            }
+        }
+    });
+    assert!(words.unwrap().contains("the history's task is"));
+}
+
+#[test]
+fn other_coordinator_is_found() {
+    use Event::*;
+    let mut table = Table::start(2);
+    let mut checker = Checker::new(2);
+    let mut events = vec![Recover(1), Recover(2), Check(2)];
+    for _ in 0..3 {
+        events.extend([Deliver(2, 1), Deliver(1, 2)]);
+    }
+    for event in events {
+        step(&mut table, &event).unwrap();
+        checker.check(&event, &table).unwrap();
+    }
+    step(&mut table, &Finish(2, 100)).unwrap();
+    table.nodes[0].coordinator = 1;
+    let words = checker.check(&Finish(2, 100), &table).unwrap_err();
+    assert_eq!(words, "nodes 1 and 2 are in group 33 with coordinators 1 and 2");
+}
+
+#[test]
+fn table_out_of_range_is_found() {
+    let words = found(|table, event| {
+        let _ = advance(table, event);
+        table.nodes[0].members |= 1;
+    });
+    assert_eq!(words.unwrap(), "the table is not in range");
+}
+
+/// The tables of a wrong machine that sends group 17 before node 2 has formed it, then forms it.
+#[test]
+fn group_before_its_time_is_found() {
+    let mut checker = Checker::new(2);
+    let mut table = Table::start(2);
+    step(&mut table, &Event::Recover(1)).unwrap();
+    let body = Body::Accept { group: 17 };
+    table.messages.push(Message { sender: 1, receiver: 2, call: 1, body });
+    let words = checker.check(&Event::Recover(1), &table).unwrap_err();
+    assert!(words.contains("the history formed no such group"));
+    step(&mut table, &Event::Recover(2)).unwrap();
+    let words = checker.check(&Event::Recover(2), &table).unwrap_err();
+    assert!(words.contains("an earlier table held"));
+}
