@@ -1,28 +1,32 @@
 -- Laws of the sets of specs/NodeSet, for every number of nodes at once.
-use Prim.Native.Nat.{ℕ, zero, suc, _+_, _-_, _*_, _^_, _%_, _/_, _≤_, _<_}
+use Prim.Native.Nat.{ℕ, zero, suc, _+_, _-_, _*_, _^_, _%_, _/_, _≤_, _<_, min}
 use mathlib.Core.Path.{_≡_, refl, sym, ap, _∙_, subst}
-use mathlib.Core.Bool.{Bool, true, false, true≢false}
-use native.Mathlib.Nat.{mod-eq-of-lt, one-mul, mul-mod-left, pow-suc, div-div-eq-div-mul, mul-comm, div-one, div-self, mul-div-cancel, div-eq-of-lt, div-eq-of-lt-le, add-sub-cancel, lt-of-le-of-lt, lt-of-lt-of-le, mod-lt, min-zero}
+use mathlib.Core.Bool.{true, false, true≢false}
+use native.Mathlib.Nat.{mod-eq-of-lt, one-mul, pow-suc, div-div-eq-div-mul, mul-comm, div-one, div-self, div-eq-of-lt, div-eq-of-lt-le, add-sub-cancel}
+use native.Mathlib.Nat.{lt-of-le-of-lt, lt-of-lt-of-le, lt-of-not-le, mod-lt, min-zero, min-le-left, min-eq-left}
 use native.Mathlib.Omega.{arith}
-use lib.Dec.{ltb, lit<}
-use lib.Pow.{pow-pos, pow-lt, pow-mono, pow-add, shl-shr, ones-lt}
+use lib.Dec.{lit<}
+use lib.Pow.{pow-pos, pow-lt, pow-mono, ones-lt}
 use lib.Bits.{bitAnd, bitOr, and-le-l, and-zero-r, and-step, and-mask, or-lt, or-shr, or-mod, and-shr, and-mod}
-use lib.Count.{ones, trailingZeros, leadingZeros, under, ones-le, ones-step, trailing-le, leading-top, leading-length}
-use borrow.Author.Tests.{eqb-false, eqb-true, eq-eqb, ne-eqb, ltb-true, ltb-false, lt-ltb}
+use lib.Count.{ones, trailingZeros, under, ones-le, ones-step, leading-top, leading-length}
+use borrow.Author.Tests.{eqb-false, eqb-true, eq-eqb, ne-eqb, ltb-true, lt-ltb}
 use Rattle.node_set.specs.NodeSet.{bitOf, has, with, without, lowest, highest, count, upTo, within}
 
--- one shifted by k in a word of w bits
+-- one shifted by k in a word of more than k bits
 pub one-shifted : (k w : ℕ) → k < w → 1 * 2 ^ k % 2 ^ w ≡ 2 ^ k
 one-shifted k w h = rw one-mul (mod-eq-of-lt (pow-lt {j = w} h))
 
 -- ---- binary digits
 
--- the digit of s at place k: node k + 1
+-- the digit of s at place k: 1 where s has node k + 1
 abbrev digit : ℕ → ℕ → ℕ
 digit s k = s / 2 ^ k % 2
 
 digit-lt : (s k : ℕ) → digit s k < 2
 digit-lt s k = mod-lt (s / 2 ^ k) (lit< tt)
+
+digit-zero : (s : ℕ) → digit s 0 ≡ s % 2
+digit-zero s = rw div-one
 
 digit-suc : (s k : ℕ) → digit s (suc k) ≡ digit (s / 2) k
 digit-suc s k = rw (pow-suc, mul-comm (2 ^ k) 2, ← div-div-eq-div-mul s 2 (2 ^ k))
@@ -36,26 +40,45 @@ digit-and a b k = rw and-shr (and-mod (a / 2 ^ k) (b / 2 ^ k) 1)
 digit-or : (a b k : ℕ) → digit (bitOr a b) k ≡ bitOr (digit a k) (digit b k)
 digit-or a b k = rw or-shr (or-mod (a / 2 ^ k) (b / 2 ^ k) 1)
 
--- a set has node i where its digit is 1
+-- a member's digit is 1, and back
 digit-of : (s i : ℕ) → has s i ≡ true → digit s (i - 1) ≡ 1
 digit-of s i e = eqb-true (digit s (i - 1)) 1 e
 
--- and lacks it where its digit is 0
+holds : (s i : ℕ) → digit s (i - 1) ≡ 1 → has s i ≡ true
+holds s i e = eq-eqb (digit s (i - 1)) 1 e
+
+-- the digit of a node that is no member is 0, and back
 no-digit : (s i : ℕ) → has s i ≡ false → digit s (i - 1) ≡ 0
 no-digit s i e = omega (arith, eqb-false (digit s (i - 1)) 1 e, digit-lt s (i - 1))
 
 lacks : (s i : ℕ) → digit s (i - 1) ≡ 0 → has s i ≡ false
 lacks s i e = ne-eqb (digit s (i - 1)) 1 (λ q. omega arith)
 
--- ---- no node above n
+-- ---- within n
 
 -- a set within n is below 2 ^ n
 pub within-lt : (n s : ℕ) → within n s ≡ true → s < 2 ^ n
 within-lt n s w = ltb-true s (2 ^ n) w
 
--- and back
+-- a set below 2 ^ n is within n
 pub lt-within : (n s : ℕ) → s < 2 ^ n → within n s ≡ true
 lt-within n s h = lt-ltb s (2 ^ n) h
+
+-- a set within n ≤ 16 fits 16 bits
+pub within-word : (n s : ℕ) → n ≤ 16 → within n s ≡ true → s < 2 ^ 16
+within-word n s h w = lt-of-lt-of-le (within-lt n s w) (pow-mono {j = 16} h)
+
+-- a node of a set within n is at most n
+pub member-in : (n s i : ℕ) → within n s ≡ true → has s i ≡ true → i ≤ n
+member-in n s i w e =
+    let no : suc n ≤ i → ⊥ = λ l. omega (arith, digit-of s i e, digit-above s n (i - 1) (within-lt n s w) (omega arith)) in
+    omega (arith, lt-of-not-le no)
+
+-- a node of a set is not one that the set lacks
+pub member-other : (s i m : ℕ) → has s m ≡ true → has s i ≡ false → m ≡ i → ⊥
+member-other s i m h l e = true≢false (sym h ∙ ap (has s) e ∙ l)
+
+-- ---- the empty set, and all nodes
 
 -- the empty set is within any n
 pub empty-within : (n : ℕ) → within n 0 ≡ true
@@ -65,59 +88,57 @@ empty-within n = lt-within n 0 (pow-pos n)
 pub empty-lacks : (i : ℕ) → has 0 i ≡ false
 empty-lacks i = lacks 0 i (digit-above 0 0 (i - 1) (lit< tt) (omega arith))
 
--- a node of a set within n is at most n
-pub member-in : (n s i : ℕ) → within n s ≡ true → has s i ≡ true → i ≤ n
-member-in n s i w e = by (ltb n i) refl
-  where
-    by : (b : Bool) → ltb n i ≡ b → i ≤ n
-    by false t = ltb-false n i t
-    by true t = omega (arith, ltb-true n i t, digit-of s i e, digit-above s n (i - 1) (within-lt n s w) (omega (arith, ltb-true n i t)))
+-- the set of the nodes 1 to n is within n
+pub upTo-within : (n : ℕ) → within n (upTo n) ≡ true
+upTo-within n = lt-within n (upTo n) (ones-lt n)
 
--- a node of a set is not one that the set lacks
-pub member-other : (s i m : ℕ) → has s m ≡ true → has s i ≡ false → m ≡ i → ⊥
-member-other s i m h l e = true≢false (sym h ∙ ap (has s) e ∙ l)
+all-digits : (n k : ℕ) → k < n → digit (2 ^ n - 1) k ≡ 1
+all-digits zero k h = omega arith
+all-digits (suc n) zero h = digit-zero (2 ^ suc n - 1) ∙ omega (arith, pow-suc 2 n, pow-pos n)
+all-digits (suc n) (suc k) h =
+    let q : (2 ^ suc n - 1) / 2 ≡ 2 ^ n - 1 = omega (arith, pow-suc 2 n) in
+    digit-suc (2 ^ suc n - 1) k ∙ rw q (all-digits n k (omega arith))
 
--- a set within n ≤ 16 fits 16 bits
-word : (n s : ℕ) → n ≤ 16 → within n s ≡ true → s < 2 ^ 16
-word n s h w = lt-of-lt-of-le (within-lt n s w) (pow-mono {j = 16} h)
+-- the set of the nodes 1 to n has each of them
+pub upTo-has : (n i : ℕ) → 1 ≤ i → i ≤ n → has (upTo n) i ≡ true
+upTo-has n i l u = holds (upTo n) i (all-digits n (i - 1) (omega arith))
 
 -- ---- the lowest node
 
--- no digit below the lowest set one, and that one, where there is one
+-- the zeros below the lowest digit that is 1 end at that digit
+trailing-set : (k s : ℕ) → 0 < s → s < 2 ^ k → digit s (trailingZeros k s) ≡ 1
+unfolding trailingZeros
+trailing-set zero s p q = omega arith
+trailing-set (suc k) s p q = by-lowest (s % 2) refl (λ p'. trailing-set k (s / 2) p' (omega (arith, pow-suc 2 k)))
+  where
+    by-lowest : (d : ℕ) → s % 2 ≡ d → (0 < s / 2 → digit (s / 2) (trailingZeros k (s / 2)) ≡ 1) → digit s (under d (trailingZeros k (s / 2))) ≡ 1
+    by-lowest zero e h = digit-suc s (trailingZeros k (s / 2)) ∙ h (omega arith)
+    by-lowest (suc d) e h = digit-zero s ∙ omega arith
+
+-- and no digit that is 1 is among them
 trailing-least : (k m s : ℕ) → digit s m ≡ 1 → trailingZeros k s ≤ m
 unfolding trailingZeros
 trailing-least zero m s e = omega arith
 trailing-least (suc k) zero s e = rw (rw div-one at e) (omega arith)
-trailing-least (suc k) (suc m) s e = under-most (s % 2) (trailingZeros k (s / 2)) m (trailing-least k m (s / 2) (sym (digit-suc s m) ∙ e))
+trailing-least (suc k) (suc m) s e = under-most (s % 2) (trailing-least k m (s / 2) (sym (digit-suc s m) ∙ e))
   where
-    under-most : (d t m : ℕ) → t ≤ m → under d t ≤ suc m
-    under-most zero t m h = omega arith
-    under-most (suc d) t m h = omega arith
-
-trailing-set : (k s : ℕ) → 0 < s → s < 2 ^ k → digit s (trailingZeros k s) ≡ 1
-unfolding trailingZeros
-trailing-set zero s p q = omega arith
-trailing-set (suc k) s p q =
-    let w : 2 ^ suc k ≡ 2 ^ k * 2 = pow-suc 2 k in
-    by-lowest (s % 2) refl (λ p'. trailing-set k (s / 2) p' (omega arith))
-  where
-    by-lowest : (d : ℕ) → s % 2 ≡ d → (0 < s / 2 → digit (s / 2) (trailingZeros k (s / 2)) ≡ 1) → digit s (under d (trailingZeros k (s / 2))) ≡ 1
-    by-lowest zero e h = digit-suc s (trailingZeros k (s / 2)) ∙ h (omega arith)
-    by-lowest (suc d) e h = rw div-one (omega arith)
+    under-most : (d : ℕ) {t : ℕ} → t ≤ m → under d t ≤ suc m
+    under-most zero h = omega arith
+    under-most (suc d) h = omega arith
 
 -- the lowest of a set that is not empty is in it
 pub has-lowest : (s : ℕ) → 0 < s → s < 2 ^ 16 → has s (lowest s) ≡ true
-has-lowest s p q = rw (add-sub-cancel (trailingZeros 16 s) 1) (eq-eqb _ _ (trailing-set 16 s p q))
+has-lowest s p q = holds s (lowest s) (rw (add-sub-cancel (trailingZeros 16 s) 1) (trailing-set 16 s p q))
 
--- and is one of the nodes 1 to n of a set within n
+-- the lowest of a set within n that is not empty is one of 1 to n
 pub lowest-in : (n s : ℕ) → n ≤ 16 → within n s ≡ true → 0 < s → (1 ≤ lowest s) × (lowest s ≤ n)
-lowest-in n s h w p = (omega arith, member-in n s (lowest s) w (has-lowest s p (word n s h w)))
+lowest-in n s h w p = (omega arith, member-in n s (lowest s) w (has-lowest s p (within-word n s h w)))
 
--- and no node that the set lacks
+-- the lowest is not a node that the set lacks
 pub lowest-other : (s i : ℕ) → 0 < s → s < 2 ^ 16 → has s i ≡ false → lowest s ≡ i → ⊥
 lowest-other s i p q l = member-other s i (lowest s) (has-lowest s p q) l
 
--- and at most any node of the set
+-- the lowest is at most any node of the set
 pub lowest-least : (s j : ℕ) → 1 ≤ j → has s j ≡ true → lowest s ≤ j
 lowest-least s j l e = omega (arith, trailing-least 16 (j - 1) s (digit-of s j e))
 
@@ -128,42 +149,64 @@ pub has-highest : (s : ℕ) → 0 < s → s < 2 ^ 16 → has s (highest s) ≡ t
 has-highest s p q =
     let t = leading-top 16 s p q in
     let e : highest s - 1 ≡ t .0 = omega (arith, t .1) in
-    let w : 2 ^ suc (t .0) ≡ 2 ^ t .0 * 2 = pow-suc 2 (t .0) in
-    let d : s / 2 ^ t .0 ≡ 1 = div-eq-of-lt-le (2 ^ t .0) (omega (arith, t .2)) (omega (arith, t .3)) in
+    let d : s / 2 ^ t .0 ≡ 1 = div-eq-of-lt-le (2 ^ t .0) (omega (arith, t .2)) (omega (arith, t .3, pow-suc 2 (t .0))) in
     rw (e, d)
 
--- and is one of the nodes 1 to n of a set within n
+-- the highest of a set within n that is not empty is one of 1 to n
 pub highest-in : (n s : ℕ) → n ≤ 16 → within n s ≡ true → 0 < s → (1 ≤ highest s) × (highest s ≤ n)
 highest-in n s h w p =
-    let t = leading-top 16 s p (word n s h w) in
-    (omega (arith, t .1), member-in n s (highest s) w (has-highest s p (word n s h w)))
+    let q = within-word n s h w in (omega (arith, leading-top 16 s p q .1), member-in n s (highest s) w (has-highest s p q))
 
--- and no node that the set lacks
+-- the highest is not a node that the set lacks
 pub highest-other : (s i : ℕ) → 0 < s → s < 2 ^ 16 → has s i ≡ false → highest s ≡ i → ⊥
 highest-other s i p q l = member-other s i (highest s) (has-highest s p q) l
 
--- and at least any node of the set
+-- the highest is at least any node of the set
 pub highest-most : (s j : ℕ) → has s j ≡ true → s < 2 ^ 16 → j ≤ highest s
 highest-most s j e q =
     let t = leading-length 16 s q in omega (arith, t .1, member-in (t .0) s j (lt-within (t .0) s (t .2)) e)
 
--- ---- without a node
+-- ---- a node added
 
--- the halves of a word of set digits, less one of them
+power-digit : (j k : ℕ) → (j ≡ k → ⊥) → digit (2 ^ j) k ≡ 0
+power-digit zero zero h = absurd (h refl)
+power-digit zero (suc k) h = digit-above 1 1 (suc k) (lit< tt) (omega arith)
+power-digit (suc j) zero h = digit-zero (2 ^ suc j) ∙ omega (arith, pow-suc 2 j)
+power-digit (suc j) (suc k) h =
+    let q : 2 ^ suc j / 2 ≡ 2 ^ j = omega (arith, pow-suc 2 j) in
+    digit-suc (2 ^ suc j) k ∙ rw q (power-digit j k (λ e. h (ap suc e)))
+
+or-one : (d : ℕ) → d < 2 → bitOr d 1 ≡ 1
+or-one zero h = refl
+or-one (suc zero) h = refl
+or-one (suc (suc d)) h = omega arith
+
+-- a set within n stays so with a node of 1 to n
+pub with-within : (n s i : ℕ) → within n s ≡ true → 1 ≤ i → i ≤ n → within n (with s i) ≡ true
+with-within n s i w l u = lt-within n (with s i) (or-lt n s (bitOf i) (within-lt n s w) (pow-lt {j = n} (omega arith)))
+
+-- a set lacks what it lacked, but for the node added
+pub with-lacks : (s i j : ℕ) → 1 ≤ i → 1 ≤ j → (j ≡ i → ⊥) → has s i ≡ false → has (with s j) i ≡ false
+with-lacks s i j li lj ne e =
+    lacks (with s j) i (rw (digit-or s (bitOf j) (i - 1), no-digit s i e, power-digit (j - 1) (i - 1) (λ q. ne (omega arith))))
+
+-- a set has the node added
+pub with-has : (s i : ℕ) → has (with s i) i ≡ true
+with-has s i =
+    holds (with s i) i (rw (digit-or s (bitOf i) (i - 1), div-self (pow-pos (i - 1))) (or-one (digit s (i - 1)) (digit-lt s (i - 1))))
+
+-- ---- a node removed
+
+-- a word of digits that are 1, less one of them, halved
 mask-half : (w k : ℕ) → (2 ^ suc w - 1 - 2 ^ suc k) / 2 ≡ 2 ^ w - 1 - 2 ^ k
-mask-half w k =
-    let p : 2 ^ suc w ≡ 2 ^ w * 2 = pow-suc 2 w in
-    let q : 2 ^ suc k ≡ 2 ^ k * 2 = pow-suc 2 k in
-    omega arith
+mask-half w k = omega (arith, pow-suc 2 w, pow-suc 2 k)
 
--- the digit that is taken from w set digits is 0
 mask-clear : (w k : ℕ) → digit (2 ^ w - 1 - 2 ^ k) k ≡ 0
-mask-clear zero zero = refl
-mask-clear (suc w) zero = let p : 2 ^ suc w ≡ 2 ^ w * 2 = pow-suc 2 w in rw div-one (omega arith)
-mask-clear zero (suc k) = digit-above _ 0 (suc k) (omega arith) (omega arith)
-mask-clear (suc w) (suc k) = digit-suc _ k ∙ rw mask-half (mask-clear w k)
+mask-clear zero k = digit-above (0 - 2 ^ k) 0 k (omega arith) (omega arith)
+mask-clear (suc w) zero = digit-zero (2 ^ suc w - 1 - 1) ∙ omega (arith, pow-suc 2 w)
+mask-clear (suc w) (suc k) = digit-suc (2 ^ suc w - 1 - 2 ^ suc k) k ∙ rw mask-half (mask-clear w k)
 
--- a set within n stays so
+-- a set within n stays so without a node
 pub without-within : (n s i : ℕ) → within n s ≡ true → within n (without s i) ≡ true
 without-within n s i w = lt-within n (without s i) (lt-of-le-of-lt (and-le-l s (65535 - bitOf i)) (within-lt n s w))
 
@@ -175,42 +218,15 @@ without-lacks s i j e = lacks (without s j) i (rw (digit-and s (65535 - bitOf j)
 pub without-self : (s i : ℕ) → has (without s i) i ≡ false
 without-self s i = lacks (without s i) i (rw (digit-and s (65535 - bitOf i) (i - 1), mask-clear 16 (i - 1)) (and-zero-r (digit s (i - 1))))
 
--- removing a node of a set makes it less, as a number
+-- removing a member makes a set less, as a number
 pub without-less : (s i : ℕ) → has s i ≡ true → without s i < s
 without-less s i e =
     let ne : without s i ≡ s → ⊥ = λ q. true≢false (sym e ∙ rw (← q) (without-self s i)) in
     omega (arith, and-le-l s (65535 - bitOf i))
 
--- so removing the lowest does
+-- removing the lowest makes a set less, as a number
 pub without-lowest-less : (s : ℕ) → 0 < s → s < 2 ^ 16 → without s (lowest s) < s
 without-lowest-less s p q = without-less s (lowest s) (has-lowest s p q)
-
--- ---- with a node
-
-power-digit : (j k : ℕ) → (j ≡ k → ⊥) → digit (2 ^ j) k ≡ 0
-power-digit zero zero h = absurd (h refl)
-power-digit zero (suc k) h = digit-above 1 1 (suc k) (lit< tt) (omega arith)
-power-digit (suc j) zero h = let p : 2 ^ suc j ≡ 2 ^ j * 2 = pow-suc 2 j in rw div-one (omega arith)
-power-digit (suc j) (suc k) h = digit-suc (2 ^ suc j) k ∙ rw (pow-suc, mul-div-cancel (2 ^ j) {n = 2} (lit< tt)) (power-digit j k (λ e. h (ap suc e)))
-
-or-one : (d : ℕ) → d < 2 → bitOr d 1 ≡ 1
-or-one zero h = refl
-or-one (suc zero) h = refl
-or-one (suc (suc d)) h = omega arith
-
--- a set within n stays so with a node of 1 to n
-pub with-within : (n s i : ℕ) → within n s ≡ true → 1 ≤ i → i ≤ n → within n (with s i) ≡ true
-with-within n s i w l u = lt-within n (with s i) (or-lt n s (bitOf i) (within-lt n s w) (pow-lt {j = n} (omega arith)))
-
--- a set lacks what it lacked but for the node added
-pub with-lacks : (s i j : ℕ) → 1 ≤ i → 1 ≤ j → (j ≡ i → ⊥) → has s i ≡ false → has (with s j) i ≡ false
-with-lacks s i j li lj ne e =
-    lacks (with s j) i (rw (digit-or s (bitOf j) (i - 1), no-digit s i e, power-digit (j - 1) (i - 1) (λ q. ne (omega arith))))
-
--- a set has the node added
-pub with-has : (s i : ℕ) → has (with s i) i ≡ true
-with-has s i =
-    eq-eqb (digit (with s i) (i - 1)) 1 (rw (digit-or s (bitOf i) (i - 1), div-self (pow-pos (i - 1))) (or-one _ (digit-lt s (i - 1))))
 
 -- ---- the count
 
@@ -219,35 +235,40 @@ pub count-within : (n s : ℕ) → within n s ≡ true → count s ≤ n
 count-within n s w = ones-le n s (within-lt n s w)
 
 ones-lacks : (k n s : ℕ) → k ≤ n → s < 2 ^ suc n → digit s k ≡ 0 → ones s ≤ n
-ones-lacks zero n s h q e =
-    let w : 2 ^ suc n ≡ 2 ^ n * 2 = pow-suc 2 n in
-    omega (arith, rw div-one at e, ones-step s, ones-le n (s / 2) (omega arith))
+ones-lacks zero n s h q e = omega (arith, rw div-one at e, ones-step s, ones-le n (s / 2) (omega (arith, pow-suc 2 n)))
 ones-lacks (suc k) zero s h q e = omega arith
 ones-lacks (suc k) (suc n) s h q e =
-    let w : 2 ^ suc (suc n) ≡ 2 ^ suc n * 2 = pow-suc 2 (suc n) in
-    omega (arith, ones-step s, ones-lacks k n (s / 2) (omega arith) (omega arith) (sym (digit-suc s k) ∙ e))
+    omega (arith, ones-step s, ones-lacks k n (s / 2) (omega arith) (omega (arith, pow-suc 2 (suc n))) (sym (digit-suc s k) ∙ e))
 
--- and fewer where it lacks one of them
+-- a set within n that lacks one of 1 to n has fewer than n nodes
 pub count-lacks : (n s i : ℕ) → 1 ≤ i → i ≤ n → within n s ≡ true → has s i ≡ false → count s ≤ n - 1
 count-lacks n s i l u w e =
     let p : n ≡ suc (n - 1) = omega arith in
     ones-lacks (i - 1) (n - 1) s (omega arith) (subst (λ (m : ℕ). s < 2 ^ m) p (within-lt n s w)) (no-digit s i e)
 
--- ---- all nodes
+ones-and : (a b : ℕ) → ones (bitAnd a b) ≡ min (a % 2) (b % 2) + ones (bitAnd (a / 2) (b / 2))
+ones-and a b =
+    let x = bitAnd (a / 2) (b / 2) in
+    let d = min (a % 2) (b % 2) in
+    let h : d ≤ a % 2 = min-le-left (a % 2) (b % 2) in
+    let p : (x * 2 + d) % 2 ≡ d = omega arith in
+    let q : (x * 2 + d) / 2 ≡ x = omega arith in
+    ap ones (and-step a b) ∙ rw (ones-step (x * 2 + d), p, q)
 
--- the nodes 1 to n are within n
-pub upTo-within : (n : ℕ) → within n (upTo n) ≡ true
-upTo-within n = lt-within n (upTo n) (ones-lt n)
+ones-without : (w k s : ℕ) → k < w → s < 2 ^ w → digit s k ≡ 1 → ones (bitAnd s (2 ^ w - 1 - 2 ^ k)) + 1 ≡ ones s
+ones-without zero k s h q e = omega arith
+ones-without (suc w) zero s h q e =
+    let d : (2 ^ suc w - 1 - 1) % 2 ≡ 0 = omega (arith, pow-suc 2 w) in
+    let r : (2 ^ suc w - 1 - 1) / 2 ≡ 2 ^ w - 1 = omega (arith, pow-suc 2 w) in
+    let l : s / 2 < 2 ^ w = omega (arith, pow-suc 2 w) in
+    rw (ones-and, d, r, and-mask (s / 2) w, mod-eq-of-lt l, min-zero) (omega (arith, ones-step s, rw div-one at e))
+ones-without (suc w) (suc k) s h q e =
+    let d : (2 ^ suc w - 1 - 2 ^ suc k) % 2 ≡ 1 = omega (arith, pow-suc 2 w, pow-suc 2 k, pow-lt {i = k} {j = w} (omega arith)) in
+    let m : min (s % 2) 1 ≡ s % 2 = min-eq-left (omega arith) in
+    rw (ones-and, d, mask-half, m)
+    (omega (arith, ones-step s, ones-without w k (s / 2) (omega arith) (omega (arith, pow-suc 2 w)) (sym (digit-suc s k) ∙ e)))
 
-all-digits : (n k : ℕ) → k < n → digit (2 ^ n - 1) k ≡ 1
-all-digits zero k h = omega arith
-all-digits (suc n) zero h =
-    let p : 2 ^ suc n ≡ 2 ^ n * 2 = pow-suc 2 n in rw div-one (omega (arith, pow-pos n))
-all-digits (suc n) (suc k) h =
-    let p : 2 ^ suc n ≡ 2 ^ n * 2 = pow-suc 2 n in
-    let q : (2 ^ suc n - 1) / 2 ≡ 2 ^ n - 1 = omega arith in
-    digit-suc (2 ^ suc n - 1) k ∙ rw q (all-digits n k (omega arith))
-
--- and are all there
-pub upTo-has : (n i : ℕ) → 1 ≤ i → i ≤ n → has (upTo n) i ≡ true
-upTo-has n i l u = eq-eqb (digit (upTo n) (i - 1)) 1 (all-digits n (i - 1) (omega arith))
+-- removing a member counts one less
+pub count-without : (s i : ℕ) → s < 2 ^ 16 → has s i ≡ true → count (without s i) + 1 ≡ count s
+count-without s i h e =
+    ones-without 16 (i - 1) s (omega (arith, member-in 16 s i (lt-within 16 s h) e)) h (digit-of s i e)
