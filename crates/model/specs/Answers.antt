@@ -1,7 +1,6 @@
--- Document 01's numbers for the cases of the enums that are answered or printed.
+-- Document 01's numbers for the cases of the enums that are answered or printed. Accepted, which has none there, is 0.
 use Prim.Native.Nat.{ℕ}
-use Rattle.model.specs.State.{State, view}
-use Rattle.model.specs.Step.{Result, refused, accepted, kept}
+use Rattle.model.specs.Step.{Result, refused, accepted}
 use Rattle.model.specs.declared.Status.{Status}
 use Rattle.model.specs.declared.Status.the-variants.{Down, Election, Reorganization, Normal}
 use Rattle.model.specs.declared.Answer.{Answer}
@@ -14,7 +13,7 @@ statusNumber Election = 1
 statusNumber Reorganization = 2
 statusNumber Normal = 3
 
--- the number of the refusal, and 0 where the event is accepted
+-- the number of the refusal
 abbrev pub answerNumber : Answer → ℕ
 answerNumber Accepted = 0
 answerNumber NotInRange = 1

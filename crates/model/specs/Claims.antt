@@ -1,12 +1,11 @@
 -- What is claimed of the definitions. The proofs are in proofs/.
-use Prim.Native.Nat.{ℕ, _≤_, _<_}
+use Prim.Native.Nat.{ℕ, _+_, _≤_, _<_}
 use mathlib.Core.Bool.{Bool, true, false}
 use mathlib.Core.Path.{_≡_}
-use mathlib.Core.Logic.{_⊎_}
 use mathlib.Core.List.{List, [], _∷_, _++_}
 use lib.ListN.{length}
 use Rattle.model.specs.Limits.{nodeLimit}
-use Rattle.model.specs.State.{State, start, nodeAt, inRange}
+use Rattle.model.specs.State.{State, start, nodeAt, goes, waits, oldest, inRange}
 use Rattle.model.specs.Step.{actor, reactionTo, remaining, sent, forms, Result, refused, accepted, step, after, run}
 use Rattle.model.specs.History.{Entry, NotFormed, NoTask, Task, History, newest, coming, history}
 use Rattle.model.specs.declared.Status.{Status}
@@ -16,7 +15,7 @@ use Rattle.model.specs.declared.TaskNo.{TaskNo}
 use Rattle.model.specs.declared.Message.{Message}
 use Rattle.model.specs.declared.Mark.{Mark}
 use Rattle.model.specs.declared.Event.{Event}
-use Rattle.model.specs.declared.Event.the-variants.{Finish}
+use Rattle.model.specs.declared.Event.the-variants.{Crash, Recover, Check, Timeout, Tick, Expire, Finish, Deliver, Lose}
 
 -- ── demand 3 ──
 
@@ -37,24 +36,24 @@ pub record Lacks (s : State) (g : ℕ) : Type 0 where
   pub in-nodes : (j : ℕ) → 1 ≤ j → j ≤ s .n → nodeAt s j .group .number ≡ g → ⊥
   pub in-messages : Unsent g (s .queue)
 
--- Demand 3, of every list of events from the starting table of n nodes. `es` is the list so far, and `e` an event after it that is accepted with the mark k
--- and leaves the table u.
+-- Demand 3 ("What a run fixes", and the agreement of groups that it is for), of every list of events from the starting table of n nodes. `es` is a beginning
+-- of the list, `fs` what comes next, and `e` an event after them that is accepted with the mark k and leaves the table u.
 pub record RunFixes (n : ℕ) : Type 0 where
   -- two nodes in Reorganization or Normal with the same group have the same coordinator
   pub same-coordinator : (es : List Event) (i j : ℕ) → 1 ≤ i → i ≤ n → 1 ≤ j → j ≤ n
       → isActive (nodeAt (run n es) i .status) ≡ true → isActive (nodeAt (run n es) j .status) ≡ true
       → nodeAt (run n es) i .group .number ≡ nodeAt (run n es) j .group .number
       → nodeAt (run n es) i .coordinator ≡ nodeAt (run n es) j .coordinator
-  -- "The book's task is the one the list fixed": each Normal node's task is the history's task of its group
-  pub same-task : (es : List Event) (i : ℕ) → 1 ≤ i → i ≤ n → nodeAt (run n es) i .status ≡ Normal
-      → history n es .entry (nodeAt (run n es) i .group .number) ≡ Task (nodeAt (run n es) i .task .number)
+  -- "The book's task is the one the list fixed": a Normal node's task, in any table of the run, is the task that the whole list's history has for its group
+  pub same-task : (es fs : List Event) (i : ℕ) → 1 ≤ i → i ≤ n → nodeAt (run n es) i .status ≡ Normal
+      → history n (es ++ fs) .entry (nodeAt (run n es) i .group .number) ≡ Task (nodeAt (run n es) i .task .number)
   -- "A new group gets the book's number"
   pub numbered : (es : List Event) (e : Event) (u : State) (k : Mark) → step (run n es) e ≡ accepted u k → forms k ≡ true
       → nodeAt u (actor e) .group .number ≡ coming (history n es) (actor e)
   -- "and no table from the starting one to the one just before that event holds it": `es` is any beginning of the list before e
   pub fresh : (es fs : List Event) (e : Event) (u : State) (k : Mark) → step (run n (es ++ fs)) e ≡ accepted u k → forms k ≡ true
       → Lacks (run n es) (coming (history n (es ++ fs)) (actor e))
-  -- any other group in a table comes from a message, or was there before
+  -- and no other group is new: where no group is formed, the table before held each node's group, in a node or a message
   pub borrowed : (es : List Event) (e : Event) (u : State) (k : Mark) → step (run n es) e ≡ accepted u k → forms k ≡ false
       → (j : ℕ) → 1 ≤ j → j ≤ n → Lacks (run n es) (nodeAt u j .group .number) → ⊥
   -- "no group ever gets a second task": a group that is formed was not formed before, and a group that gets its task by a finish has none
@@ -78,17 +77,37 @@ pub record StaysInRange : Type 0 where
 
 -- ── how little a step changes ──
 
--- r is q, or q without one of its messages
-abbrev pub AtMostOneOut : List Message → List Message → Type 0
-AtMostOneOut q r = (r ≡ q) ⊎ ((xs : List Message) × (m : Message) × (ys : List Message) × (q ≡ xs ++ (m ∷ ys)) × (r ≡ xs ++ ys))
+-- r is the queue q without its oldest message from a to b
+pub record WithoutOldest (a b : ℕ) (q r : List Message) : Type 0 where
+  pub before : List Message
+  pub taken : Message
+  pub behind : List Message
+  pub whole : q ≡ before ++ (taken ∷ behind)
+  pub left : r ≡ before ++ behind
+  pub goes-there : goes a b taken ≡ true
+  pub none-older : waits a b before ≡ false
+  pub oldest-is : oldest a b q ≡ taken
+
+-- deliver and lose take one message out, the other events none
+abbrev pub TakesOut : List Message → Event → List Message → Type 0
+TakesOut q (Crash i) r = r ≡ q
+TakesOut q (Recover i) r = r ≡ q
+TakesOut q (Check i) r = r ≡ q
+TakesOut q (Timeout i) r = r ≡ q
+TakesOut q (Tick i) r = r ≡ q
+TakesOut q (Expire i) r = r ≡ q
+TakesOut q (Finish i t) r = r ≡ q
+TakesOut q (Deliver a b) r = WithoutOldest a b q r
+TakesOut q (Lose a b) r = WithoutOldest a b q r
 
 -- from s to u: one record at most, at most one message out, and at most one in, behind the others
 pub record ChangesLittle (s : State) (e : Event) (u : State) : Type 0 where
   pub same-n : u .n ≡ s .n
   pub same-length : length (u .nodes) ≡ length (s .nodes)
   pub others-kept : (j : ℕ) → 1 ≤ j → (j ≡ actor e → ⊥) → nodeAt u j ≡ nodeAt s j
-  pub one-out : AtMostOneOut (s .queue) (remaining s e)
+  pub one-out : TakesOut (s .queue) e (remaining s e)
   pub one-in : u .queue ≡ remaining s e ++ sent (reactionTo s e .outgoing)
+  pub few : length (u .queue) ≤ length (s .queue) + 1
 
 pub record StepIsLocal : Type 0 where
   pub refused-nothing : (s : State) (e : Event) (r : ℕ) → step s e ≡ refused r → after s e ≡ s

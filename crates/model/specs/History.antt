@@ -30,7 +30,7 @@ blank = record { count = λ i. 0; entry = λ g. NotFormed }
 unfoldable pub updated {ℓ} : {A : Type ℓ} → (ℕ → A) → ℕ → A → ℕ → A
 updated f i a j = pick (eqb j i) a (f j)
 
--- "the group that i formed last", and the one that it forms next
+-- "the group that i formed last", where it has formed one, and the group that it forms next
 abbrev pub newest : History → ℕ → ℕ
 newest h i = groupOf (h .count i) i
 

@@ -25,5 +25,6 @@ tickEnd = 15
 abbrev pub taskLow : ℕ
 taskLow = 100
 
+-- "task, 0 to 65,535"
 abbrev pub taskEnd : ℕ
 taskEnd = 65535

@@ -88,7 +88,7 @@ hasOpenCall (Accepting caller call) = true
 abbrev pub groupOf : ℕ → ℕ → ℕ
 groupOf counter owner = counter * 16 + (owner - 1)
 
--- "the owner is the cabinet that formed it"
+-- "the owner is the cabinet that formed it"; of a group that is not 0
 abbrev pub ownerOf : ℕ → ℕ
 ownerOf g = g % 16 + 1
 

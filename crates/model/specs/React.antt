@@ -1,5 +1,6 @@
 -- The local step of one node: what it does with an event, and on delivery. It sees the number of nodes, its own number, its own record and the input.
--- Where an event is refused in the node's state, what is written here does not matter: Step meets the ground first.
+-- Where Step refuses an event by its numbers, the node's status or activity, or for want of a message (7 to 11), what is written here does not matter.
+-- Grounds 12 to 14 are read off what is written here.
 use Prim.Native.Nat.{ℕ, _+_, _-_}
 use mathlib.Core.Bool.{Bool, true, false, not, _&&_}
 use lib.Dec.{eqb, ltb}

@@ -36,7 +36,7 @@ startingNode = record {
 abbrev pub start : ℕ → State
 start n = record { n = n; nodes = replicate n startingNode; queue = [] }
 
--- the record of node i
+-- the record of node i, where i is 1 to n
 abbrev pub nodeAt : State → ℕ → Node
 nodeAt s i = getD (s .nodes) (i - 1) startingNode
 

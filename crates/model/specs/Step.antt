@@ -68,7 +68,7 @@ abbrev pub sent : Outgoing → List Message
 sent Nothing = []
 sent (Send m) = m ∷ []
 
--- the state after an accepted event: one record stored, the event's message out, at most one message in
+-- the state after an accepted event: one record stored, the message of a deliver or lose out, at most one message in
 unfoldable pub effect : State → Event → State
 effect s e = record {
   n = s .n;

@@ -1,0 +1,67 @@
+-- A step is refused, or no ground applies and it has its effect.
+use Prim.Native.Nat.{ℕ, _-_}
+use native.Mathlib.Omega.{arith}
+use mathlib.Core.Bool.{Bool, true, false, _&&_}
+use mathlib.Core.Path.{_≡_, refl, sym, _∙_, ap}
+use mathlib.Core.List.{List, [], _∷_}
+use lib.Dec.{eqb}
+use lib.ListN.{length}
+use borrow.Author.Tests.{not-false}
+use Rattle.model.specs.Pick.{pick, by-test}
+use Rattle.model.specs.Limits.{queueLimit, counterEnd, callEnd}
+use Rattle.model.specs.State.{State, nodeAt, inRange}
+use Rattle.model.specs.Step.{actor, reactionTo, remaining, effect, wrongNumber, wrongTask, wrongStatus, wrongActivity, noneWaits, forms, isCalling, isSending, Ground, grounds, Result, refused, accepted, judged, step}
+use Rattle.model.specs.declared.Mark.{Mark}
+use Rattle.model.specs.declared.Event.{Event}
+
+-- no ground of the list applies
+abbrev AllClear : List Ground → Type 0
+AllClear [] = Unit {0}
+AllClear (g ∷ gs) = (g .applies ≡ false) × AllClear gs
+
+judged-by : (P : Result → Type 0) (r : Result) (gs : List Ground) → ((x : ℕ) → P (refused x)) → (AllClear gs → P r) → P (judged r gs)
+unfolding judged
+judged-by P r [] f g = g tt
+judged-by P r (x ∷ gs) f g = by-test P (λ _. f (x .number)) (λ q. judged-by P r gs f (λ c. g (q, c)))
+
+-- what is known where an event is accepted, ground by ground
+pub record Clear (s : State) (e : Event) : Type 0 where
+  pub in-range : inRange s ≡ true
+  pub number : wrongNumber (s .n) e ≡ false
+  pub task : wrongTask e ≡ false
+  pub status : wrongStatus (nodeAt s (actor e) .status) e ≡ false
+  pub activity : wrongActivity (nodeAt s (actor e) .activity) e ≡ false
+  pub waiting : noneWaits (s .queue) e ≡ false
+  pub counter : forms (reactionTo s e .mark) && eqb (nodeAt s (actor e) .counter) counterEnd ≡ false
+  pub calls : isCalling (reactionTo s e .outgoing) && eqb (nodeAt s (actor e) .last .number) callEnd ≡ false
+  pub room : isSending (reactionTo s e .outgoing) && eqb (length (remaining s e)) queueLimit ≡ false
+
+-- what holds of every refusal, and of the effect where no ground applies, holds of the step
+pub by-step : (P : Result → Type 0) (s : State) (e : Event) → ((x : ℕ) → P (refused x)) → (Clear s e → P (accepted (effect s e) (reactionTo s e .mark))) → P (step s e)
+unfolding step grounds
+by-step P s e f g =
+    judged-by P _ _ f
+    (λ c. g (record {
+      in-range = not-false _ (c .0);
+      number = c .1 .0;
+      task = c .1 .1 .0;
+      status = c .1 .1 .1 .0;
+      activity = c .1 .1 .1 .1 .0;
+      waiting = c .1 .1 .1 .1 .1 .0;
+      counter = c .1 .1 .1 .1 .1 .1 .0;
+      calls = c .1 .1 .1 .1 .1 .1 .1 .0;
+      room = c .1 .1 .1 .1 .1 .1 .1 .1 .0;
+    }))
+
+-- what an accepted event is
+pub record Accepted (s : State) (e : Event) (u : State) (k : Mark) : Type 0 where
+  pub clear : Clear s e
+  pub state : u ≡ effect s e
+  pub mark : k ≡ reactionTo s e .mark
+
+pub accepted-is : (s : State) (e : Event) (u : State) (k : Mark) → step s e ≡ accepted u k → Accepted s e u k
+accepted-is s e u k =
+    by-step (λ r. r ≡ accepted u k → Accepted s e u k) s e (λ x q. absurd (apart x q)) (λ c q. record { clear = c; state = (cc); mark = (cc) })
+  where
+    apart : (x : ℕ) → refused x ≡ accepted u k → ⊥
+    apart x q = let z : _≡_ {A = ℕ} 0 1 = cc in omega arith

@@ -1,0 +1,5 @@
+pub mod Judged
+pub mod Invariant
+pub mod Local
+pub mod Origin
+pub mod Whole

@@ -1,0 +1,354 @@
+-- Demand 3: the invariant holds along every run, and the claims follow.
+use Prim.Native.Nat.{ℕ, zero, suc, _+_, _-_, _*_, _/_, _%_, _<_, _≤_}
+use native.Mathlib.Omega.{arith}
+use native.Mathlib.Nat.{le-trans, le-refl}
+use mathlib.Core.Bool.{Bool, true, false, not, _&&_, true≢false}
+use mathlib.Core.Path.{_≡_, refl, sym, _∙_, ap, subst}
+use mathlib.Core.Logic.{_⊎_, ⊎-elim}
+use mathlib.Core.List.{List, [], _∷_, _++_}
+use lib.Dec.{eqb, leb}
+use lib.ListN.{length, getD, set, replicate, length-set, length-replicate, getD-replicate}
+use lib.Seq.{getD-set-same, getD-set-other}
+use borrow.Author.Tests.{eqb-true, eqb-false, leb-true, not-false}
+use Rattle.model.specs.Pick.{pick, by-test}
+use Rattle.model.specs.Node.{isDown, ownerOf, counterOf}
+use Rattle.model.specs.Range.{isNode, isOther}
+use Rattle.model.specs.React.{react}
+use Rattle.model.specs.State.{State, startingNode, start, nodeAt, noMessage, goes, oldest, withoutOldest}
+use Rattle.model.specs.Step.{actor, reactionTo, remaining, sent, effect, wrongNumber, wrongStatus, wrongActivity, noneWaits, forms, Result, refused, accepted, step, kept, after, runFrom, run}
+use Rattle.model.specs.History.{Entry, NotFormed, NoTask, Task, History, blank, newest, coming, marked, given, noted, historyFrom, history}
+use Rattle.model.specs.Claims.{isActive, Unsent, Lacks, RunFixes}
+use Rattle.model.proofs.Judged.{Clear, by-step, Accepted, accepted-is}
+use Rattle.model.proofs.Invariant.{NodeNumber, Led, Gathering, NodeOk, MessageOk, HistoryOk, OutgoingOk, MarkOk, ReactionOk, Extends, extends-refl, extends-trans, owner-of, counter-of, message-extends, node-extends, coming-not-formed, marked-extends, marked-ok, tasked-extends, tasked-ok}
+use Rattle.model.proofs.Local.{both-left, both-right, stays-ok, react-ok, collecting-gathers, finish-ok}
+use Rattle.model.proofs.Origin.{finish-mark, Source, group-source, oldest-held}
+use Rattle.model.specs.declared.Status.{Status}
+use Rattle.model.specs.declared.Status.the-variants.{Down, Election, Reorganization, Normal}
+use Rattle.model.specs.declared.Node.{Node}
+use Rattle.model.specs.declared.TaskNo.{TaskNo}
+use Rattle.model.specs.declared.Message.{Message}
+use Rattle.model.specs.declared.Outgoing.{Outgoing}
+use Rattle.model.specs.declared.Outgoing.the-variants.{Nothing, Send}
+use Rattle.model.specs.declared.Mark.{Mark}
+use Rattle.model.specs.declared.Mark.the-variants.{Plain, Recovers, Merges}
+use Rattle.model.specs.declared.Reaction.{Reaction}
+use Rattle.model.specs.declared.Input.the-variants as Input
+use Rattle.model.specs.declared.Event.{Event}
+use Rattle.model.specs.declared.Event.the-variants.{Crash, Recover, Check, Timeout, Tick, Expire, Finish, Deliver, Lose}
+
+-- ── lists of messages ──
+abbrev All : (Message → Type 0) → List Message → Type 0
+All P [] = Unit {0}
+All P (m ∷ ms) = P m × All P ms
+
+all-map : {P Q : Message → Type 0} → ((m : Message) → P m → Q m) → (q : List Message) → All P q → All Q q
+all-map f [] h = tt
+all-map f (m ∷ ms) h = (f m (h .0), all-map f ms (h .1))
+
+all-append : (P : Message → Type 0) (q r : List Message) → All P q → All P r → All P (q ++ r)
+all-append P [] r h k = k
+all-append P (m ∷ ms) r h k = (h .0, all-append P ms r (h .1) k)
+
+all-oldest : (P : Message → Type 0) (a b : ℕ) (q : List Message) → P noMessage → All P q → P (oldest a b q)
+unfolding oldest
+all-oldest P a b [] n h = n
+all-oldest P a b (m ∷ ms) n h = by-test P (λ _. h .0) (λ _. all-oldest P a b ms n (h .1))
+
+all-without : (P : Message → Type 0) (a b : ℕ) (q : List Message) → All P q → All P (withoutOldest a b q)
+unfolding withoutOldest
+all-without P a b [] h = tt
+all-without P a b (m ∷ ms) h = by-test (All P) (λ _. h .1) (λ _. (h .0, all-without P a b ms (h .1)))
+
+-- ── the invariant of a state ──
+record StateOk (h : History) (s : State) : Type 0 where
+  pub size : s .n ≤ 16
+  pub many : length (s .nodes) ≡ s .n
+  pub nodes : (j : ℕ) → 1 ≤ j → j ≤ s .n → NodeOk h j (nodeAt s j)
+  pub waiting : All (MessageOk h) (s .queue)
+
+-- what an accepted event owes: the history with the event's task, the reaction, and the messages that stay
+record EventOk (h : History) (s : State) (e : Event) : Type 0 where
+  pub low : 1 ≤ actor e
+  pub high : actor e ≤ s .n
+  pub extends : Extends (actor e) h (given h e)
+  pub history : HistoryOk (given h e)
+  pub reaction : ReactionOk (given h e) (actor e) (reactionTo s e)
+  pub stays : All (MessageOk h) (remaining s e)
+
+none-ok : (h : History) → MessageOk h noMessage
+none-ok h = record { counted = omega arith; ready = tt }
+
+outgoing-ok : (h : History) (o : Outgoing) → OutgoingOk h o → All (MessageOk h) (sent o)
+outgoing-ok h Nothing k = tt
+outgoing-ok h (Send m) k = (k, tt)
+
+module _ (h : History) (s : State) (hk : HistoryOk h) (ok : StateOk h s) where
+  numbered : (i : ℕ) → not (isNode (s .n) i) ≡ false → (1 ≤ i) × (i ≤ s .n)
+  numbered i e =
+      let b : isNode (s .n) i ≡ true = not-false _ e in
+      (leb-true 1 i (both-left _ _ b), leb-true i (s .n) (both-right (leb 1 i) _ b))
+
+  receiver : (a b : ℕ) → not (isNode (s .n) a && isOther (s .n) a b) ≡ false → (1 ≤ b) × (b ≤ s .n)
+  receiver a b e =
+      let x : isOther (s .n) a b ≡ true = both-right (isNode (s .n) a) _ (not-false _ e) in
+      let y : isNode (s .n) b ≡ true = both-left _ _ x in
+      (leb-true 1 b (both-left _ _ y), leb-true b (s .n) (both-right (leb 1 b) _ y))
+
+  number : (i : ℕ) → (1 ≤ i) × (i ≤ s .n) → NodeNumber i
+  number i p = record { low = p .0; high = le-trans (p .1) (ok .size) }
+
+  here : (i : ℕ) → (1 ≤ i) × (i ≤ s .n) → NodeOk h i (nodeAt s i)
+  here i p = ok .nodes i (p .0) (p .1)
+
+  -- an event that gives no task
+  plain : (e : Event) → given h e ≡ h → (1 ≤ actor e) × (actor e ≤ s .n) → ReactionOk h (actor e) (reactionTo s e) → All (MessageOk h) (remaining s e) → EventOk h s e
+  plain e q p r w =
+      record {
+        low = p .0;
+        high = p .1;
+        extends = rw q (extends-refl (actor e) h);
+        history = rw q hk;
+        reaction = rw q r;
+        stays = w;
+      }
+
+  event-ok : (e : Event) → Clear s e → EventOk h s e
+  unfolding reactionTo remaining wrongNumber wrongStatus wrongActivity
+  event-ok (Crash i) c = let p = numbered i (c .number) in plain (Crash i) refl p (react-ok (number i p) (s .n) (nodeAt s i) Input.Crash (here i p) tt) (ok .waiting)
+  event-ok (Recover i) c = let p = numbered i (c .number) in plain (Recover i) refl p (react-ok (number i p) (s .n) (nodeAt s i) Input.Recover (here i p) tt) (ok .waiting)
+  event-ok (Check i) c = let p = numbered i (c .number) in plain (Check i) refl p (react-ok (number i p) (s .n) (nodeAt s i) Input.Check (here i p) tt) (ok .waiting)
+  event-ok (Timeout i) c = let p = numbered i (c .number) in plain (Timeout i) refl p (react-ok (number i p) (s .n) (nodeAt s i) Input.Timeout (here i p) tt) (ok .waiting)
+  event-ok (Tick i) c = let p = numbered i (c .number) in plain (Tick i) refl p (react-ok (number i p) (s .n) (nodeAt s i) Input.Tick (here i p) tt) (ok .waiting)
+  event-ok (Expire i) c = let p = numbered i (c .number) in plain (Expire i) refl p (react-ok (number i p) (s .n) (nodeAt s i) Input.Expire (here i p) tt) (ok .waiting)
+  event-ok (Finish i t) c =
+      let p = numbered i (c .number) in
+      let g = collecting-gathers (nodeAt s i .task .number) (nodeAt s i .activity) (not-false _ (c .activity)) (here i p .busy) in
+      record {
+        low = p .0;
+        high = p .1;
+        extends = tasked-extends h i (t .number) (number i p) (g .undecided);
+        history = tasked-ok h i (t .number) (number i p) hk;
+        reaction = finish-ok (number i p) (s .n) (nodeAt s i) t (c .status) (here i p) g;
+        stays = ok .waiting;
+      }
+  event-ok (Deliver a b) c =
+      let p = receiver a b (c .number) in
+      plain (Deliver a b) refl p
+      (react-ok (number b p) (s .n) (nodeAt s b) (Input.Receive (oldest a b (s .queue))) (here b p) (c .status, all-oldest (MessageOk h) a b (s .queue) (none-ok h) (ok .waiting)))
+      (all-without (MessageOk h) a b (s .queue) (ok .waiting))
+  event-ok (Lose a b) c =
+      let p = receiver a b (c .number) in
+      plain (Lose a b) refl p (stays-ok (number b p) (here b p)) (all-without (MessageOk h) a b (s .queue) (ok .waiting))
+
+  module _ (e : Event) (x : EventOk h s e) where
+    grown : Extends (actor e) h (marked (given h e) (actor e) (reactionTo s e .mark))
+    grown = extends-trans (x .extends) (marked-extends (given h e) (actor e) (reactionTo s e .mark) (number (actor e) (x .low, x .high)) (x .history))
+
+    stored : getD (set (s .nodes) (actor e - 1) (reactionTo s e .node)) (actor e - 1) startingNode ≡ reactionTo s e .node
+    stored = getD-set-same (s .nodes) (actor e - 1) (reactionTo s e .node) startingNode (omega (arith, x .low, x .high, ok .many))
+
+    effect-ok : StateOk (marked (given h e) (actor e) (reactionTo s e .mark)) (effect s e)
+    unfolding effect
+    effect-ok =
+        record {
+          size = ok .size;
+          many = length-set (s .nodes) (actor e - 1) (reactionTo s e .node) ∙ ok .many;
+          nodes = λ j l u. by-number j l u (eqb j (actor e)) refl;
+          waiting = all-append (MessageOk _) (remaining s e) (sent (reactionTo s e .outgoing)) (all-map (λ m. message-extends m grown) (remaining s e) (x .stays)) (outgoing-ok _ (reactionTo s e .outgoing) (x .reaction .outgoing));
+        }
+      where
+        by-number : (j : ℕ) → 1 ≤ j → j ≤ s .n → (b : Bool) → eqb j (actor e) ≡ b → NodeOk (marked (given h e) (actor e) (reactionTo s e .mark)) j (getD (set (s .nodes) (actor e - 1) (reactionTo s e .node)) (j - 1) startingNode)
+        by-number j l u true q = rw (eqb-true j (actor e) q) (rw stored (x .reaction .node))
+        by-number j l u false q =
+            rw (getD-set-other (s .nodes) (actor e - 1) (j - 1) (reactionTo s e .node) startingNode (λ z. eqb-false j (actor e) q (omega (arith, x .low))))
+            (node-extends j (nodeAt s j) (number j (l, u)) (eqb-false j (actor e) q) grown (ok .nodes j l u))
+
+-- ── runs ──
+record Good (h : History) (s : State) : Type 0 where
+  pub history : HistoryOk h
+  pub state : StateOk h s
+
+-- what stays of a history as it grows
+record Grows (h d : History) : Type 0 where
+  pub more : (j : ℕ) → h .count j ≤ d .count j
+  pub lasts : (g t : ℕ) → h .entry g ≡ Task t → d .entry g ≡ Task t
+
+grows-refl : (h : History) → Grows h h
+grows-refl h = record { more = λ j. le-refl _; lasts = λ g t e. e }
+
+grows-trans : {h d f : History} → Grows h d → Grows d f → Grows h f
+grows-trans x y = record { more = λ j. le-trans (x .more j) (y .more j); lasts = λ g t e. y .lasts g t (x .lasts g t e) }
+
+-- a step keeps the invariant, and the history only grows
+record Onward (h : History) (s : State) (e : Event) (r : Result) : Type 0 where
+  pub good : Good (noted h e r) (kept s r)
+  pub grows : Grows h (noted h e r)
+
+step-onward : (h : History) (s : State) (e : Event) → Good h s → Onward h s e (step s e)
+step-onward h s e ok =
+    by-step (Onward h s e) s e
+    (λ r. record { good = ok; grows = grows-refl h })
+    (λ c.
+    let x = event-ok h s (ok .history) (ok .state) e c in
+    let g = grown h s (ok .history) (ok .state) e x in
+    record {
+      good = record {
+        history = marked-ok (given h e) (actor e) (reactionTo s e .mark) (number h s (ok .history) (ok .state) (actor e) (x .low, x .high)) (x .history);
+        state = effect-ok h s (ok .history) (ok .state) e x;
+      };
+      grows = record { more = g .more; lasts = g .lasts };
+    })
+
+good-run : (h : History) (s : State) (es : List Event) → Good h s → Good (historyFrom s h es) (runFrom s es)
+unfolding historyFrom runFrom
+good-run h s [] ok = ok
+good-run h s (e ∷ es) ok = good-run (noted h e (step s e)) (after s e) es (step-onward h s e ok .good)
+
+run-grows : (h : History) (s : State) (es : List Event) → Good h s → Grows h (historyFrom s h es)
+unfolding historyFrom
+run-grows h s [] ok = grows-refl h
+run-grows h s (e ∷ es) ok =
+    let x = step-onward h s e ok in
+    grows-trans (x .grows) (run-grows (noted h e (step s e)) (after s e) es (x .good))
+
+history-append : (h : History) (s : State) (es fs : List Event) → historyFrom s h (es ++ fs) ≡ historyFrom (runFrom s es) (historyFrom s h es) fs
+unfolding historyFrom runFrom
+history-append h s [] fs = refl
+history-append h s (e ∷ es) fs = history-append (noted h e (step s e)) (after s e) es fs
+
+start-good : (n : ℕ) → n ≤ 16 → Good blank (start n)
+start-good n h =
+    record {
+      history = record { ahead = λ g l. refl };
+      state = record {
+        size = h;
+        many = length-replicate n startingNode;
+        nodes = λ j l u. rw (getD-replicate n (j - 1) startingNode startingNode (omega arith)) (record { counter = refl; counted = omega arith; led = tt; settled = tt; busy = tt });
+        waiting = tt;
+      };
+    }
+
+-- ── the claims ──
+led-active : (a : Status) (o g : ℕ) → isActive a ≡ true → Led o g a → o ≡ ownerOf g
+led-active Down o g e l = absurd (true≢false (sym e))
+led-active Election o g e l = absurd (true≢false (sym e))
+led-active Reorganization o g e l = l
+led-active Normal o g e l = l
+
+mark-number : (h : History) (i g : ℕ) (k : Mark) → forms k ≡ true → MarkOk h i g k → g ≡ coming h i
+mark-number h i g Plain e m = absurd (true≢false (sym e))
+mark-number h i g Recovers e m = m
+mark-number h i g Merges e m = m
+
+-- an event that forms a group gives no task
+forming-gives-none : (h : History) (s : State) (e : Event) → forms (reactionTo s e .mark) ≡ true → given h e ≡ h
+unfolding reactionTo react
+forming-gives-none h s (Crash i) f = refl
+forming-gives-none h s (Recover i) f = refl
+forming-gives-none h s (Check i) f = refl
+forming-gives-none h s (Timeout i) f = refl
+forming-gives-none h s (Tick i) f = refl
+forming-gives-none h s (Expire i) f = refl
+forming-gives-none h s (Finish i t) f = absurd (true≢false (sym (rw (finish-mark i (nodeAt s i) t) at f)))
+forming-gives-none h s (Deliver a b) f = refl
+forming-gives-none h s (Lose a b) f = refl
+
+-- a table whose history grew since lacks the group that comes next
+lacks-coming : (h d : History) (s : State) (i : ℕ) → NodeNumber i → StateOk h s → Grows h d → Lacks s (coming d i)
+lacks-coming h d s i n ok x =
+    record { in-nodes = λ j l u q. past (nodeAt s j .group .number) (ok .nodes j l u .counted) q; in-messages = all-past (s .queue) (ok .waiting) }
+  where
+    past : (g : ℕ) → counterOf g ≤ h .count (ownerOf g) → g ≡ coming d i → ⊥
+    past g l q =
+        let a : h .count (ownerOf g) ≤ d .count i = subst (λ k. h .count (ownerOf g) ≤ d .count k) (ap ownerOf q ∙ owner-of (d .count i + 1) i n) (x .more (ownerOf g)) in
+        omega (arith, ap counterOf q, counter-of (d .count i + 1) i n, a, l)
+
+    all-past : (q : List Message) → All (MessageOk h) q → Unsent (coming d i) q
+    all-past [] w = tt
+    all-past (m ∷ ms) w = (past (m .group .number) (w .0 .counted), all-past ms (w .1))
+
+-- an event that forms no group leaves no group that was nowhere in the table before
+source-held : (s : State) (e : Event) → Clear s e → (1 ≤ actor e) → (actor e ≤ s .n) → (g : ℕ) → Source s e g → Lacks s g → ⊥
+unfolding noneWaits
+source-held s (Crash i) c l u g q x = x .in-nodes i l u (sym q)
+source-held s (Recover i) c l u g q x = x .in-nodes i l u (sym q)
+source-held s (Check i) c l u g q x = x .in-nodes i l u (sym q)
+source-held s (Timeout i) c l u g q x = x .in-nodes i l u (sym q)
+source-held s (Tick i) c l u g q x = x .in-nodes i l u (sym q)
+source-held s (Expire i) c l u g q x = x .in-nodes i l u (sym q)
+source-held s (Finish i t) c l u g q x = x .in-nodes i l u (sym q)
+source-held s (Deliver a b) c l u g q x =
+    ⊎-elim (λ z. x .in-nodes b l u (sym z)) (λ z. oldest-held a b (s .queue) g (not-false _ (c .waiting)) (x .in-messages) (sym z)) q
+source-held s (Lose a b) c l u g q x = x .in-nodes b l u (sym q)
+
+effect-n : (s : State) (e : Event) → effect s e .n ≡ s .n
+unfolding effect
+effect-n s e = refl
+
+pub run-fixes : (n : ℕ) → n ≤ 16 → RunFixes n
+unfolding effect wrongActivity runFrom
+run-fixes n small =
+    record {
+      same-coordinator = λ es i j l h l′ h′ a a′ q.
+          let c = good es .state .nodes in
+          led-active (nodeAt (run n es) i .status) _ _ a (c i l (reach es h) .led) ∙ ap ownerOf q ∙ sym (led-active (nodeAt (run n es) j .status) _ _ a′ (c j l′ (reach es h′) .led));
+      same-task = λ es fs i l h e. growth es fs .lasts _ _ (rw e at (good es .state .nodes i l (reach es h) .settled));
+      numbered = λ es e u k q f. group-number es e u k f (accepted-is (run n es) e u k q);
+      fresh = λ es fs e u k q f. lacks-coming (history n es) (history n (es ++ fs)) (run n es) (actor e) (actor-number (es ++ fs) e (accepted-is (run n (es ++ fs)) e u k q .clear)) (good es .state) (growth es fs);
+      borrowed = λ es e u k q f j l h x. none-new es e u k f j l h (accepted-is (run n es) e u k q) x;
+      formed-once = λ es e u k q f. coming-not-formed (history n es) (actor e) (actor-number es e (accepted-is (run n es) e u k q .clear)) (good es .history);
+      given-once = λ es i t u k q. collects es i t (accepted-is (run n es) (Finish i t) u k q .clear) .undecided;
+      lasts = λ es fs g t e. growth es fs .lasts g t e;
+    }
+  where
+    good : (es : List Event) → Good (history n es) (run n es)
+    good es = good-run blank (start n) es (start-good n small)
+
+    -- every table of a run has n nodes
+    same-n : (s : State) (es : List Event) → s .n ≡ n → runFrom s es .n ≡ n
+    same-n s [] q = q
+    same-n s (e ∷ es) q = same-n (after s e) es (by-step (λ r. kept s r .n ≡ n) s e (λ x. q) (λ c. effect-n s e ∙ q))
+
+    reach : (es : List Event) {i : ℕ} → i ≤ n → i ≤ run n es .n
+    reach es h = omega (arith, same-n (start n) es refl, h)
+
+    event : (es : List Event) (e : Event) → Clear (run n es) e → EventOk (history n es) (run n es) e
+    event es e c = event-ok (history n es) (run n es) (good es .history) (good es .state) e c
+
+    actor-number : (es : List Event) (e : Event) → Clear (run n es) e → NodeNumber (actor e)
+    actor-number es e c = let x = event es e c in number (history n es) (run n es) (good es .history) (good es .state) (actor e) (x .low, x .high)
+
+    group-number : (es : List Event) (e : Event) (u : State) (k : Mark) → forms k ≡ true → Accepted (run n es) e u k → nodeAt u (actor e) .group .number ≡ coming (history n es) (actor e)
+    group-number es e u k f a =
+        let x = event es e (a .clear) in
+        let g : forms (reactionTo (run n es) e .mark) ≡ true = rw (← a .mark) f in
+        let m = mark-number (given (history n es) e) (actor e) _ (reactionTo (run n es) e .mark) g (x .reaction .mark) in
+        ap (λ (v : State). nodeAt v (actor e) .group .number) (a .state)
+        ∙ ap (λ (c : Node). c .group .number) (stored (history n es) (run n es) (good es .history) (good es .state) e x)
+        ∙ m
+        ∙ ap (λ (d : History). coming d (actor e)) (forming-gives-none (history n es) (run n es) e g)
+
+    none-new : (es : List Event) (e : Event) (u : State) (k : Mark) → forms k ≡ false → (j : ℕ) → 1 ≤ j → j ≤ n → Accepted (run n es) e u k → Lacks (run n es) (nodeAt u j .group .number) → ⊥
+    none-new es e u k f j l v a lacks =
+        let x = event es e (a .clear) in
+        by-number (eqb j (actor e)) refl x
+        (subst (λ (w : State). Lacks (run n es) (nodeAt w j .group .number)) (a .state) lacks)
+      where
+        s : State
+        s = run n es
+
+        by-number : (b : Bool) → eqb j (actor e) ≡ b → EventOk (history n es) s e → Lacks s (getD (set (s .nodes) (actor e - 1) (reactionTo s e .node)) (j - 1) startingNode .group .number) → ⊥
+        by-number true q x m =
+            let m′ = rw (eqb-true j (actor e) q, stored (history n es) s (good es .history) (good es .state) e x) at m in
+            source-held s e (a .clear) (x .low) (x .high) _ (group-source s e (rw (← a .mark) f)) m′
+        by-number false q x m =
+            let m′ = rw (getD-set-other (s .nodes) (actor e - 1) (j - 1) (reactionTo s e .node) startingNode (λ z. eqb-false j (actor e) q (omega (arith, x .low)))) at m in
+            m′ .in-nodes j l (reach es v) refl
+
+    collects : (es : List Event) (i : ℕ) (t : TaskNo) → Clear (run n es) (Finish i t) → Gathering (history n es) i (nodeAt (run n es) i .group .number)
+    collects es i t c =
+        let x = event es (Finish i t) c in
+        collecting-gathers (nodeAt (run n es) i .task .number) (nodeAt (run n es) i .activity) (not-false _ (c .activity)) (good es .state .nodes i (x .low) (x .high) .busy)
+
+    growth : (es fs : List Event) → Grows (history n es) (history n (es ++ fs))
+    growth es fs = rw (history-append blank (start n) es fs) (run-grows (history n es) (run n es) fs (good es))
