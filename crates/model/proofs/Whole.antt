@@ -9,18 +9,18 @@ use mathlib.Core.List.{List, [], _∷_, _++_}
 use lib.Dec.{eqb, leb}
 use lib.ListN.{length, getD, set, replicate, length-set, length-replicate, getD-replicate}
 use lib.Seq.{getD-set-same, getD-set-other}
-use borrow.Author.Tests.{eqb-true, eqb-false, leb-true, not-false}
+use borrow.Author.Tests.{eqb-true, eqb-false, not-false}
 use Rattle.model.specs.Pick.{pick, by-test}
 use Rattle.model.specs.Node.{isDown, ownerOf, counterOf}
-use Rattle.model.specs.Range.{isNode, isOther}
 use Rattle.model.specs.React.{react}
 use Rattle.model.specs.State.{State, startingNode, start, nodeAt, noMessage, goes, oldest, withoutOldest}
-use Rattle.model.specs.Step.{actor, reactionTo, remaining, sent, effect, wrongNumber, wrongStatus, wrongActivity, noneWaits, forms, Result, refused, accepted, step, kept, after, runFrom, run}
+use Rattle.model.specs.Step.{actor, reactionTo, remaining, sent, effect, wrongStatus, wrongActivity, noneWaits, forms, Result, refused, accepted, step, kept, after, runFrom, run}
 use Rattle.model.specs.History.{Entry, NotFormed, NoTask, Task, History, blank, newest, coming, marked, given, noted, historyFrom, history}
 use Rattle.model.specs.Claims.{isActive, Unsent, Lacks, RunFixes}
 use Rattle.model.proofs.Judged.{Clear, by-step, Accepted, accepted-is}
 use Rattle.model.proofs.Invariant.{NodeNumber, Led, Gathering, NodeOk, MessageOk, HistoryOk, OutgoingOk, MarkOk, ReactionOk, Extends, extends-refl, extends-trans, owner-of, counter-of, message-extends, node-extends, coming-not-formed, marked-extends, marked-ok, tasked-extends, tasked-ok}
-use Rattle.model.proofs.Local.{both-left, both-right, stays-ok, react-ok, collecting-gathers, finish-ok}
+use Rattle.model.proofs.Local.{stays-ok, react-ok, collecting-gathers, finish-ok}
+use Rattle.model.proofs.Numbers.{actor-in}
 use Rattle.model.proofs.Origin.{finish-mark, Source, group-source, oldest-held}
 use Rattle.model.specs.declared.Status.{Status}
 use Rattle.model.specs.declared.Status.the-variants.{Down, Election, Reorganization, Normal}
@@ -83,17 +83,6 @@ outgoing-ok h Nothing k = tt
 outgoing-ok h (Send m) k = (k, tt)
 
 module _ (h : History) (s : State) (hk : HistoryOk h) (ok : StateOk h s) where
-  numbered : (i : ℕ) → not (isNode (s .n) i) ≡ false → (1 ≤ i) × (i ≤ s .n)
-  numbered i e =
-      let b : isNode (s .n) i ≡ true = not-false _ e in
-      (leb-true 1 i (both-left _ _ b), leb-true i (s .n) (both-right (leb 1 i) _ b))
-
-  receiver : (a b : ℕ) → not (isNode (s .n) a && isOther (s .n) a b) ≡ false → (1 ≤ b) × (b ≤ s .n)
-  receiver a b e =
-      let x : isOther (s .n) a b ≡ true = both-right (isNode (s .n) a) _ (not-false _ e) in
-      let y : isNode (s .n) b ≡ true = both-left _ _ x in
-      (leb-true 1 b (both-left _ _ y), leb-true b (s .n) (both-right (leb 1 b) _ y))
-
   number : (i : ℕ) → (1 ≤ i) × (i ≤ s .n) → NodeNumber i
   number i p = record { low = p .0; high = le-trans (p .1) (ok .size) }
 
@@ -113,15 +102,15 @@ module _ (h : History) (s : State) (hk : HistoryOk h) (ok : StateOk h s) where
       }
 
   event-ok : (e : Event) → Clear s e → EventOk h s e
-  unfolding reactionTo remaining wrongNumber wrongStatus wrongActivity
-  event-ok (Crash i) c = let p = numbered i (c .number) in plain (Crash i) refl p (react-ok (number i p) (s .n) (nodeAt s i) Input.Crash (here i p) tt) (ok .waiting)
-  event-ok (Recover i) c = let p = numbered i (c .number) in plain (Recover i) refl p (react-ok (number i p) (s .n) (nodeAt s i) Input.Recover (here i p) tt) (ok .waiting)
-  event-ok (Check i) c = let p = numbered i (c .number) in plain (Check i) refl p (react-ok (number i p) (s .n) (nodeAt s i) Input.Check (here i p) tt) (ok .waiting)
-  event-ok (Timeout i) c = let p = numbered i (c .number) in plain (Timeout i) refl p (react-ok (number i p) (s .n) (nodeAt s i) Input.Timeout (here i p) tt) (ok .waiting)
-  event-ok (Tick i) c = let p = numbered i (c .number) in plain (Tick i) refl p (react-ok (number i p) (s .n) (nodeAt s i) Input.Tick (here i p) tt) (ok .waiting)
-  event-ok (Expire i) c = let p = numbered i (c .number) in plain (Expire i) refl p (react-ok (number i p) (s .n) (nodeAt s i) Input.Expire (here i p) tt) (ok .waiting)
+  unfolding reactionTo remaining wrongStatus wrongActivity
+  event-ok (Crash i) c = let p = actor-in (s .n) (Crash i) (c .number) in plain (Crash i) refl p (react-ok (number i p) (s .n) (nodeAt s i) Input.Crash (here i p) tt) (ok .waiting)
+  event-ok (Recover i) c = let p = actor-in (s .n) (Recover i) (c .number) in plain (Recover i) refl p (react-ok (number i p) (s .n) (nodeAt s i) Input.Recover (here i p) tt) (ok .waiting)
+  event-ok (Check i) c = let p = actor-in (s .n) (Check i) (c .number) in plain (Check i) refl p (react-ok (number i p) (s .n) (nodeAt s i) Input.Check (here i p) tt) (ok .waiting)
+  event-ok (Timeout i) c = let p = actor-in (s .n) (Timeout i) (c .number) in plain (Timeout i) refl p (react-ok (number i p) (s .n) (nodeAt s i) Input.Timeout (here i p) tt) (ok .waiting)
+  event-ok (Tick i) c = let p = actor-in (s .n) (Tick i) (c .number) in plain (Tick i) refl p (react-ok (number i p) (s .n) (nodeAt s i) Input.Tick (here i p) tt) (ok .waiting)
+  event-ok (Expire i) c = let p = actor-in (s .n) (Expire i) (c .number) in plain (Expire i) refl p (react-ok (number i p) (s .n) (nodeAt s i) Input.Expire (here i p) tt) (ok .waiting)
   event-ok (Finish i t) c =
-      let p = numbered i (c .number) in
+      let p = actor-in (s .n) (Finish i t) (c .number) in
       let g = collecting-gathers (nodeAt s i .task .number) (nodeAt s i .activity) (not-false _ (c .activity)) (here i p .busy) in
       record {
         low = p .0;
@@ -132,12 +121,12 @@ module _ (h : History) (s : State) (hk : HistoryOk h) (ok : StateOk h s) where
         stays = ok .waiting;
       }
   event-ok (Deliver a b) c =
-      let p = receiver a b (c .number) in
+      let p = actor-in (s .n) (Deliver a b) (c .number) in
       plain (Deliver a b) refl p
       (react-ok (number b p) (s .n) (nodeAt s b) (Input.Receive (oldest a b (s .queue))) (here b p) (c .status, all-oldest (MessageOk h) a b (s .queue) (none-ok h) (ok .waiting)))
       (all-without (MessageOk h) a b (s .queue) (ok .waiting))
   event-ok (Lose a b) c =
-      let p = receiver a b (c .number) in
+      let p = actor-in (s .n) (Lose a b) (c .number) in
       plain (Lose a b) refl p (stays-ok (number b p) (here b p)) (all-without (MessageOk h) a b (s .queue) (ok .waiting))
 
   module _ (e : Event) (x : EventOk h s e) where

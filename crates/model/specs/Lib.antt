@@ -10,3 +10,4 @@ pub mod Step
 pub mod History
 pub mod Answers
 pub mod Claims
+pub mod Cases

@@ -1,6 +1,6 @@
 -- The table of document 01 as a state: n nodes and the waiting messages in the order sent; and what the code's table means as one.
 use Prim.Native.Nat.{ℕ, zero, suc, _+_, _-_}
-use mathlib.Core.Bool.{Bool, true, false, _&&_, _||_}
+use mathlib.Core.Bool.{Bool, true, false, not, _&&_, _||_}
 use mathlib.Core.List.{List, [], _∷_, _++_}
 use lib.Dec.{eqb, leb}
 use lib.ListN.{length, getD, replicate}
@@ -35,6 +35,10 @@ startingNode = record {
 -- "Starting table: all Down and idle, every number 0, every set empty, no messages."
 abbrev pub start : ℕ → State
 start n = record { n = n; nodes = replicate n startingNode; queue = [] }
+
+-- 6: "n outside 1 to 16"
+abbrev pub wrongCount : ℕ → Bool
+wrongCount n = not (leb 1 n && leb n nodeLimit)
 
 -- the record of node i, where i is 1 to n
 abbrev pub nodeAt : State → ℕ → Node

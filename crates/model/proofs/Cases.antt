@@ -1,0 +1,45 @@
+-- The named cases, computed over the definitions.
+use mathlib.Core.Path.{_≡_, refl}
+use lib.Count.{onesIn, ones, leadingZeros, trailingZeros}
+use lib.Bits.{bitAnd, bitOr}
+use Rattle.model.specs.Pick.{pick}
+use Rattle.model.specs.Procedures.{inviteNext, merges, handNext, finishes, forwardNext, askedAll, askAt, askAfter}
+use Rattle.model.specs.React.{checked, timedOut, ticked, expired, resumed, onAreYouCoordinator, onAreYouThere, onInvitation, onAccept, onReady, onReply, received, react}
+use Rattle.model.specs.Range.{activityInRange, nodeInRange, messageInRange}
+use Rattle.model.specs.State.{waits, oldest, withoutOldest, every, inRange}
+use Rattle.model.specs.Step.{reactionTo, remaining, effect, wrongNumber, wrongTask, wrongStatus, wrongActivity, noneWaits, grounds, judged, step, runFrom}
+use Rattle.model.specs.History.{updated, historyFrom}
+use Rattle.model.specs.Cases.{NamedCases}
+
+pub named-cases : NamedCases
+unfolding pick onesIn ones leadingZeros trailingZeros bitAnd bitOr inviteNext merges handNext finishes forwardNext askedAll askAt askAfter checked timedOut ticked expired resumed onAreYouCoordinator onAreYouThere onInvitation onAccept onReady onReply received react activityInRange nodeInRange messageInRange waits oldest withoutOldest every inRange reactionTo remaining effect wrongNumber wrongTask wrongStatus wrongActivity noneWaits grounds judged step runFrom updated historyFrom
+named-cases =
+    record {
+      k1-low = refl;
+      k1-high = refl;
+      k1-first = refl;
+      k1-last = refl;
+      k2 = refl;
+      k3 = refl;
+      k4 = refl;
+      k5-passes = refl;
+      k5-ends = refl;
+      k6-collects = refl;
+      k6-refused = refl;
+      k6-passes = refl;
+      k7-waits = refl;
+      k7-first = refl;
+      k7-still = refl;
+      k7-second = refl;
+      k7-merges = refl;
+      k8 = refl;
+      k9 = refl;
+      k10-first = refl;
+      k10-second = refl;
+      k10-messages = refl;
+      k10-task = refl;
+      k11-refused = refl;
+      k11-passes = refl;
+      k12 = refl;
+      k13 = refl;
+    }
