@@ -5,4 +5,4 @@ pub mod Numbers
 pub mod Origin
 pub mod Whole
 pub mod Locality
-pub mod Cases
+pub mod NamedCases
