@@ -1,0 +1,145 @@
+// "A table is in range when ..": of one node's record and of one message, the definitions of model's specs/Range as functions.
+ghost use mathlib.Core.Path.{_≡_};
+ghost use Prim.Native.Nat.{_≤_};
+ghost use lib.Dec.{eqb};
+ghost use Rattle.model.specs.Node.{ownerOf};
+ghost use Rattle.model.specs.Range as spec;
+use crate::node;
+use model::Activity;
+use model::CallNo;
+use model::GroupNo;
+use model::Message;
+use model::Node;
+use model::TaskNo;
+
+pub fn is_node(n: u8, j: u8) -> bool
+    ensures { λ r. ⌜ r ≡ spec.isNode n j ⌝ }
+{
+    (1 <= j) & (j <= n)
+}
+
+pub fn is_other(n: u8, i: u8, j: u8) -> bool
+    ensures { λ r. ⌜ r ≡ spec.isOther n i j ⌝ }
+{
+    is_node(n, j) & !(j == i)
+}
+
+fn is_set_of_others(n: u8, i: u8, s: u16) -> bool
+    requires { ⌜ (1 ≤ i) × (i ≤ 16) × (n ≤ 16) ⌝ }
+    ensures { λ r. ⌜ r ≡ spec.isSetOfOthers n i s ⌝ }
+{
+    node_set::is_within(n, s) & !node_set::contains(s, i)
+}
+
+fn is_group(n: u8, g: GroupNo) -> bool
+    ensures { λ r. ⌜ r ≡ spec.isGroup n (g .number) ⌝ }
+{
+    (1 <= g.number / 16) & (g.number / 16 <= 1048575) & (g.number % 16 + 1 <= n as u32)
+}
+
+pub fn is_given_task(t: TaskNo) -> bool
+    ensures { λ r. ⌜ r ≡ spec.isGivenTask (t .number) ⌝ }
+{
+    (100 <= t.number) & (t.number <= 65535)
+}
+
+fn is_call(k: CallNo) -> bool
+    ensures { λ r. ⌜ r ≡ spec.isCall (k .number) ⌝ }
+{
+    (1 <= k.number) & (k.number <= 16777215)
+}
+
+// Whether `i` owns group `g`.
+fn is_owner(g: GroupNo, i: u8) -> bool
+    ensures { λ r. ⌜ r ≡ eqb (ownerOf (g .number)) i ⌝ }
+{
+    g.number % 16 + 1 == i as u32
+}
+
+fn activity_in_range(n: u8, i: u8, g: GroupNo, t: TaskNo, a: Activity) -> bool
+    requires { ⌜ (1 ≤ i) × (i ≤ 16) × (n ≤ 16) ⌝ }
+    ensures { λ r. ⌜ r ≡ spec.activityInRange n i (g .number) (t .number) a ⌝ }
+{
+    match a {
+        Activity::Idle => true,
+        Activity::Asking { asked, found } => is_other(n, i, asked) & is_set_of_others(n, i, found),
+        Activity::Waiting { ticks, found } => (1 <= ticks)
+            & (ticks <= 15)
+            & is_set_of_others(n, i, found),
+        Activity::Inviting { found, former, now } => {
+            is_set_of_others(n, i, found) & is_set_of_others(n, i, former) & is_other(n, i, now)
+        }
+        Activity::Collecting => true,
+        Activity::Handing { rest, now } => is_set_of_others(n, i, rest)
+            & is_other(n, i, now)
+            & is_given_task(t),
+        Activity::Contacting => true,
+        Activity::Forwarding {
+            rest,
+            now,
+            caller,
+            call,
+        } => {
+            is_set_of_others(n, i, rest)
+                & is_other(n, i, now)
+                & is_other(n, i, caller)
+                & is_call(call)
+                & !is_owner(g, i)
+        }
+        Activity::Accepting { caller, call } => is_other(n, i, caller)
+            & is_call(call)
+            & !is_owner(g, i),
+    }
+}
+
+fn is_group_or_none(n: u8, g: GroupNo) -> bool
+    ensures { λ r. ⌜ r ≡ spec.isGroupOrNone n (g .number) ⌝ }
+{
+    (g.number == 0) | is_group(n, g)
+}
+
+fn is_led(n: u8, down: bool, g: GroupNo, coordinator: u8) -> bool
+    ensures { λ r. ⌜ r ≡ spec.isLed n down (g .number) coordinator ⌝ }
+{
+    down | (is_group(n, g) & is_owner(g, coordinator))
+}
+
+pub fn node_in_range(n: u8, i: u8, c: Node) -> bool
+    requires { ⌜ (1 ≤ i) × (i ≤ 16) × (n ≤ 16) ⌝ }
+    ensures { λ r. ⌜ r ≡ spec.nodeInRange n i c ⌝ }
+{
+    let status = c.status;
+    let group = c.group;
+    let task = c.task;
+    let activity = c.activity;
+    let down = node::is_down(status);
+    (c.counter <= 1048575)
+        & is_group_or_none(n, group)
+        & (c.coordinator <= n)
+        & (c.task.number <= 65535)
+        & is_set_of_others(n, i, c.members)
+        & (c.last.number <= 16777215)
+        & is_led(n, down, group, c.coordinator)
+        & (!down | node::is_idle(activity))
+        & activity_in_range(n, i, group, task, activity)
+}
+
+fn carries_group(kind: u8) -> bool
+    ensures { λ r. ⌜ r ≡ spec.carriesGroup kind ⌝ }
+{
+    (2 <= kind) & (kind <= 5)
+}
+
+pub fn message_in_range(n: u8, m: Message) -> bool
+    ensures { λ r. ⌜ r ≡ spec.messageInRange n m ⌝ }
+{
+    let call = m.call;
+    let group = m.group;
+    let task = m.task;
+    is_node(n, m.sender)
+        & is_other(n, m.sender, m.receiver)
+        & ((1 <= m.kind) & (m.kind <= 6))
+        & is_call(call)
+        & (!carries_group(m.kind) | is_group(n, group))
+        & (!(m.kind == 5) | is_given_task(task))
+}
