@@ -6,3 +6,4 @@ pub mod Origin
 pub mod Whole
 pub mod Locality
 pub mod NamedCases
+pub mod Fields

@@ -1,0 +1,236 @@
+-- What a table in range gives: facts of each node's record, of each waiting message, and of the sizes.
+use Prim.Native.Nat.{ℕ, zero, suc, _+_, _-_, _<_, _≤_}
+use native.Mathlib.Omega.{arith}
+use mathlib.Core.Bool.{Bool, true, false, not, _&&_, _||_, true≢false}
+use mathlib.Core.Logic.{_⊎_, inl, inr, ⊎-elim}
+use mathlib.Core.Path.{_≡_, refl, sym, ap, subst}
+use mathlib.Core.List.{List, [], _∷_}
+use lib.Dec.{eqb, leb}
+use lib.ListN.{length, getD}
+use borrow.Author.Tests.{eqb-true, eqb-false, leb-true, not-true}
+use Rattle.node_set.specs.NodeSet.{has, within}
+use Rattle.model.specs.Pick.{by-test}
+use Rattle.model.specs.Limits.{nodeLimit, queueLimit, counterEnd, callEnd, taskLow, taskEnd}
+use Rattle.model.specs.Node.{isDown, isIdle, ownerOf, counterOf}
+use Rattle.model.specs.Range.{isNode, isOther, isSetOfOthers, isGroup, isGivenTask, isCall, isGroupOrNone, isLed, carriesGroup, activityInRange, nodeInRange, messageInRange}
+use Rattle.model.specs.State.{State, startingNode, nodeAt, goes, waits, oldest, every, inRange}
+use Rattle.model.proofs.Local.{both-left, both-right}
+use Rattle.model.specs.declared.Node.{Node}
+use Rattle.model.specs.declared.Message.{Message}
+
+-- ── tests of several parts ──
+pub either : (x y : Bool) → (x || y) ≡ true → (x ≡ true) ⊎ (y ≡ true)
+either true y e = inl refl
+either false y e = inr e
+
+-- where the first of two does not hold, the second does
+pub otherwise : (x y : Bool) → x ≡ false → (x || y) ≡ true → y ≡ true
+otherwise true y t e = absurd (true≢false t)
+otherwise false y t e = e
+
+-- x and all of ys, as `_&&_` puts them together
+abbrev pub joint : Bool → List Bool → Bool
+joint x [] = x
+joint x (y ∷ ys) = joint (x && y) ys
+
+abbrev pub Hold : List Bool → Type 0
+Hold [] = Unit {0}
+Hold (x ∷ xs) = (x ≡ true) × Hold xs
+
+pub parts : (x : Bool) (ys : List Bool) → joint x ys ≡ true → Hold (x ∷ ys)
+parts x [] e = (e, tt)
+parts x (y ∷ ys) e = let r = parts (x && y) ys e in (both-left x y (r .0), (both-right x y (r .0), r .1))
+
+-- ── numbers, sets and groups ──
+
+-- j is one of 1 to n
+pub record IsNode (n j : ℕ) : Type 0 where
+  pub low : 1 ≤ j
+  pub high : j ≤ n
+
+-- j is one of 1 to n, and not i
+pub record IsOther (n i j : ℕ) : Type 0 where
+  pub low : 1 ≤ j
+  pub high : j ≤ n
+  pub other : j ≡ i → ⊥
+
+-- s is a set of nodes of 1 to n, without i
+pub record IsSetOfOthers (n i s : ℕ) : Type 0 where
+  pub inside : within n s ≡ true
+  pub lacks : has s i ≡ false
+
+-- g is a group's number
+pub record IsGroup (n g : ℕ) : Type 0 where
+  pub low : 1 ≤ counterOf g
+  pub high : counterOf g ≤ counterEnd
+  pub owner : ownerOf g ≤ n
+
+pub record IsGivenTask (t : ℕ) : Type 0 where
+  pub low : taskLow ≤ t
+  pub high : t ≤ taskEnd
+
+pub record IsCall (k : ℕ) : Type 0 where
+  pub low : 1 ≤ k
+  pub high : k ≤ callEnd
+
+pub node-is : (n j : ℕ) → isNode n j ≡ true → IsNode n j
+node-is n j e = let r = parts (leb 1 j) (leb j n ∷ []) e in record { low = leb-true 1 j (r .0); high = leb-true j n (r .1 .0) }
+
+pub other-is : (n i j : ℕ) → isOther n i j ≡ true → IsOther n i j
+other-is n i j e =
+    let r = parts (isNode n j) (not (eqb j i) ∷ []) e in
+    let x = node-is n j (r .0) in
+    record { low = x .low; high = x .high; other = eqb-false j i (not-true _ (r .1 .0)) }
+
+pub set-is : (n i s : ℕ) → isSetOfOthers n i s ≡ true → IsSetOfOthers n i s
+set-is n i s e = let r = parts (within n s) (not (has s i) ∷ []) e in record { inside = r .0; lacks = not-true _ (r .1 .0) }
+
+pub group-is : (n g : ℕ) → isGroup n g ≡ true → IsGroup n g
+group-is n g e =
+    let r = parts (leb 1 (counterOf g)) (leb (counterOf g) counterEnd ∷ leb (ownerOf g) n ∷ []) e in
+    record { low = leb-true 1 _ (r .0); high = leb-true _ counterEnd (r .1 .0); owner = leb-true _ n (r .1 .1 .0) }
+
+pub given-is : (t : ℕ) → isGivenTask t ≡ true → IsGivenTask t
+given-is t e = let r = parts (leb taskLow t) (leb t taskEnd ∷ []) e in record { low = leb-true taskLow t (r .0); high = leb-true t taskEnd (r .1 .0) }
+
+pub call-is : (k : ℕ) → isCall k ≡ true → IsCall k
+call-is k e = let r = parts (leb 1 k) (leb k callEnd ∷ []) e in record { low = leb-true 1 k (r .0); high = leb-true k callEnd (r .1 .0) }
+
+-- ── a node ──
+pub record NodeFacts (n i : ℕ) (c : Node) : Type 0 where
+  pub counter : c .counter ≤ counterEnd
+  pub group : (c .group .number ≡ 0) ⊎ IsGroup n (c .group .number)
+  pub coordinator : c .coordinator ≤ n
+  pub task : c .task .number ≤ taskEnd
+  pub members : IsSetOfOthers n i (c .members)
+  pub last : c .last .number ≤ callEnd
+  -- of one that is not Down
+  pub grouped : isDown (c .status) ≡ false → IsGroup n (c .group .number)
+  pub led : isDown (c .status) ≡ false → ownerOf (c .group .number) ≡ c .coordinator
+  -- of one that is Down
+  pub idle : isDown (c .status) ≡ true → isIdle (c .activity) ≡ true
+  pub activity : activityInRange n i (c .group .number) (c .task .number) (c .activity) ≡ true
+
+-- the tests of a node after the first
+abbrev pub nodeTests : ℕ → ℕ → Node → List Bool
+nodeTests n i c =
+    isGroupOrNone n (c .group .number)
+    ∷ leb (c .coordinator) n
+    ∷ leb (c .task .number) taskEnd
+    ∷ isSetOfOthers n i (c .members)
+    ∷ leb (c .last .number) callEnd
+    ∷ isLed n (isDown (c .status)) (c .group .number) (c .coordinator)
+    ∷ (not (isDown (c .status)) || isIdle (c .activity))
+    ∷ activityInRange n i (c .group .number) (c .task .number) (c .activity)
+    ∷ []
+
+pub node-facts : (n i : ℕ) (c : Node) → nodeInRange n i c ≡ true → NodeFacts n i c
+unfolding nodeInRange
+node-facts n i c e =
+    record {
+      counter = leb-true _ counterEnd (r .0);
+      group = ⊎-elim (λ x. inl (eqb-true _ 0 x)) (λ x. inr (group-is n _ x)) (either (eqb (c .group .number) 0) _ (r .1 .0));
+      coordinator = leb-true _ n (r .1 .1 .0);
+      task = leb-true _ taskEnd (r .1 .1 .1 .0);
+      members = set-is n i _ (r .1 .1 .1 .1 .0);
+      last = leb-true _ callEnd (r .1 .1 .1 .1 .1 .0);
+      grouped = λ u. group-is n _ (led u .0);
+      led = λ u. eqb-true _ _ (led u .1 .0);
+      idle = λ d. otherwise (not (isDown (c .status))) _ (ap not d) (r .1 .1 .1 .1 .1 .1 .1 .0);
+      activity = r .1 .1 .1 .1 .1 .1 .1 .1 .0;
+    }
+  where
+    r : Hold (leb (c .counter) counterEnd ∷ nodeTests n i c)
+    r = parts (leb (c .counter) counterEnd) (nodeTests n i c) e
+
+    led : isDown (c .status) ≡ false → Hold (isGroup n (c .group .number) ∷ eqb (ownerOf (c .group .number)) (c .coordinator) ∷ [])
+    led u = parts (isGroup n (c .group .number)) (eqb (ownerOf (c .group .number)) (c .coordinator) ∷ []) (otherwise (isDown (c .status)) _ u (r .1 .1 .1 .1 .1 .1 .0))
+
+-- ── a message ──
+pub record MessageFacts (n : ℕ) (m : Message) : Type 0 where
+  pub sender : IsNode n (m .sender)
+  pub receiver : IsOther n (m .sender) (m .receiver)
+  pub kind-low : 1 ≤ m .kind
+  pub kind-high : m .kind ≤ 6
+  pub call : IsCall (m .call .number)
+  pub group : carriesGroup (m .kind) ≡ true → IsGroup n (m .group .number)
+  pub task : eqb (m .kind) 5 ≡ true → IsGivenTask (m .task .number)
+
+-- the tests of a message after the first
+abbrev pub messageTests : ℕ → Message → List Bool
+messageTests n m =
+    isOther n (m .sender) (m .receiver)
+    ∷ (leb 1 (m .kind) && leb (m .kind) 6)
+    ∷ isCall (m .call .number)
+    ∷ (not (carriesGroup (m .kind)) || isGroup n (m .group .number))
+    ∷ (not (eqb (m .kind) 5) || isGivenTask (m .task .number))
+    ∷ []
+
+pub message-facts : (n : ℕ) (m : Message) → messageInRange n m ≡ true → MessageFacts n m
+unfolding messageInRange
+message-facts n m e =
+    let r = parts (isNode n (m .sender)) (messageTests n m) e in
+    let k = parts (leb 1 (m .kind)) (leb (m .kind) 6 ∷ []) (r .1 .1 .0) in
+    record {
+      sender = node-is n _ (r .0);
+      receiver = other-is n _ _ (r .1 .0);
+      kind-low = leb-true 1 _ (k .0);
+      kind-high = leb-true _ 6 (k .1 .0);
+      call = call-is _ (r .1 .1 .1 .0);
+      group = λ c. group-is n _ (otherwise (not (carriesGroup (m .kind))) _ (ap not c) (r .1 .1 .1 .1 .0));
+      task = λ c. given-is _ (otherwise (not (eqb (m .kind) 5)) _ (ap not c) (r .1 .1 .1 .1 .1 .0));
+    }
+
+-- ── a table ──
+pub every-at : {A : Type 0} (f : ℕ → A → Bool) (k : ℕ) (l : List A) (i : ℕ) (d : A) → every f k l ≡ true → i < length l → f (k + i) (getD l i d) ≡ true
+unfolding every
+every-at f k [] i d e h = absurd (omega arith)
+every-at f k (x ∷ l) zero d e h = subst (λ (j : ℕ). f j x ≡ true) (omega arith) (both-left (f k x) _ e)
+every-at f k (x ∷ l) (suc i) d e h = subst (λ (j : ℕ). f j (getD l i d) ≡ true) (omega arith) (every-at f (k + 1) l i d (both-right (f k x) _ e) (omega arith))
+
+-- the tests of a table after the first
+abbrev pub tableTests : State → List Bool
+tableTests s =
+    leb (s .n) nodeLimit
+    ∷ eqb (length (s .nodes)) (s .n)
+    ∷ leb (length (s .queue)) queueLimit
+    ∷ every (nodeInRange (s .n)) 1 (s .nodes)
+    ∷ every (λ k. messageInRange (s .n)) 1 (s .queue)
+    ∷ []
+
+table-parts : (s : State) → inRange s ≡ true → Hold (leb 1 (s .n) ∷ tableTests s)
+unfolding inRange
+table-parts s e = parts (leb 1 (s .n)) (tableTests s) e
+
+pub in-range-nodes : (s : State) → inRange s ≡ true → every (nodeInRange (s .n)) 1 (s .nodes) ≡ true
+in-range-nodes s e = table-parts s e .1 .1 .1 .1 .0
+
+pub in-range-queue : (s : State) → inRange s ≡ true → every (λ k. messageInRange (s .n)) 1 (s .queue) ≡ true
+in-range-queue s e = table-parts s e .1 .1 .1 .1 .1 .0
+
+pub in-range-size : (s : State) → inRange s ≡ true → (1 ≤ s .n) × (s .n ≤ 16) × (length (s .nodes) ≡ s .n) × (length (s .queue) ≤ 64)
+in-range-size s e =
+    let r = table-parts s e in
+    (leb-true 1 (s .n) (r .0), leb-true (s .n) 16 (r .1 .0), eqb-true _ _ (r .1 .1 .0), leb-true _ 64 (r .1 .1 .1 .0))
+
+pub in-range-node : (s : State) (j : ℕ) → inRange s ≡ true → 1 ≤ j → j ≤ s .n → nodeInRange (s .n) j (nodeAt s j) ≡ true
+in-range-node s j e l h =
+    subst (λ (k : ℕ). nodeInRange (s .n) k (nodeAt s j) ≡ true) (omega arith)
+    (every-at (nodeInRange (s .n)) 1 (s .nodes) (j - 1) startingNode (in-range-nodes s e) (omega (arith, in-range-size s e .2)))
+
+-- what holds of every message of the queue holds of the oldest from a to b, where one waits
+pub every-oldest : (f : Message → Bool) (a b k : ℕ) (q : List Message) → every (λ j. f) k q ≡ true → waits a b q ≡ true → f (oldest a b q) ≡ true
+unfolding every waits oldest
+every-oldest f a b k [] e w = absurd (true≢false (sym w))
+every-oldest f a b k (m ∷ ms) e w =
+    by-test (λ (x : Message). f x ≡ true) (λ _. both-left (f m) _ e)
+    (λ t. every-oldest f a b (k + 1) ms (both-right (f m) _ e) (otherwise (goes a b m) _ t w))
+
+pub oldest-goes : (a b : ℕ) (q : List Message) → waits a b q ≡ true → goes a b (oldest a b q) ≡ true
+unfolding waits oldest
+oldest-goes a b [] w = absurd (true≢false (sym w))
+oldest-goes a b (m ∷ ms) w =
+    by-test (λ (x : Message). goes a b x ≡ true) (λ t. t) (λ t. oldest-goes a b ms (otherwise (goes a b m) _ t w))
+
+pub in-range-oldest : (s : State) (a b : ℕ) → inRange s ≡ true → waits a b (s .queue) ≡ true → messageInRange (s .n) (oldest a b (s .queue)) ≡ true
+in-range-oldest s a b e w = every-oldest (messageInRange (s .n)) a b 1 (s .queue) (in-range-queue s e) w
