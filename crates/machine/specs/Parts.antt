@@ -1,0 +1,130 @@
+-- What the inner functions compute: parts of the model's step, over one node, one message and numbers, or over the table's arrays.
+use Prim.Native.Nat.{ℕ, suc, _+_, _≤_}
+use mathlib.Core.Bool.{Bool, true, false, not, _&&_}
+use mathlib.Core.List.{List, [], _∷_, _++_}
+use lib.Dec.{eqb}
+use lib.ListN.{length, take, drop, set}
+use Rattle.model.specs.Pick.{pick}
+use Rattle.model.specs.Limits.{nodeLimit, queueLimit, counterEnd, callEnd}
+use Rattle.model.specs.Procedures.{stays}
+use Rattle.model.specs.React.{react}
+use Rattle.model.specs.State.{State, goes}
+use Rattle.model.specs.Step.{wrongNumber, wrongTask, wrongStatus, wrongActivity, forms, isCalling, isSending, sent, Ground, ground}
+use Rattle.model.specs.declared.Node.{Node}
+use Rattle.model.specs.declared.Message.{Message}
+use Rattle.model.specs.declared.Reaction.{Reaction}
+use Rattle.model.specs.declared.Answer.{Answer}
+use Rattle.model.specs.declared.Answer.the-variants.{Accepted, NotInRange, WrongNumber, WrongTask, WrongStatus, WrongActivity, NoMessage, CounterAtEnd, CallsAtEnd, QueueFull}
+use Rattle.model.specs.declared.Input.the-variants as Input
+use Rattle.model.specs.declared.Event.{Event}
+use Rattle.model.specs.declared.Event.the-variants.{Crash, Recover, Check, Timeout, Tick, Expire, Finish, Deliver, Lose}
+
+-- ── the queue by places ──
+
+-- where the oldest message from a to b stands, or the queue's length
+unfoldable pub place : ℕ → ℕ → List Message → ℕ
+place a b [] = 0
+place a b (m ∷ ms) = pick (goes a b m) 0 (place a b ms + 1)
+
+-- a list without its element at k
+abbrev pub without : {A : Type 0} → ℕ → List A → List A
+without k q = take k q ++ drop (k + 1) q
+
+-- whether the event takes a message out, and from whom
+abbrev pub takes : Event → Bool
+takes (Crash i) = false
+takes (Recover i) = false
+takes (Check i) = false
+takes (Timeout i) = false
+takes (Tick i) = false
+takes (Expire i) = false
+takes (Finish i t) = false
+takes (Deliver a b) = true
+takes (Lose a b) = true
+
+abbrev pub sender : Event → ℕ
+sender (Crash i) = 0
+sender (Recover i) = 0
+sender (Check i) = 0
+sender (Timeout i) = 0
+sender (Tick i) = 0
+sender (Expire i) = 0
+sender (Finish i t) = 0
+sender (Deliver a b) = a
+sender (Lose a b) = a
+
+-- where the event's message stands; the queue's length for an event that takes none
+abbrev pub placeFor : List Message → Event → ℕ
+placeFor q (Crash i) = length q
+placeFor q (Recover i) = length q
+placeFor q (Check i) = length q
+placeFor q (Timeout i) = length q
+placeFor q (Tick i) = length q
+placeFor q (Expire i) = length q
+placeFor q (Finish i t) = length q
+placeFor q (Deliver a b) = place a b q
+placeFor q (Lose a b) = place a b q
+
+-- the state with node i's record c, the message at k out, and what is sent in
+abbrev pub stored : State → ℕ → ℕ → Reaction → State
+stored s k at r = record { n = s .n; nodes = set (s .nodes) at (r .node); queue = without k (s .queue) ++ sent (r .outgoing) }
+
+-- ── the grounds in three groups ──
+
+-- the number of the first ground that applies, or 0
+unfoldable pub first : List Ground → ℕ
+first [] = 0
+first (g ∷ gs) = pick (g .applies) (g .number) (first gs)
+
+-- by the event's numbers
+abbrev pub numberGrounds : ℕ → Event → List Ground
+numberGrounds n e = ground 7 (wrongNumber n e) ∷ ground 8 (wrongTask e) ∷ []
+
+-- by the state; found: a message for the event waits
+abbrev pub stateGrounds : Node → Event → Bool → List Ground
+stateGrounds c e found =
+    ground 9 (wrongStatus (c .status) e) ∷ ground 10 (wrongActivity (c .activity) e) ∷ ground 11 (takes e && not found) ∷ []
+
+-- by the ends of the ranges; left: how many messages wait once the event's own is out
+abbrev pub endGrounds : Node → Reaction → ℕ → List Ground
+endGrounds c r left =
+    ground 12 (forms (r .mark) && eqb (c .counter) counterEnd)
+    ∷ ground 13 (isCalling (r .outgoing) && eqb (c .last .number) callEnd)
+    ∷ ground 14 (isSending (r .outgoing) && eqb left queueLimit)
+    ∷ []
+
+abbrev pub isAccepted : Answer → Bool
+isAccepted Accepted = true
+isAccepted NotInRange = false
+isAccepted WrongNumber = false
+isAccepted WrongTask = false
+isAccepted WrongStatus = false
+isAccepted WrongActivity = false
+isAccepted NoMessage = false
+isAccepted CounterAtEnd = false
+isAccepted CallsAtEnd = false
+isAccepted QueueFull = false
+
+-- ── the reaction to an event, of the node's record c and the message m ──
+unfoldable pub reactsTo : ℕ → Node → Message → Event → Reaction
+reactsTo n c m (Crash i) = react n i c Input.Crash
+reactsTo n c m (Recover i) = react n i c Input.Recover
+reactsTo n c m (Check i) = react n i c Input.Check
+reactsTo n c m (Timeout i) = react n i c Input.Timeout
+reactsTo n c m (Tick i) = react n i c Input.Tick
+reactsTo n c m (Expire i) = react n i c Input.Expire
+reactsTo n c m (Finish i t) = react n i c (Input.Finish t)
+reactsTo n c m (Deliver a b) = react n b c (Input.Receive m)
+reactsTo n c m (Lose a b) = stays c
+
+-- the message's sender can be put into a set, where the event acts on the message
+abbrev pub FitsMessage : Message → Event → Type 0
+FitsMessage m (Crash i) = Unit {0}
+FitsMessage m (Recover i) = Unit {0}
+FitsMessage m (Check i) = Unit {0}
+FitsMessage m (Timeout i) = Unit {0}
+FitsMessage m (Tick i) = Unit {0}
+FitsMessage m (Expire i) = Unit {0}
+FitsMessage m (Finish i t) = Unit {0}
+FitsMessage m (Deliver a b) = (1 ≤ m .sender) × (m .sender ≤ nodeLimit)
+FitsMessage m (Lose a b) = Unit {0}

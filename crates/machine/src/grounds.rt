@@ -1,0 +1,220 @@
+// The grounds of an event, and what its node does: functions over one node, one message and numbers.
+ghost use mathlib.Core.Path.{_≡_};
+ghost use mathlib.Core.Bool.{Bool, not, _&&_};
+ghost use Prim.Native.Nat.{ℕ, _≤_};
+ghost use Rattle.model.specs.Range.{isNode, isOther};
+ghost use Rattle.model.specs.Answers.{answerNumber};
+ghost use Rattle.model.specs.Step as spec;
+ghost use Rattle.machine.specs.Parts as parts;
+ghost use Rattle.node_step.specs.Fits.{Fits};
+use model::Activity;
+use model::Answer;
+use model::Event;
+use model::Input;
+use model::Message;
+use model::Node;
+use model::Reaction;
+use model::Status;
+
+pub fn actor(e: Event) -> u8
+    ensures { λ r. ⌜ r ≡ spec.actor e ⌝ }
+{
+    match e {
+        Event::Crash(i) => i,
+        Event::Recover(i) => i,
+        Event::Check(i) => i,
+        Event::Timeout(i) => i,
+        Event::Tick(i) => i,
+        Event::Expire(i) => i,
+        Event::Finish(i, _) => i,
+        Event::Deliver(_, b) => b,
+        Event::Lose(_, b) => b,
+    }
+}
+
+pub fn takes(e: Event) -> bool
+    ensures { λ r. ⌜ r ≡ parts.takes e ⌝ }
+{
+    match e {
+        Event::Crash(_) => false,
+        Event::Recover(_) => false,
+        Event::Check(_) => false,
+        Event::Timeout(_) => false,
+        Event::Tick(_) => false,
+        Event::Expire(_) => false,
+        Event::Finish(_, _) => false,
+        Event::Deliver(_, _) => true,
+        Event::Lose(_, _) => true,
+    }
+}
+
+pub fn sender(e: Event) -> u8
+    ensures { λ r. ⌜ r ≡ parts.sender e ⌝ }
+{
+    match e {
+        Event::Crash(_) => 0,
+        Event::Recover(_) => 0,
+        Event::Check(_) => 0,
+        Event::Timeout(_) => 0,
+        Event::Tick(_) => 0,
+        Event::Expire(_) => 0,
+        Event::Finish(_, _) => 0,
+        Event::Deliver(a, _) => a,
+        Event::Lose(a, _) => a,
+    }
+}
+
+pub fn is_pair(n: u8, a: u8, b: u8) -> bool
+    ensures { λ r. ⌜ r ≡ isNode n a && isOther n a b ⌝ }
+{
+    node_step::is_node(n, a) & node_step::is_other(n, a, b)
+}
+
+pub fn wrong_number(n: u8, e: Event) -> bool
+    ensures { λ r. ⌜ r ≡ spec.wrongNumber n e ⌝ }
+{
+    match e {
+        Event::Crash(i) => !node_step::is_node(n, i),
+        Event::Recover(i) => !node_step::is_node(n, i),
+        Event::Check(i) => !node_step::is_node(n, i),
+        Event::Timeout(i) => !node_step::is_node(n, i),
+        Event::Tick(i) => !node_step::is_node(n, i),
+        Event::Expire(i) => !node_step::is_node(n, i),
+        Event::Finish(i, _) => !node_step::is_node(n, i),
+        Event::Deliver(a, b) => !is_pair(n, a, b),
+        Event::Lose(a, b) => !is_pair(n, a, b),
+    }
+}
+
+pub fn wrong_task(e: Event) -> bool
+    ensures { λ r. ⌜ r ≡ spec.wrongTask e ⌝ }
+{
+    match e {
+        Event::Crash(_) => false,
+        Event::Recover(_) => false,
+        Event::Check(_) => false,
+        Event::Timeout(_) => false,
+        Event::Tick(_) => false,
+        Event::Expire(_) => false,
+        Event::Finish(_, t) => !node_step::is_given_task(t.number),
+        Event::Deliver(_, _) => false,
+        Event::Lose(_, _) => false,
+    }
+}
+
+pub fn wrong_status(s: Status, e: Event) -> bool
+    ensures { λ r. ⌜ r ≡ spec.wrongStatus s e ⌝ }
+{
+    let down = node_step::is_down(s);
+    match e {
+        Event::Crash(_) => down,
+        Event::Recover(_) => !down,
+        Event::Check(_) => down,
+        Event::Timeout(_) => down,
+        Event::Tick(_) => down,
+        Event::Expire(_) => down,
+        Event::Finish(_, _) => down,
+        Event::Deliver(_, _) => down,
+        Event::Lose(_, _) => false,
+    }
+}
+
+pub fn wrong_activity(a: Activity, e: Event) -> bool
+    ensures { λ r. ⌜ r ≡ spec.wrongActivity a e ⌝ }
+{
+    match e {
+        Event::Crash(_) => false,
+        Event::Recover(_) => false,
+        Event::Check(_) => !node_step::is_idle(a),
+        Event::Timeout(_) => !node_step::is_idle(a),
+        Event::Tick(_) => !node_step::is_waiting(a),
+        Event::Expire(_) => !node_step::has_open_call(a),
+        Event::Finish(_, _) => !node_step::is_collecting(a),
+        Event::Deliver(_, _) => false,
+        Event::Lose(_, _) => false,
+    }
+}
+
+// Grounds 7 and 8.
+pub fn number_answer(n: u8, e: Event) -> Answer
+    ensures { λ r. ⌜ answerNumber r ≡ parts.first (parts.numberGrounds n e) ⌝ }
+{
+    if wrong_number(n, e) {
+        return Answer::WrongNumber;
+    }
+    if wrong_task(e) {
+        return Answer::WrongTask;
+    }
+    Answer::Accepted
+}
+
+// Grounds 9 to 11; found: a message for the event waits.
+pub fn state_answer(c: Node, e: Event, found: bool) -> Answer
+    ensures { λ r. ⌜ answerNumber r ≡ parts.first (parts.stateGrounds c e found) ⌝ }
+{
+    let status = c.status;
+    let activity = c.activity;
+    if wrong_status(status, e) {
+        return Answer::WrongStatus;
+    }
+    if wrong_activity(activity, e) {
+        return Answer::WrongActivity;
+    }
+    if takes(e) & !found {
+        return Answer::NoMessage;
+    }
+    Answer::Accepted
+}
+
+// Grounds 12 to 14; left: how many messages wait once the event's own is out.
+pub fn end_answer(c: Node, r: Reaction, left: u8) -> Answer
+    ensures { λ a. ⌜ answerNumber a ≡ parts.first (parts.endGrounds c r left) ⌝ }
+{
+    let mark = r.mark;
+    let outgoing = r.outgoing;
+    if node_step::forms(mark) & (c.counter == 1048575) {
+        return Answer::CounterAtEnd;
+    }
+    if node_step::is_calling(outgoing) & (c.last.number == 16777215) {
+        return Answer::CallsAtEnd;
+    }
+    if node_step::is_sending(outgoing) & (left == 64) {
+        return Answer::QueueFull;
+    }
+    Answer::Accepted
+}
+
+pub fn is_accepted(a: Answer) -> bool
+    ensures { λ r. ⌜ r ≡ parts.isAccepted a ⌝ }
+{
+    match a {
+        Answer::Accepted => true,
+        Answer::NotInRange => false,
+        Answer::WrongNumber => false,
+        Answer::WrongTask => false,
+        Answer::WrongStatus => false,
+        Answer::WrongActivity => false,
+        Answer::NoMessage => false,
+        Answer::CounterAtEnd => false,
+        Answer::CallsAtEnd => false,
+        Answer::QueueFull => false,
+    }
+}
+
+// What the event's node does; c is its record, and m the message that a delivery acts on.
+pub fn reacts_to(n: u8, c: Node, m: Message, e: Event) -> Reaction
+    requires { ⌜ Fits (spec.actor e) c × parts.FitsMessage m e ⌝ }
+    ensures { λ r. ⌜ r ≡ parts.reactsTo n c m e ⌝ }
+{
+    match e {
+        Event::Crash(i) => node_step::react(n, i, c, Input::Crash),
+        Event::Recover(i) => node_step::react(n, i, c, Input::Recover),
+        Event::Check(i) => node_step::react(n, i, c, Input::Check),
+        Event::Timeout(i) => node_step::react(n, i, c, Input::Timeout),
+        Event::Tick(i) => node_step::react(n, i, c, Input::Tick),
+        Event::Expire(i) => node_step::react(n, i, c, Input::Expire),
+        Event::Finish(i, t) => node_step::react(n, i, c, Input::Finish(t)),
+        Event::Deliver(_, b) => node_step::react(n, b, c, Input::Receive(m)),
+        Event::Lose(_, _) => node_step::procedures::stays(c),
+    }
+}

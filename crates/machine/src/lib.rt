@@ -1,0 +1,13 @@
+// The machine over a table, by value.
+pub mod grounds;
+use model::Table;
+
+pub enum StartAnswer {
+    Started,
+    WrongCount,
+}
+
+pub struct Start {
+    pub answer: StartAnswer,
+    pub table: Table,
+}
