@@ -1,8 +1,15 @@
 // One node: the definitions of model's specs/Node as functions.
 ghost use mathlib.Core.Path.{_≡_};
+ghost use Prim.Native.Nat.{_+_, _≤_};
+ghost use Rattle.model.specs.Limits.{counterEnd, callEnd};
 ghost use Rattle.model.specs.Node as spec;
 use model::Activity;
+use model::CallNo;
+use model::GroupNo;
+use model::Message;
+use model::Node;
 use model::Status;
+use model::TaskNo;
 
 pub fn is_down(s: Status) -> bool
     ensures { λ r. ⌜ r ≡ spec.isDown s ⌝ }
@@ -145,5 +152,182 @@ pub fn has_open_call(a: Activity) -> bool
             call: _,
         } => true,
         Activity::Accepting { caller: _, call: _ } => true,
+    }
+}
+
+// The first group of `owner` after those that `counter` counts.
+pub fn new_group(counter: u32, owner: u8) -> GroupNo
+    requires { ⌜ (1 ≤ owner) × (counter ≤ counterEnd) ⌝ }
+    ensures { λ r. ⌜ r ≡ record { number = spec.groupOf (counter + 1) owner } ⌝ }
+{
+    GroupNo {
+        number: (counter + 1) * 16 + (owner - 1) as u32,
+    }
+}
+
+pub fn owner_of(g: GroupNo) -> u8
+    ensures { λ r. ⌜ r ≡ spec.ownerOf (g .number) ⌝ }
+{
+    (g.number % 16 + 1) as u8
+}
+
+// The number of the call that node `c` makes next.
+pub fn next_call(c: Node) -> CallNo
+    requires { ⌜ c .last .number ≤ callEnd ⌝ }
+    ensures { λ r. ⌜ r ≡ record { number = c .last .number + 1 } ⌝ }
+{
+    CallNo {
+        number: c.last.number + 1,
+    }
+}
+
+pub fn turned(c: Node, a: Activity) -> Node
+    ensures { λ r. ⌜ r ≡ spec.turned c a ⌝ }
+{
+    Node { activity: a, ..c }
+}
+
+pub fn calling(c: Node, a: Activity) -> Node
+    requires { ⌜ c .last .number ≤ callEnd ⌝ }
+    ensures { λ r. ⌜ r ≡ spec.calling c a ⌝ }
+{
+    let last = next_call(c);
+    Node {
+        last: last,
+        activity: a,
+        ..c
+    }
+}
+
+pub fn settled(c: Node, s: Status) -> Node
+    ensures { λ r. ⌜ r ≡ spec.settled c s ⌝ }
+{
+    Node {
+        status: s,
+        activity: Activity::Idle,
+        ..c
+    }
+}
+
+pub fn tasked(c: Node, s: Status, t: TaskNo) -> Node
+    ensures { λ r. ⌜ r ≡ spec.tasked c s t ⌝ }
+{
+    Node {
+        status: s,
+        task: t,
+        ..c
+    }
+}
+
+pub fn joined(c: Node, j: u8) -> Node
+    requires { ⌜ (1 ≤ j) × (j ≤ 16) ⌝ }
+    ensures { λ r. ⌜ r ≡ spec.joined c j ⌝ }
+{
+    let members = node_set::insert(c.members, j);
+    Node {
+        members: members,
+        ..c
+    }
+}
+
+pub fn recovered(i: u8, c: Node) -> Node
+    requires { ⌜ (1 ≤ i) × (c .counter ≤ counterEnd) ⌝ }
+    ensures { λ r. ⌜ r ≡ spec.recovered i c ⌝ }
+{
+    let group = new_group(c.counter, i);
+    Node {
+        status: Status::Normal,
+        counter: c.counter + 1,
+        group: group,
+        coordinator: i,
+        task: TaskNo { number: i as u16 },
+        members: 0,
+        activity: Activity::Idle,
+        ..c
+    }
+}
+
+pub fn merged(i: u8, c: Node) -> Node
+    requires { ⌜ (1 ≤ i) × (c .counter ≤ counterEnd) ⌝ }
+    ensures { λ r. ⌜ r ≡ spec.merged i c ⌝ }
+{
+    let group = new_group(c.counter, i);
+    Node {
+        status: Status::Election,
+        counter: c.counter + 1,
+        group: group,
+        coordinator: i,
+        members: 0,
+        activity: Activity::Idle,
+        ..c
+    }
+}
+
+pub fn invited(c: Node, g: GroupNo) -> Node
+    ensures { λ r. ⌜ r ≡ spec.invited c g ⌝ }
+{
+    let owner = owner_of(g);
+    Node {
+        status: Status::Election,
+        group: g,
+        coordinator: owner,
+        activity: Activity::Idle,
+        ..c
+    }
+}
+
+pub fn asks(i: u8, r: u8, k: CallNo) -> Message
+    ensures { λ m. ⌜ m ≡ spec.asks i r k ⌝ }
+{
+    Message {
+        sender: i,
+        receiver: r,
+        kind: 1,
+        call: k,
+        group: GroupNo { number: 0 },
+        task: TaskNo { number: 0 },
+        yes: false,
+    }
+}
+
+pub fn calls(i: u8, kind: u8, r: u8, k: CallNo, g: GroupNo) -> Message
+    ensures { λ m. ⌜ m ≡ spec.calls i kind r k g ⌝ }
+{
+    Message {
+        sender: i,
+        receiver: r,
+        kind: kind,
+        call: k,
+        group: g,
+        task: TaskNo { number: 0 },
+        yes: false,
+    }
+}
+
+pub fn readies(i: u8, r: u8, k: CallNo, g: GroupNo, t: TaskNo) -> Message
+    ensures { λ m. ⌜ m ≡ spec.readies i r k g t ⌝ }
+{
+    Message {
+        sender: i,
+        receiver: r,
+        kind: 5,
+        call: k,
+        group: g,
+        task: t,
+        yes: false,
+    }
+}
+
+pub fn replies(i: u8, r: u8, k: CallNo, y: bool) -> Message
+    ensures { λ m. ⌜ m ≡ spec.replies i r k y ⌝ }
+{
+    Message {
+        sender: i,
+        receiver: r,
+        kind: 6,
+        call: k,
+        group: GroupNo { number: 0 },
+        task: TaskNo { number: 0 },
+        yes: y,
     }
 }

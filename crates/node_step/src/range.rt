@@ -1,8 +1,6 @@
 // "A table is in range when ..": of one node's record and of one message, the definitions of model's specs/Range as functions.
 ghost use mathlib.Core.Path.{_≡_};
 ghost use Prim.Native.Nat.{_≤_};
-ghost use lib.Dec.{eqb};
-ghost use Rattle.model.specs.Node.{ownerOf};
 ghost use Rattle.model.specs.Range as spec;
 use crate::node;
 use model::Activity;
@@ -34,7 +32,7 @@ fn is_set_of_others(n: u8, i: u8, s: u16) -> bool
 fn is_group(n: u8, g: GroupNo) -> bool
     ensures { λ r. ⌜ r ≡ spec.isGroup n (g .number) ⌝ }
 {
-    (1 <= g.number / 16) & (g.number / 16 <= 1048575) & (g.number % 16 + 1 <= n as u32)
+    (1 <= g.number / 16) & (g.number / 16 <= 1048575) & (node::owner_of(g) <= n)
 }
 
 pub fn is_given_task(t: TaskNo) -> bool
@@ -47,13 +45,6 @@ fn is_call(k: CallNo) -> bool
     ensures { λ r. ⌜ r ≡ spec.isCall (k .number) ⌝ }
 {
     (1 <= k.number) & (k.number <= 16777215)
-}
-
-// Whether `i` owns group `g`.
-fn is_owner(g: GroupNo, i: u8) -> bool
-    ensures { λ r. ⌜ r ≡ eqb (ownerOf (g .number)) i ⌝ }
-{
-    g.number % 16 + 1 == i as u32
 }
 
 fn activity_in_range(n: u8, i: u8, g: GroupNo, t: TaskNo, a: Activity) -> bool
@@ -84,11 +75,11 @@ fn activity_in_range(n: u8, i: u8, g: GroupNo, t: TaskNo, a: Activity) -> bool
                 & is_other(n, i, now)
                 & is_other(n, i, caller)
                 & is_call(call)
-                & !is_owner(g, i)
+                & !(node::owner_of(g) == i)
         }
         Activity::Accepting { caller, call } => is_other(n, i, caller)
             & is_call(call)
-            & !is_owner(g, i),
+            & !(node::owner_of(g) == i),
     }
 }
 
@@ -101,7 +92,7 @@ fn is_group_or_none(n: u8, g: GroupNo) -> bool
 fn is_led(n: u8, down: bool, g: GroupNo, coordinator: u8) -> bool
     ensures { λ r. ⌜ r ≡ spec.isLed n down (g .number) coordinator ⌝ }
 {
-    down | (is_group(n, g) & is_owner(g, coordinator))
+    down | (is_group(n, g) & (node::owner_of(g) == coordinator))
 }
 
 pub fn node_in_range(n: u8, i: u8, c: Node) -> bool

@@ -35,8 +35,8 @@ activity-in-range-spec =
       o .before .is-other4 .ensures,
       o .is-other5 .ensures,
       c .before .is-call .ensures,
-      c .is-owner .ensures,
+      c .owner-of .ensures,
     ))
     (λ c.
     let o = c .before .before in
-    rw (o .before .before .a6 .given .1, o .is-other6 .ensures, c .before .is-call2 .ensures, c .is-owner2 .ensures)))
+    rw (o .before .before .a6 .given .1, o .is-other6 .ensures, c .before .is-call2 .ensures, c .owner-of2 .ensures)))

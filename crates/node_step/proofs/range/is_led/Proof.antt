@@ -8,4 +8,4 @@ is-led-spec =
     tie.close
     (tie.spec
     (search needs) (search needs)
-    (λ c. rw (c .before .is-group .ensures, c .is-owner .ensures)))
+    (λ c. rw (c .before .is-group .ensures, c .owner-of .ensures)))

@@ -1,0 +1,11 @@
+-- `merged` meets its contract: what `new_group` ensures.
+use borrow.Author.Needs.{needs}
+use Rattle.node_step.proofs.node.merged.Statement.{statement}
+use Rattle.node_step.proofs.node.merged.Tie as tie
+
+pub merged-spec : {M : Type 1} → statement M
+merged-spec =
+    tie.close
+    (tie.spec
+    (search needs) (search needs)
+    (λ c. rw (c .before .before .before .new-group .ensures)))

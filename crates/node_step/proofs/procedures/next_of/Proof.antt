@@ -1,0 +1,12 @@
+-- `next_of` meets its contract: the laws of the lowest node.
+use borrow.Author.Needs.{needs}
+use Rattle.node_set.proofs.Laws.{lowest-in, lt-within}
+use Rattle.node_step.proofs.procedures.next_of.Statement.{statement}
+use Rattle.node_step.proofs.procedures.next_of.Tie as tie
+
+pub next-of-spec : {M : Type 1} → statement M
+next-of-spec =
+    tie.close
+    (tie.spec
+    (search needs)
+    (λ c. let b = lowest-in 16 (c .before .args .s) (search needs) (lt-within 16 _ (c .before .fits .s .fits)) (c .before .pre) in (c .lowest .ensures, rw (c .lowest .ensures) (b .0), rw (c .lowest .ensures) (b .1))))
