@@ -106,7 +106,7 @@ isAccepted CallsAtEnd = false
 isAccepted QueueFull = false
 
 -- ── the reaction to an event, of the node's record c and the message m ──
-unfoldable pub reactsTo : ℕ → Node → Message → Event → Reaction
+abbrev pub reactsTo : ℕ → Node → Message → Event → Reaction
 reactsTo n c m (Crash i) = react n i c Input.Crash
 reactsTo n c m (Recover i) = react n i c Input.Recover
 reactsTo n c m (Check i) = react n i c Input.Check

@@ -96,7 +96,7 @@ pub fn wrong_task(e: Event) -> bool
         Event::Timeout(_) => false,
         Event::Tick(_) => false,
         Event::Expire(_) => false,
-        Event::Finish(_, t) => !node_step::is_given_task(t.number),
+        Event::Finish(_, t) => !node_step::is_given_task(t),
         Event::Deliver(_, _) => false,
         Event::Lose(_, _) => false,
     }

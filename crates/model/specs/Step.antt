@@ -79,7 +79,7 @@ effect s e = record {
 -- ── "Where each refusal is met" ──
 
 -- 7: "cabinet outside 1 to n, or sender equals receiver"
-unfoldable pub wrongNumber : ℕ → Event → Bool
+abbrev pub wrongNumber : ℕ → Event → Bool
 wrongNumber n (Crash i) = not (isNode n i)
 wrongNumber n (Recover i) = not (isNode n i)
 wrongNumber n (Check i) = not (isNode n i)
@@ -91,7 +91,7 @@ wrongNumber n (Deliver a b) = not (isNode n a && isOther n a b)
 wrongNumber n (Lose a b) = not (isNode n a && isOther n a b)
 
 -- 8: "finish task outside 100 to 65,535"
-unfoldable pub wrongTask : Event → Bool
+abbrev pub wrongTask : Event → Bool
 wrongTask (Crash i) = false
 wrongTask (Recover i) = false
 wrongTask (Check i) = false
@@ -103,7 +103,7 @@ wrongTask (Deliver a b) = false
 wrongTask (Lose a b) = false
 
 -- 9: "recover: not Down; all others but lose: cabinet (for deliver, the receiver) Down", by the status of the event's node
-unfoldable pub wrongStatus : Status → Event → Bool
+abbrev pub wrongStatus : Status → Event → Bool
 wrongStatus s (Crash i) = isDown s
 wrongStatus s (Recover i) = not (isDown s)
 wrongStatus s (Check i) = isDown s
@@ -115,7 +115,7 @@ wrongStatus s (Deliver a b) = isDown s
 wrongStatus s (Lose a b) = false
 
 -- 10: "check, timeout: not idle; tick: not waiting; expire: no open call; finish: not collecting", by the activity of the event's node
-unfoldable pub wrongActivity : Activity → Event → Bool
+abbrev pub wrongActivity : Activity → Event → Bool
 wrongActivity a (Crash i) = false
 wrongActivity a (Recover i) = false
 wrongActivity a (Check i) = not (isIdle a)
@@ -127,7 +127,7 @@ wrongActivity a (Deliver x y) = false
 wrongActivity a (Lose x y) = false
 
 -- 11: "deliver, lose: no message from a to b"
-unfoldable pub noneWaits : List Message → Event → Bool
+abbrev pub noneWaits : List Message → Event → Bool
 noneWaits q (Crash i) = false
 noneWaits q (Recover i) = false
 noneWaits q (Check i) = false
