@@ -1,5 +1,7 @@
 -- What the inner functions compute: parts of the model's step, over one node, one message and numbers, or over the table's arrays.
-use Prim.Native.Nat.{ℕ, suc, _+_, _≤_}
+use Prim.Native.Nat.{ℕ, suc, _+_, _≤_, _<_}
+use mathlib.Core.Path.{_≡_}
+use mathlib.Core.Logic.{_⊎_}
 use mathlib.Core.Bool.{Bool, true, false, not, _&&_}
 use mathlib.Core.List.{List, [], _∷_, _++_}
 use lib.Dec.{eqb}
@@ -12,6 +14,8 @@ use Rattle.model.specs.State.{State, goes}
 use Rattle.model.specs.Step.{wrongNumber, wrongTask, wrongStatus, wrongActivity, forms, isCalling, isSending, sent, Ground, ground}
 use Rattle.model.specs.declared.Node.{Node}
 use Rattle.model.specs.declared.Message.{Message}
+use Rattle.model.specs.declared.Outgoing.{Outgoing}
+use Rattle.model.specs.declared.Outgoing.the-variants.{Nothing, Send}
 use Rattle.model.specs.declared.Reaction.{Reaction}
 use Rattle.model.specs.declared.Answer.{Answer}
 use Rattle.model.specs.declared.Answer.the-variants.{Accepted, NotInRange, WrongNumber, WrongTask, WrongStatus, WrongActivity, NoMessage, CounterAtEnd, CallsAtEnd, QueueFull}
@@ -68,6 +72,15 @@ placeFor q (Lose a b) = place a b q
 -- the state with node i's record c, the message at k out, and what is sent in
 abbrev pub stored : State → ℕ → ℕ → Reaction → State
 stored s k at r = record { n = s .n; nodes = set (s .nodes) at (r .node); queue = without k (s .queue) ++ sent (r .outgoing) }
+
+-- w messages wait, and one of them, at k, goes out; or none, where k is w
+abbrev pub Left : ℕ → ℕ → ℕ → Type 0
+Left w k left = ((k < w) × (left + 1 ≡ w)) ⊎ ((k ≡ w) × (left ≡ w))
+
+-- there is a place for what is sent
+abbrev pub Room : Outgoing → ℕ → Type 0
+Room Nothing left = Unit {0}
+Room (Send m) left = left < 64
 
 -- ── the grounds in three groups ──
 

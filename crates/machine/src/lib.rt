@@ -1,5 +1,7 @@
 // The machine over a table, by value.
 pub mod grounds;
+pub mod queue;
+pub mod range;
 use model::Table;
 
 pub enum StartAnswer {

@@ -1,0 +1,158 @@
+-- Laws of lists for the table's loops, and what a table's arrays are: the first n records and the first waiting places.
+use Prim.Native.Nat.{ℕ, zero, suc, _+_, _-_, _≤_, _<_}
+use native.Mathlib.Nat.{not-suc-le-zero}
+use native.Mathlib.Numerals.{add-one}
+use native.Mathlib.Omega.{arith}
+use mathlib.Core.Path.{_≡_, refl, sym, _∙_, ap}
+use mathlib.Core.List.{List, [], _∷_, _++_, append-nil}
+use mathlib.Core.Bool.{Bool, true, false, _&&_}
+use mathlib.Core.Logic.{_⊎_, ⊎-elim}
+use lib.ListN.{length, getD, take, drop, set, length-map, length-set, length-take, drop-of-length-le}
+use lib.Seq.{drop-cons, drop-set-lt, take-set-lt, take-suc-set, take-take, append-snoc, getD-take, length-take-le, take-all}
+use mir.Val.{Val}
+use denote.Laws.{Is}
+use denote.Struct.Declared.{row}
+use Rattle.model.specs.Pick.{pick, pick-true, pick-false}
+use Rattle.model.specs.State.{State, startingNode, noMessage, every, firstOf, view, goes}
+use Rattle.model.specs.declared.Node.{Node}
+use Rattle.model.specs.declared.Message.{Message}
+use Rattle.model.specs.declared.Table.{Table}
+use Rattle.model.proofs.Table as T
+use Rattle.machine.specs.Parts.{place, without, Left}
+
+-- What owning a table tells of its arrays: their lengths. `c .good .0` of a parameter and `c .CALL .ok` of a call's result are the relation. This is the one
+-- place that knows the order of the table's fields.
+pub record Sized (t : Table) : Type 0 where
+  pub nodes : length (t .nodes) ≡ 16
+  pub messages : length (t .messages) ≡ 64
+
+pub sized : (t : Table) {vs : List Val} → Is (row T.the-type) t vs → Sized t
+sized t g = record {
+  nodes = sym (length-map (t .nodes) _) ∙ g .1 .1 .1 .0 .1 .0 .1;
+  messages = sym (length-map (t .messages) _) ∙ g .1 .1 .1 .1 .0 .1 .0 .1;
+}
+
+-- ── the first k of a list ──
+pub first-take : {A : Type 0} (k : ℕ) (d : A) (l : List A) → k ≤ length l → firstOf k d l ≡ take k l
+unfolding firstOf
+first-take zero d l h = refl
+first-take (suc k) d [] h = absurd (not-suc-le-zero h)
+first-take {A} (suc k) d (x ∷ l) h = ap (λ (r : List A). x ∷ r) (first-take k d l (omega arith))
+
+pub first-length : {A : Type 0} (k : ℕ) (d : A) (l : List A) → length (firstOf k d l) ≡ k
+unfolding firstOf
+first-length zero d l = refl
+first-length (suc k) d [] = ap suc (first-length k d [])
+first-length (suc k) d (x ∷ l) = ap suc (first-length k d l)
+
+module _ (t : Table) (s : Sized t) where
+  pub view-nodes : t .n ≤ 16 → view t .nodes ≡ take (t .n) (t .nodes)
+  view-nodes h = first-take (t .n) startingNode (t .nodes) (omega arith)
+
+  pub view-queue : t .waiting ≤ 64 → view t .queue ≡ take (t .waiting) (t .messages)
+  view-queue h = first-take (t .waiting) noMessage (t .messages) (omega arith)
+
+-- ── loops over the first w elements of an array: what is left at k, by the element at k ──
+module _ {A : Type 0} (l : List A) (w : ℕ) (h : w ≤ length l) (k : ℕ) where
+  left-turn : k < w → (d : A) → drop k (take w l) ≡ getD l k d ∷ drop (k + 1) (take w l)
+  left-turn p d =
+      let q : k < length (take w l) = simp length-take-le (omega arith) in
+      rw (add-one, drop-cons (take w l) k d, getD-take)
+
+  left-end : w ≤ k → drop k (take w l) ≡ []
+  left-end p =
+      let q : length (take w l) ≤ k = simp length-take-le (omega arith) in
+      rw drop-of-length-le
+
+  -- r is the test's result in the code, and d what the read takes past the end
+  module _ (f : ℕ → A → Bool) (i : ℕ) where
+    module _ (p : k < w) (d : A) (r : Bool) (e : r ≡ f i (getD l k d)) where
+      every-turn : every f i (drop k (take w l)) ≡ r && every f (i + 1) (drop (k + 1) (take w l))
+      unfolding every
+      every-turn = rw (left-turn p d, ← e)
+
+      pub every-hit : r ≡ true → every f i (drop k (take w l)) ≡ every f (i + 1) (drop (k + 1) (take w l))
+      every-hit y = rw (every-turn, y)
+
+      pub every-miss : r ≡ false → every f i (drop k (take w l)) ≡ false
+      every-miss y = rw (every-turn, y)
+
+    pub every-end : w ≤ k → every f i (drop k (take w l)) ≡ true
+    unfolding every
+    every-end p = rw (left-end p)
+
+module _ (a b : ℕ) (l : List Message) (w : ℕ) (h : w ≤ length l) (k : ℕ) where
+  module _ (p : k < w) (d : Message) (r : Bool) (e : r ≡ goes a b (getD l k d)) where
+    pub place-hit : r ≡ true → place a b (drop k (take w l)) ≡ 0
+    unfolding place
+    place-hit y = rw (left-turn l w h k p d, ← e, y, pick-true)
+
+    pub place-miss : r ≡ false → place a b (drop k (take w l)) ≡ place a b (drop (k + 1) (take w l)) + 1
+    unfolding place
+    place-miss y = rw (left-turn l w h k p d, ← e, y, pick-false)
+
+  pub place-end : w ≤ k → place a b (drop k (take w l)) ≡ 0
+  unfolding place
+  place-end p = rw (left-end l w h k p)
+
+-- ── an element taken out by moving the later ones down ──
+
+-- one turn: the element at k gets the one after it
+pub without-turn : {A : Type 0} (l : List A) (w : ℕ) (h : w ≤ length l) (k : ℕ) (p : k + 1 < w) (d : A) → without (k + 1) (take w (set l k (getD l (k + 1) d))) ≡ without k (take w l)
+without-turn l w h k p d =
+    let long : length (take w l) ≡ w = length-take-le w l h in
+    let a : k < length (take w l) = omega arith in
+    let b : k + 1 < length (take w l) = omega arith in
+    let lo : k < k + 1 + 1 = omega arith in
+    rw (take-set-lt w l k (getD l (k + 1) d) (omega arith), ← getD-take w l (k + 1) d)
+    (rw (drop-set-lt (k + 1 + 1) (take w l) k, drop-cons (take w l) (k + 1) d) (rw (add-one (k + 1), add-one k, take-suc-set, append-snoc)))
+
+-- the last one taken out
+pub without-last : {A : Type 0} (l : List A) (k : ℕ) → without k (take (k + 1) l) ≡ take k l
+without-last l k =
+    let a : k ≤ k + 1 = omega arith in
+    let b : length (take (k + 1) l) ≤ k + 1 = omega (arith, length-take (k + 1) l) in
+    rw (take-take, drop-of-length-le, append-nil)
+
+-- none taken out
+pub without-none : {A : Type 0} (l : List A) (k : ℕ) → length l ≤ k → without k l ≡ l
+without-none l k h =
+    let b : length l ≤ k + 1 = omega arith in
+    rw (take-all k l h, drop-of-length-le, append-nil)
+
+-- ── the table after an event ──
+pub moves : (w k left : ℕ) → Left w k left → k < left → left + 1 ≡ w
+moves w k left x h = ⊎-elim (λ y. y .1) (λ y. absurd (never (y .0) (y .1))) x
+  where
+    never : k ≡ w → left ≡ w → ⊥
+    never p q = omega arith
+
+left-queue : (w k left : ℕ) (l : List Message) → Left w k left → without left (take w l) ≡ take left l
+left-queue w k left l x = ⊎-elim (λ y. rw (← y .1) (without-last l left)) (λ y. rw (y .1) (without-none (take w l) w (omega (arith, length-take w l)))) x
+
+pub left-few : (w k left : ℕ) → Left w k left → w ≤ 64 → left ≤ 64
+left-few w k left x h = ⊎-elim (λ y. omega arith) (λ y. omega arith) x
+
+nodes-set : (n at : ℕ) (l : List Node) (c : Node) → at < n → n ≤ length l → firstOf n startingNode (set l at c) ≡ set (firstOf n startingNode l) at c
+nodes-set n at l c h k = rw (first-take n startingNode (set l at c) (simp length-set k), first-take n startingNode l k) (take-set-lt n l at c h)
+
+state-is : (n : ℕ) {xs ys : List Node} {q r : List Message} → xs ≡ ys → q ≡ r → _≡_ {A = State} (record { n = n; nodes = xs; queue = q }) (record { n = n; nodes = ys; queue = r })
+state-is n p q = cc
+
+-- ms: the messages once the one at k was taken out; c the node's new record
+module _ (t : Table) (s : Sized t) (small : t .n ≤ 16) (short : t .waiting ≤ 64) (k left at : ℕ) (x : Left (t .waiting) k left) (h : at < t .n) (c : Node) (ms : List Message) (long : length ms ≡ 64) (moved : without left (take (t .waiting) ms) ≡ without k (take (t .waiting) (t .messages))) where
+  taken : take left ms ≡ without k (view t .queue)
+  taken = sym (left-queue (t .waiting) k left ms x) ∙ moved ∙ ap (without k) (sym (view-queue t s short))
+
+  pub stored-quiet : _≡_ {A = State} (record { n = t .n; nodes = firstOf (t .n) startingNode (set (t .nodes) at c); queue = firstOf left noMessage ms }) (record { n = t .n; nodes = set (view t .nodes) at c; queue = without k (view t .queue) ++ [] })
+  stored-quiet =
+      state-is (t .n) (nodes-set (t .n) at (t .nodes) c h (omega (arith, s .nodes)))
+      (first-take left noMessage ms (omega (arith, left-few (t .waiting) k left x short)) ∙ taken ∙ sym (append-nil _))
+
+  pub stored-sent : left < 64 → (m : Message) → _≡_ {A = State} (record { n = t .n; nodes = firstOf (t .n) startingNode (set (t .nodes) at c); queue = firstOf (left + 1) noMessage (set ms left m) }) (record { n = t .n; nodes = set (view t .nodes) at c; queue = without k (view t .queue) ++ (m ∷ []) })
+  stored-sent room m =
+      state-is (t .n) (nodes-set (t .n) at (t .nodes) c h (omega (arith, s .nodes)))
+      (first-take (left + 1) noMessage (set ms left m) (simp length-set (omega arith)) ∙ one-more ∙ ap (λ (q : List Message). q ++ (m ∷ [])) taken)
+    where
+      one-more : take (left + 1) (set ms left m) ≡ take left ms ++ (m ∷ [])
+      one-more = rw (add-one left) (take-suc-set ms left m (omega arith))

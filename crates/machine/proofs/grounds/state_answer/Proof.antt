@@ -1,0 +1,19 @@
+-- `state_answer` meets its contract: the first test that holds.
+use borrow.Author.Needs.{needs}
+use Rattle.model.specs.Pick.{pick}
+use Rattle.machine.specs.Parts.{first}
+use Rattle.machine.proofs.grounds.state_answer.Statement.{statement}
+use Rattle.machine.proofs.grounds.state_answer.Tie as tie
+
+pub state-answer-spec : {M : Type 1} → statement M
+unfolding first pick
+state-answer-spec =
+    tie.close
+    (tie.spec
+    (λ c κs. search needs)
+    (λ c. simp (← c .before .wrong-status .ensures, c .if1 .taken))
+    (λ c κs. search needs)
+    (λ c. simp (← c .before .before .before .wrong-status .ensures, c .before .before .if1 .left, ← c .before .wrong-activity .ensures, c .if2 .taken))
+    (λ c κs. search needs)
+    (λ c. simp (← c .before .before .before .before .before .wrong-status .ensures, c .before .before .before .before .if1 .left, ← c .before .before .before .wrong-activity .ensures, c .before .before .if2 .left, ← c .before .takes .ensures, c .if3 .taken))
+    (λ c. simp (← c .before .before .before .before .before .wrong-status .ensures, c .before .before .before .before .if1 .left, ← c .before .before .before .wrong-activity .ensures, c .before .before .if2 .left, ← c .before .takes .ensures, c .if3 .left)))

@@ -1,0 +1,58 @@
+-- `find` meets its contract: what is found is what is found from i on.
+use borrow.Author.Needs.{needs}
+use Prim.Native.Nat.{ℕ, _≤_, _<_, _-_, _+_}
+use mathlib.Core.Path.{_≡_, refl, sym, _∙_, ap}
+use native.Mathlib.Omega.{arith}
+use lib.ListN.{drop, take}
+use Rattle.model.specs.State.{view}
+use Rattle.machine.specs.Parts.{place}
+use Rattle.machine.proofs.Laws.{sized, view-queue, place-hit, place-miss, place-end}
+use Rattle.machine.proofs.queue.find.Statement.{statement}
+use Rattle.machine.proofs.queue.find.Tie as tie
+
+abbrev Inv-loop : tie.InvT-loop
+Inv-loop a b t end i₀ i = (i ≤ end) × (place a b (take (t .waiting) (t .messages)) ≡ place a b (drop i (take (t .waiting) (t .messages))) + i)
+
+abbrev μ-loop : tie.MeasureT-loop
+μ-loop a b t end i₀ i = end - i
+
+returns : tie.Need-returns Inv-loop μ-loop
+returns c =
+    let l = c .before .before .before .before in
+    let t = l .before .args .t1 in
+    let s = sized t (l .before .good .0) in
+    let h = place-hit _ _ (t .messages) (t .waiting) (omega arith) (l .loop .i) (omega arith) _ _ (c .before .goes .ensures) (c .if1 .taken) in
+    (rw (view-queue t s (omega arith)) (omega (arith, l .loop .inv .1)), omega arith)
+
+loop-again : tie.Need-loop-again Inv-loop μ-loop
+loop-again c =
+    let l = c .before .before .before .before in
+    let t = l .before .args .t1 in
+    let s = sized t (l .before .good .0) in
+    let h = place-miss _ _ (t .messages) (t .waiting) (omega arith) (l .loop .i) (omega arith) _ _ (c .before .goes .ensures) (c .if1 .left) in
+    (omega arith, omega (arith, l .loop .inv .1))
+
+returns-2 : tie.Need-returns-2 Inv-loop μ-loop
+returns-2 c =
+    let l = c .before in
+    let t = l .before .args .t1 in
+    let s = sized t (l .before .good .0) in
+    let h = place-end _ _ (t .messages) (t .waiting) (omega arith) (l .loop .i) (omega arith) in
+    (rw (view-queue t s (omega arith)) (omega (arith, l .loop .inv .1)), omega arith)
+
+pub find-spec : {M : Type 1} → statement M
+find-spec =
+    tie.close
+    (tie.spec
+    Inv-loop
+    μ-loop
+    (λ c. search needs)
+    (λ c. (search needs, search needs))
+    (λ c. omega arith)
+    (λ c. omega arith)
+    (λ c κs. search needs)
+    returns
+    (λ c. omega arith)
+    (λ c. omega arith)
+    loop-again
+    returns-2)

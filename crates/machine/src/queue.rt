@@ -1,0 +1,77 @@
+// The table around the local step: where the event's message stands, and the table with the record stored, that message out and another in.
+ghost use mathlib.Core.Path.{_≡_};
+ghost use Prim.Native.Nat.{ℕ, _+_, _-_, _≤_, _<_};
+ghost use lib.ListN.{length};
+ghost use Rattle.model.specs.State.{view};
+ghost use Rattle.model.specs.State as spec;
+ghost use Rattle.machine.specs.Parts as parts;
+use crate::grounds;
+use model::Event;
+use model::Message;
+use model::Outgoing;
+use model::Reaction;
+use model::Table;
+
+fn goes(a: u8, b: u8, m: Message) -> bool
+    ensures { λ r. ⌜ r ≡ spec.goes a b m ⌝ }
+{
+    (m.sender == a) & (m.receiver == b)
+}
+
+// Where the oldest message from a to b stands, or how many wait.
+fn find(t: Table, a: u8, b: u8) -> usize
+    requires { ⌜ t .waiting ≤ 64 ⌝ }
+    ensures { λ r. ⌜ (r ≡ parts.place a b (view t .queue)) × (r ≤ t .waiting) ⌝ }
+{
+    let end = t.waiting as usize;
+    let mut i: usize = 0;
+    while i < end {
+        let m = t.messages[i];
+        if goes(a, b, m) {
+            return i;
+        }
+        i += 1;
+    }
+    end
+}
+
+// Where the event's message stands; how many wait for an event that takes none.
+pub fn place_for(t: Table, e: Event) -> usize
+    requires { ⌜ t .waiting ≤ 64 ⌝ }
+    ensures { λ r. ⌜ (r ≡ parts.placeFor (view t .queue) e) × (r ≤ t .waiting) ⌝ }
+{
+    if grounds::takes(e) {
+        return find(t, grounds::sender(e), grounds::actor(e));
+    }
+    t.waiting as usize
+}
+
+// The table with r's record at `at`, the message at k out and r's message in; left is how many wait between.
+pub fn stored(t: Table, k: usize, left: u8, at: usize, r: Reaction) -> Table
+    requires { ⌜ (t .waiting ≤ 64) × (k ≤ left) × (parts.Left (t .waiting) k left) × (at < t .n) × (t .n ≤ 16) ⌝ }
+    requires { ⌜ parts.Room (r .outgoing) left ⌝ }
+    ensures { λ u. ⌜ view u ≡ parts.stored (view t) k at r ⌝ }
+{
+    let node = r.node;
+    let outgoing = r.outgoing;
+    let end = left as usize;
+    let mut next = t;
+    let mut j = k;
+    while j < end {
+        let m = next.messages[j + 1];
+        next.messages[j] = m;
+        j += 1;
+    }
+    next.nodes[at] = node;
+    match outgoing {
+        Outgoing::Nothing => {
+            next.waiting = left;
+            next
+        }
+        Outgoing::Send(m) => {
+            next.messages[end] = m;
+            next.waiting = left + 1;
+            next
+        }
+    }
+}
