@@ -10,11 +10,13 @@ use lib.ListN.{length, getD}
 use borrow.Author.Tests.{eqb-true, eqb-false, leb-true, not-true}
 use Rattle.node_set.specs.NodeSet.{has, within}
 use Rattle.model.specs.Pick.{by-test}
-use Rattle.model.specs.Limits.{nodeLimit, queueLimit, counterEnd, callEnd, taskLow, taskEnd}
+use Rattle.model.specs.Limits.{nodeLimit, queueLimit, counterEnd, callEnd, tickEnd, taskLow, taskEnd}
 use Rattle.model.specs.Node.{isDown, isIdle, ownerOf, counterOf}
 use Rattle.model.specs.Range.{isNode, isOther, isSetOfOthers, isGroup, isGivenTask, isCall, isGroupOrNone, isLed, carriesGroup, activityInRange, nodeInRange, messageInRange}
 use Rattle.model.specs.State.{State, startingNode, nodeAt, goes, waits, oldest, every, inRange}
 use Rattle.model.proofs.Local.{both-left, both-right}
+use Rattle.model.specs.declared.Activity.{Activity}
+use Rattle.model.specs.declared.Activity.the-variants.{Idle, Asking, Waiting, Inviting, Collecting, Handing, Contacting, Forwarding, Accepting}
 use Rattle.model.specs.declared.Node.{Node}
 use Rattle.model.specs.declared.Message.{Message}
 
@@ -97,6 +99,42 @@ pub call-is : (k : ℕ) → isCall k ≡ true → IsCall k
 call-is k e = let r = parts (leb 1 k) (leb k callEnd ∷ []) e in record { low = leb-true 1 k (r .0); high = leb-true k callEnd (r .1 .0) }
 
 -- ── a node ──
+
+-- what the activity of node i holds, with group g and task t beside it
+abbrev pub Busy : ℕ → ℕ → ℕ → ℕ → Activity → Type 0
+Busy n i g t Idle = Unit {0}
+Busy n i g t (Asking a f) = IsOther n i a × IsSetOfOthers n i f
+Busy n i g t (Waiting k f) = (1 ≤ k) × (k ≤ tickEnd) × IsSetOfOthers n i f
+Busy n i g t (Inviting f o w) = IsSetOfOthers n i f × IsSetOfOthers n i o × IsOther n i w
+Busy n i g t Collecting = Unit {0}
+Busy n i g t (Handing r w) = IsSetOfOthers n i r × IsOther n i w × IsGivenTask t
+Busy n i g t Contacting = Unit {0}
+Busy n i g t (Forwarding r w a k) = IsSetOfOthers n i r × IsOther n i w × IsOther n i a × IsCall (k .number) × (ownerOf g ≡ i → ⊥)
+Busy n i g t (Accepting a k) = IsOther n i a × IsCall (k .number) × (ownerOf g ≡ i → ⊥)
+
+pub busy-is : (n i g t : ℕ) (a : Activity) → activityInRange n i g t a ≡ true → Busy n i g t a
+unfolding activityInRange
+busy-is n i g t Idle e = tt
+busy-is n i g t (Asking a f) e =
+    let r = parts (isOther n i a) (isSetOfOthers n i f ∷ []) e in (other-is n i a (r .0), set-is n i f (r .1 .0))
+busy-is n i g t (Waiting k f) e =
+    let r = parts (leb 1 k) (leb k tickEnd ∷ isSetOfOthers n i f ∷ []) e in
+    (leb-true 1 k (r .0), leb-true k tickEnd (r .1 .0), set-is n i f (r .1 .1 .0))
+busy-is n i g t (Inviting f o w) e =
+    let r = parts (isSetOfOthers n i f) (isSetOfOthers n i o ∷ isOther n i w ∷ []) e in
+    (set-is n i f (r .0), set-is n i o (r .1 .0), other-is n i w (r .1 .1 .0))
+busy-is n i g t Collecting e = tt
+busy-is n i g t (Handing s w) e =
+    let r = parts (isSetOfOthers n i s) (isOther n i w ∷ isGivenTask t ∷ []) e in
+    (set-is n i s (r .0), other-is n i w (r .1 .0), given-is t (r .1 .1 .0))
+busy-is n i g t Contacting e = tt
+busy-is n i g t (Forwarding s w a k) e =
+    let r = parts (isSetOfOthers n i s) (isOther n i w ∷ isOther n i a ∷ isCall (k .number) ∷ not (eqb (ownerOf g) i) ∷ []) e in
+    (set-is n i s (r .0), other-is n i w (r .1 .0), other-is n i a (r .1 .1 .0), call-is _ (r .1 .1 .1 .0), eqb-false _ i (not-true _ (r .1 .1 .1 .1 .0)))
+busy-is n i g t (Accepting a k) e =
+    let r = parts (isOther n i a) (isCall (k .number) ∷ not (eqb (ownerOf g) i) ∷ []) e in
+    (other-is n i a (r .0), call-is _ (r .1 .0), eqb-false _ i (not-true _ (r .1 .1 .0)))
+
 pub record NodeFacts (n i : ℕ) (c : Node) : Type 0 where
   pub counter : c .counter ≤ counterEnd
   pub group : (c .group .number ≡ 0) ⊎ IsGroup n (c .group .number)
@@ -109,7 +147,7 @@ pub record NodeFacts (n i : ℕ) (c : Node) : Type 0 where
   pub led : isDown (c .status) ≡ false → ownerOf (c .group .number) ≡ c .coordinator
   -- of one that is Down
   pub idle : isDown (c .status) ≡ true → isIdle (c .activity) ≡ true
-  pub activity : activityInRange n i (c .group .number) (c .task .number) (c .activity) ≡ true
+  pub activity : Busy n i (c .group .number) (c .task .number) (c .activity)
 
 -- the tests of a node after the first
 abbrev pub nodeTests : ℕ → ℕ → Node → List Bool
@@ -137,7 +175,7 @@ node-facts n i c e =
       grouped = λ u. group-is n _ (led u .0);
       led = λ u. eqb-true _ _ (led u .1 .0);
       idle = λ d. otherwise (not (isDown (c .status))) _ (ap not d) (r .1 .1 .1 .1 .1 .1 .1 .0);
-      activity = r .1 .1 .1 .1 .1 .1 .1 .1 .0;
+      activity = busy-is n i _ _ _ (r .1 .1 .1 .1 .1 .1 .1 .1 .0);
     }
   where
     r : Hold (leb (c .counter) counterEnd ∷ nodeTests n i c)
