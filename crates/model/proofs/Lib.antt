@@ -7,3 +7,5 @@ pub mod Whole
 pub mod Locality
 pub mod NamedCases
 pub mod Fields
+pub mod Range
+pub mod InRange
