@@ -150,7 +150,7 @@ pub record NodeFacts (n i : ℕ) (c : Node) : Type 0 where
   pub activity : Busy n i (c .group .number) (c .task .number) (c .activity)
 
 -- the tests of a node after the first
-abbrev pub nodeTests : ℕ → ℕ → Node → List Bool
+abbrev nodeTests : ℕ → ℕ → Node → List Bool
 nodeTests n i c =
     isGroupOrNone n (c .group .number)
     ∷ leb (c .coordinator) n
@@ -195,7 +195,7 @@ pub record MessageFacts (n : ℕ) (m : Message) : Type 0 where
   pub task : eqb (m .kind) 5 ≡ true → IsGivenTask (m .task .number)
 
 -- the tests of a message after the first
-abbrev pub messageTests : ℕ → Message → List Bool
+abbrev messageTests : ℕ → Message → List Bool
 messageTests n m =
     isOther n (m .sender) (m .receiver)
     ∷ (leb 1 (m .kind) && leb (m .kind) 6)
@@ -227,7 +227,7 @@ every-at f k (x ∷ l) zero d e h = subst (λ (j : ℕ). f j x ≡ true) (omega 
 every-at f k (x ∷ l) (suc i) d e h = subst (λ (j : ℕ). f j (getD l i d) ≡ true) (omega arith) (every-at f (k + 1) l i d (both-right (f k x) _ e) (omega arith))
 
 -- the tests of a table after the first
-abbrev pub tableTests : State → List Bool
+abbrev tableTests : State → List Bool
 tableTests s =
     leb (s .n) nodeLimit
     ∷ eqb (length (s .nodes)) (s .n)

@@ -6,7 +6,7 @@ use mathlib.Core.Bool.{Bool, true, false, not, _&&_, true≢false}
 use mathlib.Core.Logic.{inl}
 use mathlib.Core.Path.{_≡_, refl, sym, _∙_, ap, subst}
 use mathlib.Core.List.{List, [], _∷_, _++_}
-use lib.Dec.{eqb, leb}
+use lib.Dec.{eqb}
 use lib.ListN.{length, set, replicate, length-append, length-set, length-replicate}
 use borrow.Author.Tests.{eqb-true, eqb-false, eq-eqb, le-leb, not-true, not-false}
 use Rattle.node_set.proofs.Laws.{empty-within, empty-lacks}
@@ -17,17 +17,14 @@ use Rattle.model.specs.React.{react}
 use Rattle.model.specs.State.{State, startingNode, start, nodeAt, goes, waits, oldest, withoutOldest, every, inRange}
 use Rattle.model.specs.Step.{actor, reactionTo, remaining, sent, effect, wrongNumber, wrongTask, wrongStatus, noneWaits, forms, isCalling, isSending, Ground, grounds, Result, refused, accepted, judged, step, kept, after, runFrom, run}
 use Rattle.model.specs.Claims.{StaysInRange}
-use Rattle.model.proofs.Judged.{Clear, by-step, Accepted, accepted-is}
+use Rattle.model.proofs.Judged.{Clear, by-step, accepted-is}
 use Rattle.model.proofs.Local.{both-left, both-right}
-use Rattle.model.proofs.Fields.{otherwise, node-is, other-is, given-is, NodeFacts, node-facts, MessageFacts, message-facts, tableTests, in-range-nodes, in-range-queue, in-range-size, in-range-node, in-range-oldest, oldest-goes}
-use Rattle.model.proofs.Range.{both, join, is-node, Place, OutgoingIn, ReactionIn, InputIn, react-in}
-use Rattle.model.specs.declared.Status.{Status}
-use Rattle.model.specs.declared.Node.{Node}
+use Rattle.model.proofs.Fields.{otherwise, node-is, other-is, given-is, NodeFacts, node-facts, message-facts, in-range-nodes, in-range-queue, in-range-size, in-range-node, in-range-oldest, oldest-goes}
+use Rattle.model.proofs.Range.{both, is-node, Place, OutgoingIn, ReactionIn, InputIn, react-in}
 use Rattle.model.specs.declared.Message.{Message}
 use Rattle.model.specs.declared.Outgoing.{Outgoing}
 use Rattle.model.specs.declared.Outgoing.the-variants.{Nothing, Send}
 use Rattle.model.specs.declared.Mark.{Mark}
-use Rattle.model.specs.declared.Reaction.{Reaction}
 use Rattle.model.specs.declared.Input.{Input}
 use Rattle.model.specs.declared.Input.the-variants as Input
 use Rattle.model.specs.declared.Event.{Event}
@@ -160,26 +157,13 @@ module _ (s : State) (r : inRange s ≡ true) where
 effect-in : (s : State) (e : Event) → Clear s e → inRange (effect s e) ≡ true
 unfolding effect inRange
 effect-in s e c =
-    join (leb 1 (s .n)) (tableTests (effect s e)) (
+    rw (
       le-leb 1 (s .n) (size .0),
-      (
-        le-leb (s .n) nodeLimit (size .1),
-        (
-          eq-eqb _ (s .n) (length-set (s .nodes) (actor e - 1) (reactionTo s e .node) ∙ size .2),
-          (
-            le-leb _ queueLimit (sent-fits (remaining s e) (reactionTo s e .outgoing) (omega (arith, x .fewer, size .3)) (c .room)),
-            (
-              every-set (nodeInRange (s .n)) 1 (s .nodes) (actor e - 1) (reactionTo s e .node) (in-range-nodes s (c .in-range))
-                  (subst (λ (j : ℕ). nodeInRange (s .n) j (reactionTo s e .node) ≡ true) (omega (arith, x .place .low)) (x .reaction .node)),
-              (
-                every-append (messageInRange (s .n)) 1 (remaining s e) (sent (reactionTo s e .outgoing)) (x .stays)
-                    (sent-in (s .n) (reactionTo s e .outgoing) (x .reaction .outgoing)),
-                tt,
-              ),
-            ),
-          ),
-        ),
-      ),
+      le-leb (s .n) nodeLimit (size .1),
+      eq-eqb _ (s .n) (length-set (s .nodes) (actor e - 1) (reactionTo s e .node) ∙ size .2),
+      le-leb _ queueLimit (sent-fits (remaining s e) (reactionTo s e .outgoing) (omega (arith, x .fewer, size .3)) (c .room)),
+      every-set (nodeInRange (s .n)) 1 (s .nodes) (actor e - 1) (reactionTo s e .node) (in-range-nodes s (c .in-range)) stored,
+      every-append (messageInRange (s .n)) 1 (remaining s e) (sent (reactionTo s e .outgoing)) (x .stays) (sent-in (s .n) (reactionTo s e .outgoing) (x .reaction .outgoing)),
     )
   where
     x : EventIn s e
@@ -188,78 +172,49 @@ effect-in s e c =
     size : (1 ≤ s .n) × (s .n ≤ 16) × (length (s .nodes) ≡ s .n) × (length (s .queue) ≤ 64)
     size = in-range-size s (c .in-range)
 
+    stored : nodeInRange (s .n) (1 + (actor e - 1)) (reactionTo s e .node) ≡ true
+    stored = subst (λ (j : ℕ). nodeInRange (s .n) j (reactionTo s e .node) ≡ true) (omega (arith, x .place .low)) (x .reaction .node)
+
 -- ── refusals ──
 
 -- no ground of the list numbered x applies, where those before it do not
-abbrev Misses : ℕ → List Ground → Type 0
-Misses x [] = Unit {0}
-Misses x (g ∷ gs) = (g .number ≡ x → g .applies ≡ true → ⊥) × (g .applies ≡ false → Misses x gs)
+data Misses (x : ℕ) : List Ground → Type 0 where
+  end : Misses x []
+  past : {g : Ground} {gs : List Ground} → (g .number ≡ x → g .applies ≡ true → ⊥) → (g .applies ≡ false → Misses x gs) → Misses x (g ∷ gs)
 
-not-refused : (x : ℕ) (u : State) (k : Mark) (gs : List Ground) → Misses x gs → judged (accepted u k) gs ≡ refused x → ⊥
+not-refused : (x : ℕ) (u : State) (k : Mark) {gs : List Ground} → Misses x gs → judged (accepted u k) gs ≡ refused x → ⊥
 unfolding judged
-not-refused x u k [] h = λ e. let z : _≡_ {A = ℕ} 0 1 = cc in omega arith
-not-refused x u k (g ∷ gs) h = by-test (λ (r : Result). r ≡ refused x → ⊥) (λ t q. h .0 (cc) t) (λ t. not-refused x u k gs (h .1 t))
+not-refused x u k end = λ e. let z : _≡_ {A = ℕ} 0 1 = cc in omega arith
+not-refused x u k (past f h) = by-test (λ (r : Result). r ≡ refused x → ⊥) (λ t q. f (cc) t) (λ t. not-refused x u k (h t))
 
 in-range-not-one : (s : State) (e : Event) → inRange s ≡ true → step s e ≡ refused 1 → ⊥
 unfolding step grounds
 in-range-not-one s e r =
-    not-refused 1 _ _ _ (
-      λ _ t. true≢false (sym r ∙ not-true _ t),
-      λ _. (
-        λ z _. omega arith,
-        λ _. (
-          λ z _. omega arith,
-          λ _. (
-            λ z _. omega arith,
-            λ _. (
-              λ z _. omega arith,
-              λ _. (
-                λ z _. omega arith,
-                λ _. (
-                  λ z _. omega arith,
-                  λ _. (
-                    λ z _. omega arith,
-                    λ _.
-                        (λ z _. omega arith, λ _. tt),
-                  ),
-                ),
-              ),
-            ),
-          ),
-        ),
-      ),
-    )
+    not-refused 1 _ _
+    (past (λ _ t. true≢false (sym r ∙ not-true _ t))
+    (λ _. past (λ z _. omega arith)
+    (λ _. past (λ z _. omega arith)
+    (λ _. past (λ z _. omega arith)
+    (λ _. past (λ z _. omega arith)
+    (λ _. past (λ z _. omega arith)
+    (λ _. past (λ z _. omega arith)
+    (λ _. past (λ z _. omega arith)
+    (λ _. past (λ z _. omega arith) (λ _. end))))))))))
 
 -- a delivery takes a message out, so there is room for another
 pub delivery-never-full : (s : State) (a b : ℕ) → step s (Deliver a b) ≡ refused 14 → ⊥
 unfolding step grounds remaining noneWaits
 delivery-never-full s a b =
-    not-refused 14 _ _ _ (
-      λ z _. omega arith,
-      λ r. (
-        λ z _. omega arith,
-        λ _. (
-          λ z _. omega arith,
-          λ _. (
-            λ z _. omega arith,
-            λ _. (
-              λ z _. omega arith,
-              λ _. (
-                λ z _. omega arith,
-                λ w. (
-                  λ z _. omega arith,
-                  λ _. (
-                    λ z _. omega arith,
-                    λ _.
-                        (λ _ t. full (not-false _ r) (not-false _ w) (both-right (isSending (reactionTo s (Deliver a b) .outgoing)) _ t), λ _. tt),
-                  ),
-                ),
-              ),
-            ),
-          ),
-        ),
-      ),
-    )
+    not-refused 14 _ _
+    (past (λ z _. omega arith)
+    (λ r. past (λ z _. omega arith)
+    (λ _. past (λ z _. omega arith)
+    (λ _. past (λ z _. omega arith)
+    (λ _. past (λ z _. omega arith)
+    (λ _. past (λ z _. omega arith)
+    (λ w. past (λ z _. omega arith)
+    (λ _. past (λ z _. omega arith)
+    (λ _. past (λ _ t. full (not-false _ r) (not-false _ w) (both-right (isSending (reactionTo s (Deliver a b) .outgoing)) _ t)) (λ _. end))))))))))
   where
     full : inRange s ≡ true → waits a b (s .queue) ≡ true → eqb (length (withoutOldest a b (s .queue))) queueLimit ≡ true → ⊥
     full r w e = omega (arith, eqb-true (length (withoutOldest a b (s .queue))) queueLimit e, without-length a b (s .queue) w, in-range-size s r .3)
@@ -268,24 +223,11 @@ delivery-never-full s a b =
 start-in : (n : ℕ) → 1 ≤ n → n ≤ nodeLimit → inRange (start n) ≡ true
 unfolding inRange every
 start-in n l h =
-    join (leb 1 n) (tableTests (start n)) (
+    rw (
       le-leb 1 n l,
-      (
-        le-leb n nodeLimit h,
-        (
-          eq-eqb _ n (length-replicate n startingNode),
-          (
-            refl,
-            (
-              every-replicate (nodeInRange n) 1 n startingNode (λ j. is-node n j startingNode (starting j)),
-              (
-                refl,
-                tt,
-              ),
-            ),
-          ),
-        ),
-      ),
+      le-leb n nodeLimit h,
+      eq-eqb _ n (length-replicate n startingNode),
+      every-replicate (nodeInRange n) 1 n startingNode (λ j. is-node n j startingNode (starting j)),
     )
   where
     starting : (j : ℕ) → NodeFacts n j startingNode

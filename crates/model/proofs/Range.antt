@@ -4,35 +4,32 @@ use native.Mathlib.Omega.{arith}
 use mathlib.Core.Bool.{Bool, true, false, not, _&&_, _||_, true≢false}
 use mathlib.Core.Logic.{_⊎_, inl, inr}
 use mathlib.Core.Path.{_≡_, refl, sym, _∙_, ap}
-use mathlib.Core.List.{List, [], _∷_}
-use lib.Dec.{eqb, leb, ltb}
+use lib.Dec.{eqb}
 use borrow.Author.Tests.{eqb-true, eqb-false, eq-eqb, ne-eqb, le-leb, leb-true, ltb-true, lt-ltb, not-true}
-use Rattle.node_set.specs.NodeSet.{has, within, with, without, lowest, highest}
+use Rattle.node_set.specs.NodeSet.{with, without, lowest, highest}
 use Rattle.node_set.proofs.Laws.{within-word, empty-within, empty-lacks, lowest-in, lowest-other, highest-in, with-within, with-lacks, without-within, without-lacks}
 use Rattle.model.specs.Pick.{pick, by-test}
 use Rattle.model.specs.Limits.{counterEnd, callEnd, tickEnd, taskLow, taskEnd}
-use Rattle.model.specs.Node.{isDown, isElection, isReorganization, isNormal, isIdle, ownerOf, counterOf, groupOf, turned, calling, settled, tasked, joined, recovered, merged, invited, asks, calls, readies, replies}
+use Rattle.model.specs.Node.{isDown, isNormal, ownerOf, groupOf, turned, calling, settled, tasked, joined, recovered, merged, invited, asks, calls, readies, replies}
 use Rattle.model.specs.Procedures.{reaction, stays, answers, recovers, inviteNext, merges, handNext, finishes, forwardNext, askedAll, askAt, askAfter}
 use Rattle.model.specs.React.{checked, timedOut, ticked, expired, resumed, onAreYouCoordinator, onAreYouThere, onInvitation, onAccept, onReady, onReply, received, react}
-use Rattle.model.specs.Range.{isNode, isOther, isSetOfOthers, isGroup, isGivenTask, isCall, activityInRange, nodeInRange, carriesGroup, messageInRange}
+use Rattle.model.specs.Range.{isOther, isSetOfOthers, isGroup, isGivenTask, isCall, activityInRange, nodeInRange, isGroupOrNone, isLed, carriesGroup, messageInRange}
 use Rattle.model.specs.Step.{forms, isCalling}
 use Rattle.model.proofs.Invariant.{NodeNumber, owner-of, counter-of}
-use Rattle.model.proofs.Local.{both-left, both-right}
+use Rattle.model.proofs.Local.{both-right}
 use Rattle.model.proofs.Origin.{merges-mark}
-use Rattle.model.proofs.Fields.{joint, Hold, IsNode, IsOther, IsSetOfOthers, IsGroup, IsGivenTask, IsCall, Busy, NodeFacts, nodeTests, MessageFacts, messageTests}
+use Rattle.model.proofs.Fields.{IsNode, IsOther, IsSetOfOthers, IsGroup, IsGivenTask, IsCall, Busy, NodeFacts, MessageFacts}
 use Rattle.model.specs.declared.Status.{Status}
 use Rattle.model.specs.declared.Status.the-variants.{Down, Election, Reorganization, Normal}
 use Rattle.model.specs.declared.Activity.{Activity}
 use Rattle.model.specs.declared.Activity.the-variants.{Idle, Asking, Waiting, Inviting, Collecting, Handing, Contacting, Forwarding, Accepting}
 use Rattle.model.specs.declared.Node.{Node}
 use Rattle.model.specs.declared.CallNo.{CallNo}
-use Rattle.model.specs.declared.GroupNo.{GroupNo}
-use Rattle.model.specs.declared.TaskNo.{TaskNo}
 use Rattle.model.specs.declared.Message.{Message}
 use Rattle.model.specs.declared.Outgoing.{Outgoing}
 use Rattle.model.specs.declared.Outgoing.the-variants.{Nothing, Send}
 use Rattle.model.specs.declared.Mark.{Mark}
-use Rattle.model.specs.declared.Mark.the-variants.{Plain, Recovers, Merges}
+use Rattle.model.specs.declared.Mark.the-variants.{Plain, Merges}
 use Rattle.model.specs.declared.Reaction.{Reaction}
 use Rattle.model.specs.declared.Input.{Input}
 use Rattle.model.specs.declared.Input.the-variants.{Crash, Recover, Check, Timeout, Tick, Expire, Finish, Receive}
@@ -42,11 +39,7 @@ pub both : (x y : Bool) → x ≡ true → y ≡ true → (x && y) ≡ true
 both true y p q = q
 both false y p q = p
 
-pub join : (x : Bool) (ys : List Bool) → Hold (x ∷ ys) → joint x ys ≡ true
-join x [] h = h .0
-join x (y ∷ ys) h = join (x && y) ys (both x y (h .0) (h .1 .0), h .1 .1)
-
--- one of two holds where the second does unless the first does
+-- one of two holds, where the second does unless the first does
 unless : (x y : Bool) → (x ≡ false → y ≡ true) → (x || y) ≡ true
 unless true y f = refl
 unless false y f = f refl
@@ -57,97 +50,67 @@ implied true y f = f refl
 implied false y f = refl
 
 is-other : (n i j : ℕ) → IsOther n i j → isOther n i j ≡ true
-is-other n i j x = join (isNode n j) (not (eqb j i) ∷ []) (both (leb 1 j) _ (le-leb 1 j (x .low)) (le-leb j n (x .high)), (ap not (ne-eqb j i (x .other)), tt))
+is-other n i j x = simp (le-leb 1 j (x .low), le-leb j n (x .high), ne-eqb j i (x .other))
 
 is-set : (n i s : ℕ) → IsSetOfOthers n i s → isSetOfOthers n i s ≡ true
-is-set n i s x = both (within n s) _ (x .inside) (ap not (x .lacks))
+is-set n i s x = simp (x .inside, x .lacks)
 
 is-group : (n g : ℕ) → IsGroup n g → isGroup n g ≡ true
-is-group n g x =
-    join (leb 1 (counterOf g)) (leb (counterOf g) counterEnd ∷ leb (ownerOf g) n ∷ [])
-    (le-leb 1 _ (x .low), (le-leb _ counterEnd (x .high), (le-leb _ n (x .owner), tt)))
+is-group n g x = simp (le-leb 1 _ (x .low), le-leb _ counterEnd (x .high), le-leb _ n (x .owner))
 
 is-given : (t : ℕ) → IsGivenTask t → isGivenTask t ≡ true
-is-given t x = both (leb taskLow t) _ (le-leb taskLow t (x .low)) (le-leb t taskEnd (x .high))
+is-given t x = simp (le-leb taskLow t (x .low), le-leb t taskEnd (x .high))
 
 is-call : (k : ℕ) → IsCall k → isCall k ≡ true
-is-call k x = both (leb 1 k) _ (le-leb 1 k (x .low)) (le-leb k callEnd (x .high))
+is-call k x = simp (le-leb 1 k (x .low), le-leb k callEnd (x .high))
 
 is-busy : (n i g t : ℕ) (a : Activity) → Busy n i g t a → activityInRange n i g t a ≡ true
 unfolding activityInRange
 is-busy n i g t Idle b = refl
-is-busy n i g t (Asking a f) b = both (isOther n i a) _ (is-other n i a (b .0)) (is-set n i f (b .1))
-is-busy n i g t (Waiting k f) b =
-    join (leb 1 k) (leb k tickEnd ∷ isSetOfOthers n i f ∷ []) (le-leb 1 k (b .0), (le-leb k tickEnd (b .1), (is-set n i f (b .2), tt)))
-is-busy n i g t (Inviting f o w) b =
-    join (isSetOfOthers n i f) (isSetOfOthers n i o ∷ isOther n i w ∷ []) (is-set n i f (b .0), (is-set n i o (b .1), (is-other n i w (b .2), tt)))
+is-busy n i g t (Asking a f) b = simp (is-other n i a (b .0), is-set n i f (b .1))
+is-busy n i g t (Waiting k f) b = simp (le-leb 1 k (b .0), le-leb k tickEnd (b .1), is-set n i f (b .2))
+is-busy n i g t (Inviting f o w) b = simp (is-set n i f (b .0), is-set n i o (b .1), is-other n i w (b .2))
 is-busy n i g t Collecting b = refl
-is-busy n i g t (Handing s w) b =
-    join (isSetOfOthers n i s) (isOther n i w ∷ isGivenTask t ∷ []) (is-set n i s (b .0), (is-other n i w (b .1), (is-given t (b .2), tt)))
+is-busy n i g t (Handing s w) b = simp (is-set n i s (b .0), is-other n i w (b .1), is-given t (b .2))
 is-busy n i g t Contacting b = refl
 is-busy n i g t (Forwarding s w a k) b =
-    join (isSetOfOthers n i s) (isOther n i w ∷ isOther n i a ∷ isCall (k .number) ∷ not (eqb (ownerOf g) i) ∷ [])
-    (is-set n i s (b .0), (is-other n i w (b .1), (is-other n i a (b .2), (is-call _ (b .3), (ap not (ne-eqb _ i (b .4)), tt)))))
-is-busy n i g t (Accepting a k) b =
-    join (isOther n i a) (isCall (k .number) ∷ not (eqb (ownerOf g) i) ∷ []) (is-other n i a (b .0), (is-call _ (b .1), (ap not (ne-eqb _ i (b .2)), tt)))
+    simp (is-set n i s (b .0), is-other n i w (b .1), is-other n i a (b .2), is-call _ (b .3), ne-eqb _ i (b .4))
+is-busy n i g t (Accepting a k) b = simp (is-other n i a (b .0), is-call _ (b .1), ne-eqb _ i (b .2))
 
 pub is-node : (n i : ℕ) (c : Node) → NodeFacts n i c → nodeInRange n i c ≡ true
 unfolding nodeInRange
 is-node n i c x =
-    join (leb (c .counter) counterEnd) (nodeTests n i c) (
+    rw (
       le-leb _ counterEnd (x .counter),
-      (
-        named (x .group),
-        (
-          le-leb _ n (x .coordinator),
-          (
-            le-leb _ taskEnd (x .task),
-            (
-              is-set n i _ (x .members),
-              (
-                le-leb _ callEnd (x .last),
-                (
-                  unless (isDown (c .status)) _ (λ u. both (isGroup n (c .group .number)) _ (is-group n _ (x .grouped u)) (eq-eqb _ _ (x .led u))),
-                  (
-                    implied (isDown (c .status)) _ (x .idle),
-                    (
-                      is-busy n i _ _ _ (x .activity),
-                      tt,
-                    ),
-                  ),
-                ),
-              ),
-            ),
-          ),
-        ),
-      ),
+      named (x .group),
+      le-leb _ n (x .coordinator),
+      le-leb _ taskEnd (x .task),
+      is-set n i _ (x .members),
+      le-leb _ callEnd (x .last),
+      led,
+      implied (isDown (c .status)) _ (x .idle),
+      is-busy n i _ _ _ (x .activity),
     )
   where
-    named : (c .group .number ≡ 0) ⊎ IsGroup n (c .group .number) → (eqb (c .group .number) 0 || isGroup n (c .group .number)) ≡ true
+    named : (c .group .number ≡ 0) ⊎ IsGroup n (c .group .number) → isGroupOrNone n (c .group .number) ≡ true
     named (inl e) = unless (eqb (c .group .number) 0) _ (λ f. absurd (eqb-false _ 0 f e))
     named (inr g) = unless (eqb (c .group .number) 0) _ (λ f. is-group n _ g)
+
+    led : isLed n (isDown (c .status)) (c .group .number) (c .coordinator) ≡ true
+    led = unless (isDown (c .status)) _ (λ u. simp (is-group n _ (x .grouped u), eq-eqb _ _ (x .led u)))
 
 is-message : (n : ℕ) (m : Message) → MessageFacts n m → messageInRange n m ≡ true
 unfolding messageInRange
 is-message n m x =
-    join (isNode n (m .sender)) (messageTests n m) (
-      both (leb 1 (m .sender)) _ (le-leb 1 _ (x .sender .low)) (le-leb _ n (x .sender .high)),
-      (
-        is-other n _ _ (x .receiver),
-        (
-          both (leb 1 (m .kind)) _ (le-leb 1 _ (x .kind-low)) (le-leb _ 6 (x .kind-high)),
-          (
-            is-call _ (x .call),
-            (
-              implied (carriesGroup (m .kind)) _ (λ e. is-group n _ (x .group e)),
-              (
-                implied (eqb (m .kind) 5) _ (λ e. is-given _ (x .task e)),
-                tt,
-              ),
-            ),
-          ),
-        ),
-      ),
+    rw (
+      le-leb 1 _ (x .sender .low),
+      le-leb _ n (x .sender .high),
+      is-other n _ _ (x .receiver),
+      le-leb 1 _ (x .kind-low),
+      le-leb _ 6 (x .kind-high),
+      is-call _ (x .call),
+      implied (carriesGroup (m .kind)) _ (λ e. is-group n _ (x .group e)),
+      implied (eqb (m .kind) 5) _ (λ e. is-given _ (x .task e)),
     )
 
 -- ── what a procedure keeps ──
@@ -288,6 +251,24 @@ module _ {n i : ℕ} (p : Place n i) where
         outgoing = tt;
       }
 
+  -- a reply, from a node in range
+  reply-in : {k l : ℕ} (d : Node) (r : ℕ) (x : CallNo) (y : Bool) → IsOther n i r → IsCall (x .number) → nodeInRange n i d ≡ true
+      → Fits n i k l (reaction d (Send (replies i r x y)) Plain)
+  reply-in d r x y o q h _ _ =
+      record {
+        node = h;
+        outgoing = is-message n (replies i r x y)
+            (record {
+              sender = here;
+              receiver = o;
+              kind-low = omega arith;
+              kind-high = omega arith;
+              call = q;
+              group = λ z. absurd (true≢false (sym z));
+              task = λ z. absurd (true≢false (sym z));
+            });
+      }
+
   -- ── the procedures ──
   module _ (c : Node) (u : UpNode n i c) where
     stays-in : {k l : ℕ} (a : Activity) → Busy n i (c .group .number) (c .task .number) a → Fits n i k l (stays (turned c a))
@@ -417,18 +398,18 @@ module _ {n i : ℕ} (p : Place n i) where
         (λ e. askAt-in (j + 2) f (omega arith) (λ z. omega (arith, eqb-true (j + 1) i e)) s)
         (λ e. askAt-in (j + 1) f (omega arith) (eqb-false (j + 1) i e) s)
 
-    checked-in : BusyNode n i c → Room n i c (checked n i c)
-    unfolding checked
-    checked-in b = by-test (Room n i c) (λ _. askAfter-in 0 0 none) (λ _. kept-in c u b)
-
-    timedOut-in : BusyNode n i c → Room n i c (timedOut i c)
-    unfolding timedOut
-    timedOut-in b =
-        by-test (Room n i c)
-        (λ _. kept-in c u b)
-        (λ e. calls-in c u Contacting 2 (c .coordinator) Plain (omega arith) (omega arith) (leader c u (eqb-false (c .coordinator) i e)) tt)
-
     module _ (b : BusyNode n i c) where
+      checked-in : Room n i c (checked n i c)
+      unfolding checked
+      checked-in = by-test (Room n i c) (λ _. askAfter-in 0 0 none) (λ _. kept-in c u b)
+
+      timedOut-in : Room n i c (timedOut i c)
+      unfolding timedOut
+      timedOut-in =
+          by-test (Room n i c)
+          (λ _. kept-in c u b)
+          (λ e. calls-in c u Contacting 2 (c .coordinator) Plain (omega arith) (omega arith) (leader c u (eqb-false (c .coordinator) i e)) tt)
+
       ticked-in : (a : Activity) → Busy n i (c .group .number) (c .task .number) a → Room n i c (ticked i c a)
       unfolding ticked
       ticked-in Idle x = kept-in c u b
@@ -458,24 +439,6 @@ module _ {n i : ℕ} (p : Place n i) where
       expired-in (Forwarding r w a k) x = forwardNext-in c u r a k (x .0) (x .2) (x .3) (x .4)
       expired-in (Accepting a k) x = recovers-in c (u .last)
 
-      -- a reply, from a node in range
-      reply-in : {k l : ℕ} (d : Node) (r : ℕ) (x : CallNo) (y : Bool) → IsOther n i r → IsCall (x .number) → nodeInRange n i d ≡ true
-          → Fits n i k l (reaction d (Send (replies i r x y)) Plain)
-      reply-in d r x y o q h _ _ =
-          record {
-            node = h;
-            outgoing = is-message n (replies i r x y)
-                (record {
-                  sender = here;
-                  receiver = o;
-                  kind-low = omega arith;
-                  kind-high = omega arith;
-                  call = q;
-                  group = λ z. absurd (true≢false (sym z));
-                  task = λ z. absurd (true≢false (sym z));
-                });
-          }
-
       resumed-in : (y : Bool) (a : Activity) → Busy n i (c .group .number) (c .task .number) a → Room n i c (resumed n i c y a)
       unfolding resumed
       resumed-in y Idle x = kept-in c u b
@@ -484,8 +447,7 @@ module _ {n i : ℕ} (p : Place n i) where
       resumed-in y (Inviting f o w) x = inviteNext-in c u Plain f o (x .0) (x .1)
       resumed-in y Collecting x = kept-in c u b
       resumed-in y (Handing r w) x = handNext-in c u r (x .0) (x .2)
-      resumed-in y Contacting x =
-          by-test (Room n i c) (λ _. stays-in c u Idle tt) (λ _. recovers-in c (u .last))
+      resumed-in y Contacting x = by-test (Room n i c) (λ _. stays-in c u Idle tt) (λ _. recovers-in c (u .last))
       resumed-in y (Forwarding r w a k) x = forwardNext-in c u r a k (x .0) (x .2) (x .3) (x .4)
       resumed-in y (Accepting a k) x =
           reply-in (settled c Reorganization) a k true (x .0) (x .1)
@@ -548,8 +510,7 @@ module _ {n i : ℕ} (p : Place n i) where
 
         onReply-in : Room n i c (onReply n i c m)
         unfolding onReply
-        onReply-in =
-            by-test (Room n i c) (λ _. resumed-in (m .yes) (c .activity) b) (λ _. kept-in c u b)
+        onReply-in = by-test (Room n i c) (λ _. resumed-in (m .yes) (c .activity) b) (λ _. kept-in c u b)
 
         received-in : Room n i c (received n i c m)
         unfolding received onAreYouCoordinator onAreYouThere
