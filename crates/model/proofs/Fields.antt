@@ -15,6 +15,7 @@ use Rattle.model.specs.Node.{isDown, isIdle, ownerOf, counterOf}
 use Rattle.model.specs.Range.{isNode, isOther, isSetOfOthers, isGroup, isGivenTask, isCall, isGroupOrNone, isLed, carriesGroup, activityInRange, nodeInRange, messageInRange}
 use Rattle.model.specs.State.{State, startingNode, nodeAt, goes, waits, oldest, every, inRange}
 use Rattle.model.proofs.Local.{both-left, both-right}
+use Rattle.model.proofs.Locality.{taken-out}
 use Rattle.model.specs.declared.Activity.{Activity}
 use Rattle.model.specs.declared.Activity.the-variants.{Idle, Asking, Waiting, Inviting, Collecting, Handing, Contacting, Forwarding, Accepting}
 use Rattle.model.specs.declared.Node.{Node}
@@ -265,10 +266,7 @@ every-oldest f a b k (m ∷ ms) e w =
     (λ t. every-oldest f a b (k + 1) ms (both-right (f m) _ e) (otherwise (goes a b m) _ t w))
 
 pub oldest-goes : (a b : ℕ) (q : List Message) → waits a b q ≡ true → goes a b (oldest a b q) ≡ true
-unfolding waits oldest
-oldest-goes a b [] w = absurd (true≢false (sym w))
-oldest-goes a b (m ∷ ms) w =
-    by-test (λ (x : Message). goes a b x ≡ true) (λ t. t) (λ t. oldest-goes a b ms (otherwise (goes a b m) _ t w))
+oldest-goes a b q w = let x = taken-out a b q w in rw (x .oldest-is) (x .goes-there)
 
 pub in-range-oldest : (s : State) (a b : ℕ) → inRange s ≡ true → waits a b (s .queue) ≡ true → messageInRange (s .n) (oldest a b (s .queue)) ≡ true
 in-range-oldest s a b e w = every-oldest (messageInRange (s .n)) a b 1 (s .queue) (in-range-queue s e) w

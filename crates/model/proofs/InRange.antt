@@ -2,7 +2,7 @@
 use Prim.Native.Nat.{ℕ, zero, suc, _+_, _-_, _<_, _≤_}
 use native.Mathlib.Omega.{arith}
 use native.Mathlib.Nat.{le-refl}
-use mathlib.Core.Bool.{Bool, true, false, not, _&&_, true≢false}
+use mathlib.Core.Bool.{Bool, true, false, _&&_, true≢false}
 use mathlib.Core.Logic.{inl}
 use mathlib.Core.Path.{_≡_, refl, sym, _∙_, ap, subst}
 use mathlib.Core.List.{List, [], _∷_, _++_}
@@ -12,15 +12,17 @@ use borrow.Author.Tests.{eqb-true, eqb-false, eq-eqb, le-leb, not-true, not-fals
 use Rattle.node_set.proofs.Laws.{empty-within, empty-lacks}
 use Rattle.model.specs.Pick.{by-test}
 use Rattle.model.specs.Limits.{nodeLimit, queueLimit, counterEnd, callEnd}
-use Rattle.model.specs.Range.{isNode, isOther, nodeInRange, messageInRange}
+use Rattle.model.specs.Range.{nodeInRange, messageInRange}
 use Rattle.model.specs.React.{react}
-use Rattle.model.specs.State.{State, startingNode, start, nodeAt, goes, waits, oldest, withoutOldest, every, inRange}
-use Rattle.model.specs.Step.{actor, reactionTo, remaining, sent, effect, wrongNumber, wrongTask, wrongStatus, noneWaits, forms, isCalling, isSending, Ground, grounds, Result, refused, accepted, judged, step, kept, after, runFrom, run}
+use Rattle.model.specs.State.{State, startingNode, start, nodeAt, waits, oldest, withoutOldest, every, inRange}
+use Rattle.model.specs.Step.{actor, reactionTo, remaining, sent, effect, wrongTask, wrongStatus, noneWaits, isSending, Ground, grounds, Result, refused, accepted, judged, step, kept, after, runFrom, run}
 use Rattle.model.specs.Claims.{StaysInRange}
 use Rattle.model.proofs.Judged.{Clear, by-step, accepted-is}
 use Rattle.model.proofs.Local.{both-left, both-right}
-use Rattle.model.proofs.Fields.{otherwise, node-is, other-is, given-is, NodeFacts, node-facts, message-facts, in-range-nodes, in-range-queue, in-range-size, in-range-node, in-range-oldest, oldest-goes}
-use Rattle.model.proofs.Range.{both, is-node, Place, OutgoingIn, ReactionIn, InputIn, react-in}
+use Rattle.model.proofs.Locality.{taken-out}
+use Rattle.model.proofs.Numbers.{actor-in}
+use Rattle.model.proofs.Fields.{given-is, NodeFacts, node-facts, message-facts, in-range-nodes, in-range-queue, in-range-size, in-range-node, in-range-oldest, oldest-goes}
+use Rattle.model.proofs.Range.{both, is-node, Place, OutgoingIn, ReactionIn, Room, InputIn, react-in}
 use Rattle.model.specs.declared.Message.{Message}
 use Rattle.model.specs.declared.Outgoing.{Outgoing}
 use Rattle.model.specs.declared.Outgoing.the-variants.{Nothing, Send}
@@ -67,11 +69,9 @@ module _ (f : Message → Bool) where
 
 -- ── the queue ──
 pub without-length : (a b : ℕ) (q : List Message) → waits a b q ≡ true → length (withoutOldest a b q) + 1 ≡ length q
-unfolding waits withoutOldest
-without-length a b [] w = absurd (true≢false (sym w))
-without-length a b (m ∷ ms) w =
-    by-test (λ (q : List Message). length q + 1 ≡ length (m ∷ ms)) (λ _. omega arith)
-    (λ t. omega (arith, without-length a b ms (otherwise (goes a b m) _ t w)))
+without-length a b q w =
+    let x = taken-out a b q w in
+    omega (arith, ap length (x .whole), ap length (x .left), length-append (x .before) (x .taken ∷ (x .behind)), length-append (x .before) (x .behind))
 
 sent-fits : (q : List Message) (o : Outgoing) → length q ≤ queueLimit → isSending o && eqb (length q) queueLimit ≡ false → length (q ++ sent o) ≤ queueLimit
 sent-fits q Nothing h e = simp length-append (omega arith)
@@ -95,64 +95,54 @@ record EventIn (s : State) (e : Event) : Type 0 where
   pub fewer : length (remaining s e) ≤ length (s .queue)
   pub stays : every (λ _. messageInRange (s .n)) 1 (remaining s e) ≡ true
 
-module _ (s : State) (r : inRange s ≡ true) where
-  place : (i : ℕ) → isNode (s .n) i ≡ true → Place (s .n) i
-  place i e = let x = node-is (s .n) i e in record { low = x .low; high = x .high; small = in-range-size s r .1 }
+module _ (s : State) (e : Event) (c : Clear s e) where
+  place : Place (s .n) (actor e)
+  place = let x = actor-in (s .n) e (c .number) in record { low = x .0; high = x .1; small = in-range-size s (c .in-range) .1 }
 
-  facts : (i : ℕ) → Place (s .n) i → NodeFacts (s .n) i (nodeAt s i)
-  facts i p = node-facts (s .n) i (nodeAt s i) (in-range-node s i r (p .low) (p .high))
+  -- the event's node as it stands
+  stands : nodeInRange (s .n) (actor e) (nodeAt s (actor e)) ≡ true
+  stands = in-range-node s (actor e) (c .in-range) (place .low) (place .high)
 
-  -- node i acts on an input
-  acts : (i : ℕ) (x : Input) (p : Place (s .n) i) → InputIn (s .n) i (nodeAt s i) x
-      → forms (react (s .n) i (nodeAt s i) x .mark) && eqb (nodeAt s i .counter) counterEnd ≡ false
-      → isCalling (react (s .n) i (nodeAt s i) x .outgoing) && eqb (nodeAt s i .last .number) callEnd ≡ false
-      → ReactionIn (s .n) i (react (s .n) i (nodeAt s i) x)
-  acts i x p h k l =
-      let f = facts i p in react-in p (nodeAt s i) x f h (spare _ _ counterEnd k (f .counter)) (spare _ _ callEnd l (f .last))
+  -- the event's node acts on an input
+  acts : (x : Input) → reactionTo s e ≡ react (s .n) (actor e) (nodeAt s (actor e)) x → InputIn (s .n) (actor e) (nodeAt s (actor e)) x
+      → ReactionIn (s .n) (actor e) (reactionTo s e)
+  acts x q h =
+      let f = node-facts (s .n) (actor e) (nodeAt s (actor e)) stands in
+      subst (Room (s .n) (actor e) (nodeAt s (actor e))) (sym q) (react-in place (nodeAt s (actor e)) x f h)
+      (spare _ _ counterEnd (c .counter) (f .counter)) (spare _ _ callEnd (c .calls) (f .last))
 
   -- an event that takes no message out
-  alone : (e : Event) → remaining s e ≡ s .queue → Place (s .n) (actor e) → ReactionIn (s .n) (actor e) (reactionTo s e) → EventIn s e
-  alone e q p x = record { place = p; reaction = x; fewer = rw q (le-refl _); stays = rw q (in-range-queue s r) }
+  alone : remaining s e ≡ s .queue → ReactionIn (s .n) (actor e) (reactionTo s e) → EventIn s e
+  alone q x = record { place = place; reaction = x; fewer = rw q (le-refl _); stays = rw q (in-range-queue s (c .in-range)) }
 
   -- an event that takes out the oldest message from a to b
-  taking : (a b : ℕ) (e : Event) → waits a b (s .queue) ≡ true → remaining s e ≡ withoutOldest a b (s .queue) → Place (s .n) (actor e)
-      → ReactionIn (s .n) (actor e) (reactionTo s e) → EventIn s e
-  taking a b e w q p x =
+  taking : (a b : ℕ) → waits a b (s .queue) ≡ true → remaining s e ≡ withoutOldest a b (s .queue) → ReactionIn (s .n) (actor e) (reactionTo s e) → EventIn s e
+  taking a b w q x =
       record {
-        place = p;
+        place = place;
         reaction = x;
         fewer = rw q (omega (arith, without-length a b (s .queue) w));
-        stays = rw q (every-without (messageInRange (s .n)) a b 1 (s .queue) (in-range-queue s r));
+        stays = rw q (every-without (messageInRange (s .n)) a b 1 (s .queue) (in-range-queue s (c .in-range)));
       }
 
-  receiver : (a b : ℕ) → not (isNode (s .n) a && isOther (s .n) a b) ≡ false → Place (s .n) b
-  receiver a b e =
-      let x = other-is (s .n) a b (both-right (isNode (s .n) a) _ (not-false _ e)) in
-      record { low = x .low; high = x .high; small = in-range-size s r .1 }
-
-  event-in : (e : Event) → Clear s e → EventIn s e
-  unfolding reactionTo remaining wrongNumber wrongTask wrongStatus noneWaits
-  event-in (Crash i) c = let p = place i (not-false _ (c .number)) in alone (Crash i) refl p (acts i Input.Crash p tt (c .counter) (c .calls))
-  event-in (Recover i) c = let p = place i (not-false _ (c .number)) in alone (Recover i) refl p (acts i Input.Recover p tt (c .counter) (c .calls))
-  event-in (Check i) c = let p = place i (not-false _ (c .number)) in alone (Check i) refl p (acts i Input.Check p (c .status) (c .counter) (c .calls))
-  event-in (Timeout i) c = let p = place i (not-false _ (c .number)) in alone (Timeout i) refl p (acts i Input.Timeout p (c .status) (c .counter) (c .calls))
-  event-in (Tick i) c = let p = place i (not-false _ (c .number)) in alone (Tick i) refl p (acts i Input.Tick p (c .status) (c .counter) (c .calls))
-  event-in (Expire i) c = let p = place i (not-false _ (c .number)) in alone (Expire i) refl p (acts i Input.Expire p (c .status) (c .counter) (c .calls))
-  event-in (Finish i t) c =
-      let p = place i (not-false _ (c .number)) in
-      alone (Finish i t) refl p
-      (acts i (Input.Finish t) p (c .status, given-is (t .number) (not-false _ (c .task))) (c .counter) (c .calls))
-  event-in (Deliver a b) c =
-      let p = receiver a b (c .number) in
-      let w : waits a b (s .queue) ≡ true = not-false _ (c .waiting) in
-      let m = oldest a b (s .queue) in
-      taking a b (Deliver a b) w refl p
-      (acts b (Input.Receive m) p
-      (c .status, message-facts (s .n) m (in-range-oldest s a b r w), eqb-true (m .receiver) b (both-right (eqb (m .sender) a) _ (oldest-goes a b (s .queue) w)))
-      (c .counter) (c .calls))
-  event-in (Lose a b) c =
-      let p = receiver a b (c .number) in
-      taking a b (Lose a b) (not-false _ (c .waiting)) refl p (record { node = in-range-node s b r (p .low) (p .high); outgoing = tt })
+event-in : (s : State) (e : Event) → Clear s e → EventIn s e
+unfolding reactionTo remaining wrongTask wrongStatus noneWaits
+event-in s (Crash i) c = alone s (Crash i) c refl (acts s (Crash i) c Input.Crash refl tt)
+event-in s (Recover i) c = alone s (Recover i) c refl (acts s (Recover i) c Input.Recover refl tt)
+event-in s (Check i) c = alone s (Check i) c refl (acts s (Check i) c Input.Check refl (c .status))
+event-in s (Timeout i) c = alone s (Timeout i) c refl (acts s (Timeout i) c Input.Timeout refl (c .status))
+event-in s (Tick i) c = alone s (Tick i) c refl (acts s (Tick i) c Input.Tick refl (c .status))
+event-in s (Expire i) c = alone s (Expire i) c refl (acts s (Expire i) c Input.Expire refl (c .status))
+event-in s (Finish i t) c =
+    alone s (Finish i t) c refl (acts s (Finish i t) c (Input.Finish t) refl (c .status, given-is (t .number) (not-false _ (c .task))))
+event-in s (Deliver a b) c =
+    let w : waits a b (s .queue) ≡ true = not-false _ (c .waiting) in
+    let m = oldest a b (s .queue) in
+    taking s (Deliver a b) c a b w refl
+    (acts s (Deliver a b) c (Input.Receive m) refl
+    (c .status, message-facts (s .n) m (in-range-oldest s a b (c .in-range) w), eqb-true (m .receiver) b (both-right (eqb (m .sender) a) _ (oldest-goes a b (s .queue) w))))
+event-in s (Lose a b) c =
+    taking s (Lose a b) c a b (not-false _ (c .waiting)) refl (record { node = stands s (Lose a b) c; outgoing = tt })
 
 effect-in : (s : State) (e : Event) → Clear s e → inRange (effect s e) ≡ true
 unfolding effect inRange
@@ -167,7 +157,7 @@ effect-in s e c =
     )
   where
     x : EventIn s e
-    x = event-in s (c .in-range) e c
+    x = event-in s e c
 
     size : (1 ≤ s .n) × (s .n ≤ 16) × (length (s .nodes) ≡ s .n) × (length (s .queue) ≤ 64)
     size = in-range-size s (c .in-range)
