@@ -1,9 +1,30 @@
-// The machine over a table, by value.
+// The machine over a table, by value: the starting table, and the step for any table and any event.
 pub mod grounds;
 pub mod queue;
 pub mod range;
-use model::Table;
 
+ghost use mathlib.Core.Path.{_≡_};
+ghost use mathlib.Core.Bool.{true};
+ghost use Prim.Native.Nat.{ℕ, _-_, _≤_, _<_};
+ghost use lib.Dec.{ltb};
+ghost use lib.ListN.{replicate};
+ghost use Rattle.model.specs.Pick.{pick};
+ghost use Rattle.model.specs.State.{startingNode, view, inRange};
+ghost use Rattle.machine.specs.Stepped.{Stepped, Begun};
+use model::Activity;
+use model::Answer;
+use model::CallNo;
+use model::Event;
+use model::GroupNo;
+use model::Message;
+use model::Node;
+use model::Outcome;
+use model::Status;
+use model::Table;
+use model::TaskNo;
+pub use range::in_range;
+
+// What a starting table is answered with: it, or refusal 6.
 pub enum StartAnswer {
     Started,
     WrongCount,
@@ -12,4 +33,123 @@ pub enum StartAnswer {
 pub struct Start {
     pub answer: StartAnswer,
     pub table: Table,
+}
+
+fn blank(n: u8) -> Table
+    ensures { λ r. ⌜ (r .n ≡ n) × (r .waiting ≡ 0) × (r .nodes ≡ replicate 16 startingNode) ⌝ }
+{
+    let c = Node {
+        status: Status::Down,
+        counter: 0,
+        group: GroupNo { number: 0 },
+        coordinator: 0,
+        task: TaskNo { number: 0 },
+        members: 0,
+        last: CallNo { number: 0 },
+        activity: Activity::Idle,
+    };
+    let m = Message {
+        sender: 0,
+        receiver: 0,
+        kind: 0,
+        call: CallNo { number: 0 },
+        group: GroupNo { number: 0 },
+        task: TaskNo { number: 0 },
+        yes: false,
+    };
+    Table {
+        n: n,
+        nodes: [c; 16],
+        messages: [m; 64],
+        waiting: 0,
+    }
+}
+
+// The starting table of n nodes, or refusal 6.
+pub fn starting(n: u8) -> Start
+    ensures { λ r. ⌜ Begun n r ⌝ }
+{
+    let table = blank(n);
+    if n < 1 {
+        return Start {
+            answer: StartAnswer::WrongCount,
+            table: table,
+        };
+    }
+    if 16 < n {
+        return Start {
+            answer: StartAnswer::WrongCount,
+            table: table,
+        };
+    }
+    Start {
+        answer: StartAnswer::Started,
+        table: table,
+    }
+}
+
+// How many messages wait once the event's own, if it is found, is out.
+fn left_of(waiting: u8, found: bool) -> u8
+    requires { ⌜ (found ≡ true → 1 ≤ waiting) ⌝ }
+    ensures { λ r. ⌜ r ≡ pick found (waiting - 1) waiting ⌝ }
+{
+    if found {
+        return waiting - 1;
+    }
+    waiting
+}
+
+// One event on a table that is in range: for loops that keep the range, so that it is not checked at every event.
+pub fn advance(t: Table, e: Event) -> Outcome
+    requires { ⌜ inRange (view t) ≡ true ⌝ }
+    ensures { λ r. ⌜ Stepped t e r ⌝ }
+{
+    let n = t.n;
+    let numbers = grounds::number_answer(n, e);
+    if !grounds::is_accepted(numbers) {
+        return Outcome {
+            answer: numbers,
+            table: t,
+        };
+    }
+    let waiting = t.waiting;
+    let k = queue::place_for(t, e);
+    let found = k < waiting as usize;
+    let at = (grounds::actor(e) - 1) as usize;
+    let c = t.nodes[at];
+    let state = grounds::state_answer(c, e, found);
+    if !grounds::is_accepted(state) {
+        return Outcome {
+            answer: state,
+            table: t,
+        };
+    }
+    let m = t.messages[k % 64];
+    let r = grounds::reacts_to(n, c, m, e);
+    let left = left_of(waiting, found);
+    let ends = grounds::end_answer(c, r, left);
+    if !grounds::is_accepted(ends) {
+        return Outcome {
+            answer: ends,
+            table: t,
+        };
+    }
+    let next = queue::stored(t, k, left, at, r);
+    Outcome {
+        answer: Answer::Accepted,
+        table: next,
+    }
+}
+
+// One event on any table: refused, and the very same table; or accepted, and the table after it.
+pub fn step(t: Table, e: Event) -> Outcome
+    ensures { λ r. ⌜ Stepped t e r ⌝ }
+{
+    if !range::in_range(t) {
+        return Outcome {
+            answer: Answer::NotInRange,
+            table: t,
+        };
+    }
+    advance(t, e)
 }

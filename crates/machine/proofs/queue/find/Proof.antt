@@ -37,7 +37,7 @@ returns-2 c =
     let l = c .before in
     let t = l .before .args .t1 in
     let s = sized t (l .before .good .0) in
-    let h = place-end _ _ (t .messages) (t .waiting) (omega arith) (l .loop .i) (omega arith) in
+    let h = place-end (l .before .args .a) (l .before .args .b) (t .messages) (t .waiting) (omega arith) (l .loop .i) (omega arith) in
     (rw (view-queue t s (omega arith)) (omega (arith, l .loop .inv .1)), omega arith)
 
 pub find-spec : {M : Type 1} → statement M

@@ -41,13 +41,13 @@ element-copy-out-m c =
 
 mul-m-2 : tie.Need-mul-m-2 Inv-loop μ-loop
 mul-m-2 c =
-    let p = c .before .before .before .pre .0 in
+    let p = c .before .before .before .before .pre .0 in
     let e = moves _ _ _ (p .2) (omega arith) in
     omega arith
 
 element-set-from-m : tie.Need-element-set-from-m Inv-loop μ-loop
 element-set-from-m c =
-    let p = c .before .before .before .pre .0 in
+    let p = c .before .before .before .before .pre .0 in
     let e = moves _ _ _ (p .2) (omega arith) in
     omega arith
 
@@ -107,10 +107,25 @@ add-next c =
     omega arith
 
 returns : tie.Need-returns Inv-loop μ-loop
-returns c = ?
+returns c =
+    let o = c .before .before .before .before .before in
+    let l = c .before .before .before .loop in
+    let t = o .args .t in
+    let p = o .pre .0 in
+    let e : l .j ≡ o .args .left = omega arith in
+    rw (c .enum-told .given .1, l .inv .4, l .inv .5)
+    (stored-quiet t (sized t (o .good .0)) (p .4) (p .0) (o .args .k) (o .args .left) (o .args .at) (p .2) (p .3) (o .args .r .node) (l .next .messages) (l .inv .2) (rw (← e) (l .inv .3)))
 
 returns-2 : tie.Need-returns-2 Inv-loop μ-loop
-returns-2 c = ?
+returns-2 c =
+    let o = c .before .before .before .before .before .before in
+    let l = c .before .before .before .before .loop in
+    let t = o .args .t in
+    let p = o .pre .0 in
+    let e : l .j ≡ o .args .left = omega arith in
+    let r = rw (c .before .outgoing .given .1) at (o .pre .1) in
+    rw (c .before .outgoing .given .1, l .inv .4, l .inv .5)
+    (stored-sent t (sized t (o .good .0)) (p .4) (p .0) (o .args .k) (o .args .left) (o .args .at) (p .2) (p .3) (o .args .r .node) (l .next .messages) (l .inv .2) (rw (← e) (l .inv .3)) r _)
 
 pub stored-spec : {M : Type 1} → statement M
 stored-spec =
