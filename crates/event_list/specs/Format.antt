@@ -1,0 +1,155 @@
+-- What a list of bytes means, after 01's "The list and the printed table" and "Where each refusal is met". Each definition quotes the words it stands for.
+use mathlib.Core.Bool.{Bool, not, _&&_, _||_}
+use mathlib.Core.List.{List, [], _∷_}
+use Prim.Native.Nat.{ℕ, zero, suc, _+_, _-_, _*_}
+use lib.ListN.{length, getD, take, drop}
+use lib.Dec.{eqb, leb, ltb}
+use Rattle.model.specs.Pick.{pick}
+use Rattle.model.specs.declared.TaskNo.{TaskNo}
+use Rattle.model.specs.declared.Event.{Event}
+use Rattle.model.specs.declared.Event.the-variants.{Crash, Recover, Check, Timeout, Tick, Expire, Finish, Deliver, Lose}
+use Rattle.event_list.specs.declared.Stop.{Stop}
+use Rattle.event_list.specs.declared.Stop.the-variants.{TooLong, CutShort, WrongTag, WrongLength, WrongCount}
+use Rattle.event_list.specs.declared.Next.{Next}
+use Rattle.event_list.specs.declared.Next.the-variants as Next
+use Rattle.event_list.specs.declared.First.{First}
+use Rattle.event_list.specs.declared.First.the-variants as First
+
+-- the "No." of each ground that ends a list
+abbrev pub stopNumber : Stop → ℕ
+stopNumber TooLong = 2
+stopNumber CutShort = 3
+stopNumber WrongTag = 4
+stopNumber WrongLength = 5
+stopNumber WrongCount = 6
+
+-- "over 65,536 bytes"
+abbrev pub maxBytes : ℕ
+maxBytes = 65536
+
+-- "n from 1 to 16"
+abbrev pub maxNodes : ℕ
+maxNodes = 16
+
+-- from the first to the last, both included
+abbrev pub between : ℕ → ℕ → ℕ → Bool
+between a b x = leb a x && leb x b
+
+-- "high byte first"
+abbrev pub twoBytes : ℕ → ℕ → ℕ
+twoBytes high low = high * 256 + low
+
+-- "one-byte tag": that of the field at an offset
+abbrev pub tagAt : List ℕ → ℕ → ℕ
+tagAt l at = getD l at 0
+
+-- "two-byte length with the high byte first"
+abbrev pub lengthAt : List ℕ → ℕ → ℕ
+lengthAt l at = twoBytes (getD l (at + 1) 0) (getD l (at + 2) 0)
+
+-- "contents": "its own stretch of the list"
+abbrev pub contentsAt : List ℕ → ℕ → List ℕ
+contentsAt l at = take (lengthAt l at) (drop (at + 3) l)
+
+-- the offset behind the field at an offset
+abbrev pub behind : List ℕ → ℕ → ℕ
+behind l at = at + 3 + lengthAt l at
+
+-- "First field: 0x01"
+abbrev pub firstTag : ℕ → Bool
+firstTag t = eqb t 0x01
+
+-- "Then events: 0x10 crash" to "0x18 lose"
+abbrev pub eventTag : ℕ → Bool
+eventTag t = between 0x10 0x18 t
+
+-- the length that goes with a tag: "one byte n", "each one byte i", "i and a two-byte task", "sender and receiver"
+unfoldable pub lengthOf : ℕ → ℕ
+lengthOf t =
+    pick (eqb t 0x01) 1
+    (pick (between 0x10 0x15 t) 1
+    (pick (eqb t 0x16) 3
+    (pick (between 0x17 0x18 t) 2
+    0)))
+
+-- "only 1 or 2 bytes left, or fewer contents than its length says; an empty list too"
+unfoldable pub cutShort : List ℕ → ℕ → Bool
+cutShort l at = ltb (length l - at) 3 || ltb (length l - (at + 3)) (lengthAt l at)
+
+-- the grounds 3, 4 and 5 of "a field", the first that applies; `fits` says which tags may stand there
+unfoldable pub checked : {A : Type 0} → (ℕ → Bool) → List ℕ → ℕ → (Stop → A) → A → A
+checked fits l at stop good =
+    pick (cutShort l at) (stop CutShort)
+    (pick (not (fits (tagAt l at))) (stop WrongTag)
+    (pick (not (eqb (lengthAt l at) (lengthOf (tagAt l at)))) (stop WrongLength)
+    good))
+
+-- "two-byte task, high byte first"
+abbrev pub taskOf : ℕ → ℕ → TaskNo
+taskOf high low = record { number = twoBytes high low }
+
+-- the event of a tag with these contents: "0x10 crash, 0x11 recover, 0x12 check, 0x13 timeout, 0x14 tick, 0x15 expire, .. 0x16 finish, .. 0x17 deliver and 0x18 lose"
+unfoldable pub eventOf : ℕ → List ℕ → Event
+eventOf t c =
+    pick (eqb t 0x10) (Crash (getD c 0 0))
+    (pick (eqb t 0x11) (Recover (getD c 0 0))
+    (pick (eqb t 0x12) (Check (getD c 0 0))
+    (pick (eqb t 0x13) (Timeout (getD c 0 0))
+    (pick (eqb t 0x14) (Tick (getD c 0 0))
+    (pick (eqb t 0x15) (Expire (getD c 0 0))
+    (pick (eqb t 0x16) (Finish (getD c 0 0) (taskOf (getD c 1 0) (getD c 2 0)))
+    (pick (eqb t 0x17) (Deliver (getD c 0 0) (getD c 1 0))
+    (Lose (getD c 0 0) (getD c 1 0)))))))))
+
+-- "0 bytes left later is the list's end"; else the field's grounds, and its event
+unfoldable pub nextAt : List ℕ → ℕ → Next
+nextAt l at =
+    pick (leb (length l) at) Next.Done
+    (checked eventTag l at Next.Stopped (Next.Got (eventOf (tagAt l at) (contentsAt l at)) (behind l at)))
+
+-- "n outside 1 to 16"
+unfoldable pub nodesOf : ℕ → First
+nodesOf n = pick (between 1 maxNodes n) (First.Nodes n) (First.Stopped WrongCount)
+
+-- "whole list: over 65,536 bytes"; then the field's grounds, and those of the "first field"
+unfoldable pub firstOf : List ℕ → First
+firstOf l =
+    pick (ltb maxBytes (length l)) (First.Stopped TooLong)
+    (checked firstTag l 0 First.Stopped (nodesOf (getD (contentsAt l 0) 0 0)))
+
+-- how a list ends: at its end, or "at the offset b of its field's tag" by a refusal
+pub data Ending : Type 0 where
+  complete : Ending
+  stopped : ℕ → Stop → Ending
+
+-- "the events are those before the list ends or stops"
+pub record Reading : Type 0 where
+  pub events : List Event
+  pub ending : Ending
+
+-- what is read at an offset, given what is read from the next field on
+abbrev pub onward : ℕ → Next → (ℕ → Reading) → Reading
+onward at Next.Done later = record { events = []; ending = complete }
+onward at (Next.Stopped s) later = record { events = []; ending = stopped at s }
+onward at (Next.Got e next) later = record { events = e ∷ later next .events; ending = later next .ending }
+
+-- the first k fields from an offset on
+unfoldable pub readFrom : ℕ → List ℕ → ℕ → Reading
+readFrom zero l at = record { events = []; ending = complete }
+readFrom (suc k) l at = onward at (nextAt l at) (readFrom k l)
+
+-- all fields from an offset on: a list has fewer fields than bytes, so no more are left (`rest-step` of proofs/Reading)
+unfoldable pub rest : List ℕ → ℕ → Reading
+rest l at = readFrom (suc (length l)) l at
+
+-- what a whole list says: "the whole list or the first field failed", at offset 0; or n, and what is read after the first field
+pub data Listed : Type 0 where
+  failed : Stop → Listed
+  begun : ℕ → Reading → Listed
+
+abbrev pub listed : List ℕ → First → Listed
+listed l (First.Stopped s) = failed s
+listed l (First.Nodes n) = begun n (rest l (behind l 0))
+
+unfoldable pub reading : List ℕ → Listed
+reading l = listed l (firstOf l)

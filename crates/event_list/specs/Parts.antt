@@ -1,0 +1,46 @@
+-- What the reader's inner functions answer. No promise of a public function needs this file.
+use mathlib.Core.Path.{_≡_}
+use mathlib.Core.Bool.{Bool, true, false, not}
+use mathlib.Core.List.{List}
+use Prim.Native.Nat.{ℕ, _+_, _≤_, _<_}
+use lib.ListN.{length, getD}
+use lib.Dec.{eqb}
+use Rattle.model.specs.Pick.{pick}
+use Rattle.model.specs.declared.Event.{Event}
+use Rattle.event_list.specs.declared.Stop.the-variants.{WrongTag, WrongLength}
+use Rattle.event_list.specs.declared.Field.{Field}
+use Rattle.event_list.specs.declared.Field.the-variants as Field
+use Rattle.event_list.specs.declared.Next.{Next}
+use Rattle.event_list.specs.declared.Next.the-variants as Next
+use Rattle.event_list.specs.declared.First.{First}
+use Rattle.event_list.specs.declared.First.the-variants as First
+use Rattle.event_list.specs.Format.{tagAt, lengthAt, behind, firstTag, eventTag, lengthOf, cutShort, eventOf, nodesOf}
+
+-- a field that is there whole
+pub record Found (l : List ℕ) (at t s e : ℕ) : Type 0 where
+  pub more : at < length l
+  pub uncut : cutShort l at ≡ false
+  pub tag : t ≡ tagAt l at
+  pub start : s ≡ at + 3
+  pub end : e ≡ behind l at
+  pub inside : e ≤ length l
+
+-- what is known of a field by the bytes that are left
+abbrev pub Seen : List ℕ → ℕ → Field → Type 0
+Seen l at Field.End = length l ≤ at
+Seen l at Field.Short = (at < length l) × (cutShort l at ≡ true)
+Seen l at (Field.Whole t s e) = Found l at t s e
+
+unfoldable pub sized : ℕ → ℕ → Event → ℕ → Next
+sized size wanted e next = pick (not (eqb size wanted)) (Next.Stopped WrongLength) (Next.Got e next)
+
+-- grounds 4 and 5 of an event's field
+unfoldable pub decoded : ℕ → List ℕ → ℕ → Next
+decoded t c next = pick (not (eventTag t)) (Next.Stopped WrongTag) (sized (length c) (lengthOf t) (eventOf t c) next)
+
+-- grounds 4, 5 and 6 of the first field
+unfoldable pub firstIn : ℕ → List ℕ → First
+firstIn t c =
+    pick (not (firstTag t)) (First.Stopped WrongTag)
+    (pick (not (eqb (length c) (lengthOf t))) (First.Stopped WrongLength)
+    (nodesOf (getD c 0 0)))
