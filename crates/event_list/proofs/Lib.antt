@@ -1,1 +1,3 @@
 pub mod Fields
+pub mod Reading
+pub mod Cases

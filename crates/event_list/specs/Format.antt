@@ -127,22 +127,30 @@ pub record Reading : Type 0 where
   pub events : List Event
   pub ending : Ending
 
--- what is read at an offset, given what is read from the next field on
-abbrev pub onward : ℕ → Next → (ℕ → Reading) → Reading
-onward at Next.Done later = record { events = []; ending = complete }
-onward at (Next.Stopped s) later = record { events = []; ending = stopped at s }
-onward at (Next.Got e next) later = record { events = e ∷ later next .events; ending = later next .ending }
+-- nothing more is read
+abbrev pub ended : Ending → Reading
+ended x = record { events = []; ending = x }
 
--- the first k fields from an offset on
+-- an event, and what is read after it
+abbrev pub after : Event → Reading → Reading
+after e r = record { events = e ∷ r .events; ending = r .ending }
+
+-- what is read from an offset on, given what is read from the next field on
+abbrev pub onward : ℕ → Next → (ℕ → Reading) → Reading
+onward at Next.Done later = ended complete
+onward at (Next.Stopped s) later = ended (stopped at s)
+onward at (Next.Got e next) later = after e (later next)
+
+-- what the next k fields from an offset on say
 unfoldable pub readFrom : ℕ → List ℕ → ℕ → Reading
-readFrom zero l at = record { events = []; ending = complete }
+readFrom zero l at = ended complete
 readFrom (suc k) l at = onward at (nextAt l at) (readFrom k l)
 
--- all fields from an offset on: a list has fewer fields than bytes, so no more are left (`rest-step` of proofs/Reading)
+-- what all fields from an offset on say. A list has no more fields than bytes, so none is left: `rest-step` of proofs/Reading
 unfoldable pub rest : List ℕ → ℕ → Reading
-rest l at = readFrom (suc (length l)) l at
+rest l at = readFrom (length l) l at
 
--- what a whole list says: "the whole list or the first field failed", at offset 0; or n, and what is read after the first field
+-- what a whole list says: "the whole list or the first field failed", at offset 0, or n and what is read behind the first field
 pub data Listed : Type 0 where
   failed : Stop → Listed
   begun : ℕ → Reading → Listed

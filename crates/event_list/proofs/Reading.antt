@@ -1,0 +1,185 @@
+-- Laws of the definitions for a loop that reads a list: where the next field starts, what is left there, and that the count of fields in `rest` never ends a list.
+use Prim.Native.Nat.{ℕ, zero, suc, _+_, _-_, _*_, _≤_, _<_}
+use native.Mathlib.Omega.{arith}
+use mathlib.Core.Path.{_≡_, refl, sym, _∙_}
+use mathlib.Core.Bool.{Bool, true, false, not, _&&_, _||_}
+use mathlib.Core.List.{List}
+use lib.ListN.{length, getD}
+use lib.Dec.{eqb, leb, ltb}
+use borrow.Author.Tests.{le-leb, leb-true, leb-false, ltb-false, eqb-true, eqb-false, not-false}
+use Rattle.model.specs.Pick.{pick, by-test}
+use Rattle.model.specs.declared.Event.{Event}
+use Rattle.event_list.specs.declared.Stop.{Stop}
+use Rattle.event_list.specs.declared.Next.{Next}
+use Rattle.event_list.specs.declared.Next.the-variants as Next
+use Rattle.event_list.specs.declared.First.{First}
+use Rattle.event_list.specs.declared.First.the-variants as First
+use Rattle.event_list.specs.Format.{maxBytes, maxNodes, between, tagAt, lengthAt, contentsAt, behind, firstTag, eventTag, lengthOf, cutShort, checked, nextAt, nodesOf, firstOf, complete, stopped, Reading, ended, after, onward, readFrom, rest, failed, begun, reading}
+use Rattle.event_list.proofs.Fields.{next-end}
+
+-- Tests taken apart.
+unlike : true ≡ false → ⊥
+unlike e = let z : _≡_ {A = ℕ} 0 1 = cc in omega arith
+
+both : (p q : Bool) → (p && q) ≡ true → (p ≡ true) × (q ≡ true)
+both true q e = (refl, e)
+both false q e = absurd (unlike (sym e))
+
+neither : (p q : Bool) → (p || q) ≡ false → (p ≡ false) × (q ≡ false)
+neither false q e = (refl, e)
+neither true q e = absurd (unlike e)
+
+within : (a b x : ℕ) → between a b x ≡ true → (a ≤ x) × (x ≤ b)
+within a b x e = let h = both (leb a x) (leb x b) e in (leb-true a x (h .0), leb-true x b (h .1))
+
+above : (a b x : ℕ) → between a b x ≡ false → a ≤ x → b < x
+above a b x e h = leb-false x b (rw (le-leb a x h) at e)
+
+-- An event's contents have at least one byte.
+some-length : (t : ℕ) → 0x10 ≤ t → t ≤ 0x18 → 1 ≤ lengthOf t
+unfolding lengthOf
+some-length t h k =
+    by-test (λ (n : ℕ). 1 ≤ n)
+    (λ a. omega arith)
+    (λ a. by-test (λ (n : ℕ). 1 ≤ n) (λ b. omega arith) (λ b. by-test (λ (n : ℕ). 1 ≤ n) (λ d. omega arith) (λ d. by-test (λ (n : ℕ). 1 ≤ n) (λ f. omega arith) (λ f. none a b d f))))
+  where
+    none : eqb t 0x01 ≡ false → between 0x10 0x15 t ≡ false → eqb t 0x16 ≡ false → between 0x17 0x18 t ≡ false → 1 ≤ 0
+    none a b d f =
+        let x = above 0x10 0x15 t b h in
+        let n = eqb-false t 0x16 d in
+        let y : 0x17 ≤ t = omega arith in
+        let z = above 0x17 0x18 t f y in
+        absurd (omega arith)
+
+one-length : lengthOf 0x01 ≡ 1
+unfolding lengthOf pick
+one-length = refl
+
+-- A field that is not cut short lies within the list.
+uncut : (l : List ℕ) (at : ℕ) → cutShort l at ≡ false → at + 3 ≤ length l → behind l at ≤ length l
+unfolding cutShort
+uncut l at e h =
+    let f = neither (ltb (length l - at) 3) (ltb (length l - (at + 3)) (lengthAt l at)) e in
+    let k = ltb-false (length l - (at + 3)) (lengthAt l at) (f .1) in
+    omega arith
+
+header : (l : List ℕ) (at : ℕ) → cutShort l at ≡ false → at + 3 ≤ length l
+unfolding cutShort
+header l at e =
+    let f = neither (ltb (length l - at) 3) (ltb (length l - (at + 3)) (lengthAt l at)) e in
+    let k = ltb-false (length l - at) 3 (f .0) in
+    omega arith
+
+-- what is known of where the next field starts
+abbrev Past : List ℕ → ℕ → Next → Type 0
+Past l at Next.Done = Unit {0}
+Past l at (Next.Stopped s) = Unit {0}
+Past l at (Next.Got e next) = (at + 4 ≤ next) × (next ≤ length l)
+
+past-at : (l : List ℕ) (at : ℕ) → Past l at (nextAt l at)
+unfolding nextAt checked
+past-at l at =
+    by-test (Past l at)
+    (λ m. tt)
+    (λ m. by-test (Past l at) (λ u. tt) (λ u. by-test (Past l at) (λ t. tt) (λ t. by-test (Past l at) (λ w. tt) (λ w. whole u t w))))
+  where
+    whole : cutShort l at ≡ false → not (eventTag (tagAt l at)) ≡ false → not (eqb (lengthAt l at) (lengthOf (tagAt l at))) ≡ false →
+        (at + 4 ≤ behind l at) × (behind l at ≤ length l)
+    whole u t w =
+        let k = within 0x10 0x18 (tagAt l at) (not-false _ t) in
+        let n = some-length (tagAt l at) (k .0) (k .1) in
+        let e = eqb-true (lengthAt l at) (lengthOf (tagAt l at)) (not-false _ w) in
+        (omega arith, uncut l at u (header l at u))
+
+-- what is known of a list whose first field is good
+abbrev Good : List ℕ → First → Type 0
+Good l (First.Stopped s) = Unit {0}
+Good l (First.Nodes n) = (behind l 0 ≡ 4) × (4 ≤ length l) × (length l ≤ maxBytes) × (1 ≤ n) × (n ≤ maxNodes)
+
+good-nodes : (l : List ℕ) (n : ℕ) → behind l 0 ≡ 4 → 4 ≤ length l → length l ≤ maxBytes → Good l (nodesOf n)
+unfolding nodesOf
+good-nodes l n a b d = by-test (Good l) (λ e. let k = within 1 maxNodes n e in (a, b, d, k .0, k .1)) (λ e. tt)
+
+good-of : (l : List ℕ) → Good l (firstOf l)
+unfolding firstOf checked
+good-of l =
+    by-test (Good l)
+    (λ m. tt)
+    (λ m. by-test (Good l) (λ u. tt) (λ u. by-test (Good l) (λ t. tt) (λ t. by-test (Good l) (λ w. tt) (λ w. whole m u t w))))
+  where
+    whole : ltb maxBytes (length l) ≡ false → cutShort l 0 ≡ false → not (firstTag (tagAt l 0)) ≡ false → not (eqb (lengthAt l 0) (lengthOf (tagAt l 0))) ≡ false →
+        Good l (nodesOf (getD (contentsAt l 0) 0 0))
+    whole m u t w =
+        let k = eqb-true (tagAt l 0) 0x01 (not-false _ t) in
+        let e = eqb-true (lengthAt l 0) (lengthOf (tagAt l 0)) (not-false _ w) in
+        let o : lengthAt l 0 ≡ 1 = e ∙ rw k one-length in
+        let h = uncut l 0 u (header l 0 u) in
+        good-nodes l _ (omega arith) (omega arith) (ltb-false maxBytes (length l) m)
+
+-- More fields than the bytes that are left say the same.
+pub enough : (j k : ℕ) (l : List ℕ) (at : ℕ) → length l ≤ at + j → length l ≤ at + k → readFrom j l at ≡ readFrom k l at
+unfolding readFrom
+enough zero zero l at p q = refl
+enough zero (suc k) l at p q = rw (next-end l at (omega arith))
+enough (suc j) zero l at p q = rw (next-end l at (omega arith))
+enough (suc j) (suc k) l at p q = by (nextAt l at) (past-at l at) (λ n u w. enough j k l n u w)
+  where
+    by : (x : Next) → Past l at x → ((n : ℕ) → length l ≤ n + j → length l ≤ n + k → readFrom j l n ≡ readFrom k l n) →
+        onward at x (readFrom j l) ≡ onward at x (readFrom k l)
+    by Next.Done g r = refl
+    by (Next.Stopped s) g r = refl
+    by (Next.Got e n) g r = rw (r n (omega arith) (omega arith))
+
+-- What is left at a field, by what stands there and what is left behind it: no reading ends for lack of a count.
+pub rest-step : (l : List ℕ) (at : ℕ) → rest l at ≡ onward at (nextAt l at) (rest l)
+unfolding rest readFrom
+rest-step l at = enough (length l) (suc (length l)) l at (omega arith) (omega arith)
+
+-- The same for an answer x of `event_at`.
+module _ (l : List ℕ) (at : ℕ) {x : Next} (i : x ≡ nextAt l at) where
+  pub rest-done : x ≡ Next.Done → rest l at ≡ ended complete
+  rest-done f = rest-step l at ∙ rw (← i, f)
+
+  pub rest-stopped : {s : Stop} → x ≡ Next.Stopped s → rest l at ≡ ended (stopped at s)
+  rest-stopped f = rest-step l at ∙ rw (← i, f)
+
+  pub rest-got : {e : Event} {next : ℕ} → x ≡ Next.Got e next → rest l at ≡ after e (rest l next)
+  rest-got f = rest-step l at ∙ rw (← i, f)
+
+  -- An event takes at least four bytes, and the next field starts within the list or at its end.
+  pub next-past : {e : Event} {next : ℕ} → x ≡ Next.Got e next → (at + 4 ≤ next) × (next ≤ length l)
+  next-past {e} {next} f = let w : nextAt l at ≡ Next.Got e next = sym i ∙ f in rw w at (past-at l at)
+
+-- The whole list for an answer x of `first_of`.
+module _ (l : List ℕ) {x : First} (i : x ≡ firstOf l) where
+  pub reading-failed : {s : Stop} → x ≡ First.Stopped s → reading l ≡ failed s
+  unfolding reading
+  reading-failed f = rw (← i, f)
+
+  module _ {n : ℕ} (f : x ≡ First.Nodes n) where
+    good : (behind l 0 ≡ 4) × (4 ≤ length l) × (length l ≤ maxBytes) × (1 ≤ n) × (n ≤ maxNodes)
+    good = let w : firstOf l ≡ First.Nodes n = sym i ∙ f in rw w at (good-of l)
+
+    -- The first field takes four bytes.
+    pub reading-begun : reading l ≡ begun n (rest l 4)
+    unfolding reading
+    reading-begun = rw (← i, f, good .0)
+
+    pub first-good : (4 ≤ length l) × (length l ≤ maxBytes) × (1 ≤ n) × (n ≤ maxNodes)
+    first-good = (good .1, good .2, good .3, good .4)
+
+-- Each event takes four bytes or more, so there are few.
+few-events : (k : ℕ) (l : List ℕ) (at : ℕ) → at ≤ length l → at + 4 * length (readFrom k l at .events) ≤ length l
+unfolding readFrom
+few-events zero l at h = omega arith
+few-events (suc k) l at h = by (nextAt l at) (past-at l at) (λ n u. few-events k l n u)
+  where
+    by : (x : Next) → Past l at x → ((n : ℕ) → n ≤ length l → n + 4 * length (readFrom k l n .events) ≤ length l) →
+        at + 4 * length (onward at x (readFrom k l) .events) ≤ length l
+    by Next.Done g r = omega arith
+    by (Next.Stopped s) g r = omega arith
+    by (Next.Got e n) g r = let z = r n (g .1) in omega arith
+
+pub rest-few : (l : List ℕ) (at : ℕ) → at ≤ length l → at + 4 * length (rest l at .events) ≤ length l
+unfolding rest
+rest-few l at h = few-events (length l) l at h
