@@ -3,11 +3,9 @@ use mathlib.Core.Path.{_≡_, refl}
 use mathlib.Core.List.{List, [], _∷_}
 use Prim.Native.Nat.{ℕ}
 use Rattle.model.specs.Pick.{pick}
-use Rattle.model.specs.declared.Event.{Event}
 use Rattle.model.specs.declared.Event.the-variants.{Crash, Recover, Check, Timeout, Tick, Expire, Finish, Deliver, Lose}
-use Rattle.event_list.specs.declared.Stop.{Stop}
 use Rattle.event_list.specs.declared.Stop.the-variants.{CutShort, WrongTag, WrongLength, WrongCount}
-use Rattle.event_list.specs.Format.{stopNumber, lengthOf, cutShort, checked, eventOf, nextAt, nodesOf, firstOf, complete, stopped, Reading, ended, after, readFrom, rest, Listed, failed, begun, reading}
+use Rattle.event_list.specs.Format.{stopNumber, lengthOf, cutShort, checked, eventOf, nextAt, nodesOf, firstOf, complete, stopped, ended, after, readFrom, rest, failed, begun, reading}
 
 -- the list that gives n, with these bytes behind
 abbrev with-nodes : ℕ → List ℕ → List ℕ

@@ -1,21 +1,21 @@
 -- What the reader's inner functions answer is what the definitions say: laws for the proofs of `event_at` and `first_of`.
 use Prim.Native.Nat.{ℕ, _+_, _-_, _≤_, _<_}
 use native.Mathlib.Omega.{arith}
-use mathlib.Core.Path.{_≡_, refl, sym, _∙_}
+use mathlib.Core.Path.{_≡_, refl}
 use mathlib.Core.Bool.{Bool, true, false, _&&_}
 use mathlib.Core.List.{List}
-use lib.ListN.{length, getD, take, drop, length-drop}
+use lib.ListN.{length, take, drop, length-drop}
 use lib.Seq.{length-take-le}
-use lib.Dec.{eqb, leb, ltb}
+use lib.Dec.{leb}
 use borrow.Author.Tests.{le-ltb, lt-ltb, le-leb, lt-leb, leb-true}
 use Rattle.model.specs.Pick.{pick}
 use Rattle.event_list.specs.declared.Stop.the-variants.{TooLong, CutShort}
 use Rattle.event_list.specs.declared.Next.the-variants as Next
 use Rattle.event_list.specs.declared.First.the-variants as First
-use Rattle.event_list.specs.Format.{maxBytes, between, tagAt, lengthAt, contentsAt, behind, firstTag, eventTag, lengthOf, cutShort, checked, eventOf, nodesOf, nextAt, firstOf}
+use Rattle.event_list.specs.Format.{maxBytes, between, lengthAt, contentsAt, cutShort, checked, nextAt, firstOf}
 use Rattle.event_list.specs.Parts.{Found, sized, decoded, firstIn}
 
--- What lies in no range is not between its ends.
+-- What cannot lie between two ends does not.
 pub not-between : (a b x : ℕ) → (a ≤ x → x ≤ b → ⊥) → between a b x ≡ false
 not-between a b x h = by (leb a x) (leb x b) refl refl
   where

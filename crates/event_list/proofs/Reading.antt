@@ -14,7 +14,7 @@ use Rattle.event_list.specs.declared.Next.{Next}
 use Rattle.event_list.specs.declared.Next.the-variants as Next
 use Rattle.event_list.specs.declared.First.{First}
 use Rattle.event_list.specs.declared.First.the-variants as First
-use Rattle.event_list.specs.Format.{maxBytes, maxNodes, between, tagAt, lengthAt, contentsAt, behind, firstTag, eventTag, lengthOf, cutShort, checked, nextAt, nodesOf, firstOf, complete, stopped, Reading, ended, after, onward, readFrom, rest, failed, begun, reading}
+use Rattle.event_list.specs.Format.{maxBytes, maxNodes, between, tagAt, lengthAt, contentsAt, behind, firstTag, eventTag, lengthOf, cutShort, checked, nextAt, nodesOf, firstOf, complete, stopped, ended, after, onward, readFrom, rest, failed, begun, reading}
 use Rattle.event_list.proofs.Fields.{next-end}
 
 -- Tests taken apart.
@@ -35,16 +35,19 @@ within a b x e = let h = both (leb a x) (leb x b) e in (leb-true a x (h .0), leb
 above : (a b x : ℕ) → between a b x ≡ false → a ≤ x → b < x
 above a b x e h = leb-false x b (rw (le-leb a x h) at e)
 
+abbrev Some : ℕ → Type 0
+Some n = 1 ≤ n
+
 -- An event's contents have at least one byte.
 some-length : (t : ℕ) → 0x10 ≤ t → t ≤ 0x18 → 1 ≤ lengthOf t
 unfolding lengthOf
 some-length t h k =
-    by-test (λ (n : ℕ). 1 ≤ n)
+    by-test Some
     (λ a. omega arith)
-    (λ a. by-test (λ (n : ℕ). 1 ≤ n) (λ b. omega arith) (λ b. by-test (λ (n : ℕ). 1 ≤ n) (λ d. omega arith) (λ d. by-test (λ (n : ℕ). 1 ≤ n) (λ f. omega arith) (λ f. none a b d f))))
+    (λ a. by-test Some (λ b. omega arith) (λ b. by-test Some (λ d. omega arith) (λ d. by-test Some (λ f. omega arith) (λ f. none b d f))))
   where
-    none : eqb t 0x01 ≡ false → between 0x10 0x15 t ≡ false → eqb t 0x16 ≡ false → between 0x17 0x18 t ≡ false → 1 ≤ 0
-    none a b d f =
+    none : between 0x10 0x15 t ≡ false → eqb t 0x16 ≡ false → between 0x17 0x18 t ≡ false → 1 ≤ 0
+    none b d f =
         let x = above 0x10 0x15 t b h in
         let n = eqb-false t 0x16 d in
         let y : 0x17 ≤ t = omega arith in
@@ -56,18 +59,12 @@ unfolding lengthOf pick
 one-length = refl
 
 -- A field that is not cut short lies within the list.
-uncut : (l : List ℕ) (at : ℕ) → cutShort l at ≡ false → at + 3 ≤ length l → behind l at ≤ length l
+uncut : (l : List ℕ) (at : ℕ) → cutShort l at ≡ false → behind l at ≤ length l
 unfolding cutShort
-uncut l at e h =
+uncut l at e =
     let f = neither (ltb (length l - at) 3) (ltb (length l - (at + 3)) (lengthAt l at)) e in
+    let h = ltb-false (length l - at) 3 (f .0) in
     let k = ltb-false (length l - (at + 3)) (lengthAt l at) (f .1) in
-    omega arith
-
-header : (l : List ℕ) (at : ℕ) → cutShort l at ≡ false → at + 3 ≤ length l
-unfolding cutShort
-header l at e =
-    let f = neither (ltb (length l - at) 3) (ltb (length l - (at + 3)) (lengthAt l at)) e in
-    let k = ltb-false (length l - at) 3 (f .0) in
     omega arith
 
 -- what is known of where the next field starts
@@ -89,7 +86,7 @@ past-at l at =
         let k = within 0x10 0x18 (tagAt l at) (not-false _ t) in
         let n = some-length (tagAt l at) (k .0) (k .1) in
         let e = eqb-true (lengthAt l at) (lengthOf (tagAt l at)) (not-false _ w) in
-        (omega arith, uncut l at u (header l at u))
+        (omega arith, uncut l at u)
 
 -- what is known of a list whose first field is good
 abbrev Good : List ℕ → First → Type 0
@@ -113,10 +110,10 @@ good-of l =
         let k = eqb-true (tagAt l 0) 0x01 (not-false _ t) in
         let e = eqb-true (lengthAt l 0) (lengthOf (tagAt l 0)) (not-false _ w) in
         let o : lengthAt l 0 ≡ 1 = e ∙ rw k one-length in
-        let h = uncut l 0 u (header l 0 u) in
+        let h = uncut l 0 u in
         good-nodes l _ (omega arith) (omega arith) (ltb-false maxBytes (length l) m)
 
--- More fields than the bytes that are left say the same.
+-- Any two counts of fields that are not below the bytes left read the same.
 pub enough : (j k : ℕ) (l : List ℕ) (at : ℕ) → length l ≤ at + j → length l ≤ at + k → readFrom j l at ≡ readFrom k l at
 unfolding readFrom
 enough zero zero l at p q = refl
@@ -168,7 +165,7 @@ module _ (l : List ℕ) {x : First} (i : x ≡ firstOf l) where
     pub first-good : (4 ≤ length l) × (length l ≤ maxBytes) × (1 ≤ n) × (n ≤ maxNodes)
     first-good = (good .1, good .2, good .3, good .4)
 
--- Each event takes four bytes or more, so there are few.
+-- Each event takes four bytes or more, so there are few: a bound for what is printed.
 few-events : (k : ℕ) (l : List ℕ) (at : ℕ) → at ≤ length l → at + 4 * length (readFrom k l at .events) ≤ length l
 unfolding readFrom
 few-events zero l at h = omega arith

@@ -15,7 +15,7 @@ use Rattle.event_list.specs.declared.Next.the-variants as Next
 use Rattle.event_list.specs.declared.First.{First}
 use Rattle.event_list.specs.declared.First.the-variants as First
 
--- the "No." of each ground that ends a list
+-- the "No." of each ground: "Refusals 2 to 6 end the list"
 abbrev pub stopNumber : Stop → ℕ
 stopNumber TooLong = 2
 stopNumber CutShort = 3
@@ -31,7 +31,7 @@ maxBytes = 65536
 abbrev pub maxNodes : ℕ
 maxNodes = 16
 
--- from the first to the last, both included
+-- from a to b, both included
 abbrev pub between : ℕ → ℕ → ℕ → Bool
 between a b x = leb a x && leb x b
 
@@ -51,7 +51,7 @@ lengthAt l at = twoBytes (getD l (at + 1) 0) (getD l (at + 2) 0)
 abbrev pub contentsAt : List ℕ → ℕ → List ℕ
 contentsAt l at = take (lengthAt l at) (drop (at + 3) l)
 
--- the offset behind the field at an offset
+-- the offset behind that field
 abbrev pub behind : List ℕ → ℕ → ℕ
 behind l at = at + 3 + lengthAt l at
 
@@ -76,11 +76,14 @@ lengthOf t =
 unfoldable pub cutShort : List ℕ → ℕ → Bool
 cutShort l at = ltb (length l - at) 3 || ltb (length l - (at + 3)) (lengthAt l at)
 
--- the grounds 3, 4 and 5 of "a field", the first that applies; `fits` says which tags may stand there
+-- the grounds of "a field", "Checked from the top; the first that applies is given"; `fits` says which tags may stand there
 unfoldable pub checked : {A : Type 0} → (ℕ → Bool) → List ℕ → ℕ → (Stop → A) → A → A
 checked fits l at stop good =
+    -- 3
     pick (cutShort l at) (stop CutShort)
+    -- 4: "unknown tag, 0x01 not first, or another tag first"
     (pick (not (fits (tagAt l at))) (stop WrongTag)
+    -- 5: "length wrong for the tag"
     (pick (not (eqb (lengthAt l at) (lengthOf (tagAt l at)))) (stop WrongLength)
     good))
 
@@ -101,17 +104,17 @@ eventOf t c =
     (pick (eqb t 0x17) (Deliver (getD c 0 0) (getD c 1 0))
     (Lose (getD c 0 0) (getD c 1 0)))))))))
 
--- "0 bytes left later is the list's end"; else the field's grounds, and its event
+-- what stands at an offset past the first field: "0 bytes left later is the list's end"; else the grounds of a field, or its event and where the next field starts
 unfoldable pub nextAt : List ℕ → ℕ → Next
 nextAt l at =
     pick (leb (length l) at) Next.Done
     (checked eventTag l at Next.Stopped (Next.Got (eventOf (tagAt l at) (contentsAt l at)) (behind l at)))
 
--- "n outside 1 to 16"
+-- ground 6: "n outside 1 to 16"
 unfoldable pub nodesOf : ℕ → First
 nodesOf n = pick (between 1 maxNodes n) (First.Nodes n) (First.Stopped WrongCount)
 
--- "whole list: over 65,536 bytes"; then the field's grounds, and those of the "first field"
+-- the ground of the "whole list", 2: "over 65,536 bytes"; then those of a field, and that of the "first field", 6
 unfoldable pub firstOf : List ℕ → First
 firstOf l =
     pick (ltb maxBytes (length l)) (First.Stopped TooLong)
@@ -150,14 +153,16 @@ readFrom (suc k) l at = onward at (nextAt l at) (readFrom k l)
 unfoldable pub rest : List ℕ → ℕ → Reading
 rest l at = readFrom (length l) l at
 
--- what a whole list says: "the whole list or the first field failed", at offset 0, or n and what is read behind the first field
+-- what a whole list says: "the whole list or the first field failed", by this refusal at offset 0; or n, and what is read behind the first field
 pub data Listed : Type 0 where
   failed : Stop → Listed
   begun : ℕ → Reading → Listed
 
+-- the same by what the whole list and its first field say
 abbrev pub listed : List ℕ → First → Listed
 listed l (First.Stopped s) = failed s
 listed l (First.Nodes n) = begun n (rest l (behind l 0))
 
+-- "A list is a row of fields"
 unfoldable pub reading : List ℕ → Listed
 reading l = listed l (firstOf l)

@@ -1,6 +1,6 @@
 -- What the reader's inner functions answer. No promise of a public function needs this file.
 use mathlib.Core.Path.{_≡_}
-use mathlib.Core.Bool.{Bool, true, false, not}
+use mathlib.Core.Bool.{true, false, not}
 use mathlib.Core.List.{List}
 use Prim.Native.Nat.{ℕ, _+_, _≤_, _<_}
 use lib.ListN.{length, getD}
@@ -14,9 +14,9 @@ use Rattle.event_list.specs.declared.Next.{Next}
 use Rattle.event_list.specs.declared.Next.the-variants as Next
 use Rattle.event_list.specs.declared.First.{First}
 use Rattle.event_list.specs.declared.First.the-variants as First
-use Rattle.event_list.specs.Format.{tagAt, lengthAt, behind, firstTag, eventTag, lengthOf, cutShort, eventOf, nodesOf}
+use Rattle.event_list.specs.Format.{tagAt, behind, firstTag, eventTag, lengthOf, cutShort, eventOf, nodesOf}
 
--- a field that is there whole
+-- a field that is there whole: its tag, and where its contents start and end
 pub record Found (l : List ℕ) (at t s e : ℕ) : Type 0 where
   pub more : at < length l
   pub uncut : cutShort l at ≡ false
@@ -25,12 +25,13 @@ pub record Found (l : List ℕ) (at t s e : ℕ) : Type 0 where
   pub end : e ≡ behind l at
   pub inside : e ≤ length l
 
--- what is known of a field by the bytes that are left
+-- what an answer of `field_at` says
 abbrev pub Seen : List ℕ → ℕ → Field → Type 0
 Seen l at Field.End = length l ≤ at
 Seen l at Field.Short = (at < length l) × (cutShort l at ≡ true)
 Seen l at (Field.Whole t s e) = Found l at t s e
 
+-- ground 5 of an event's field
 unfoldable pub sized : ℕ → ℕ → Event → ℕ → Next
 sized size wanted e next = pick (not (eqb size wanted)) (Next.Stopped WrongLength) (Next.Got e next)
 

@@ -3,7 +3,7 @@
 use model::Event;
 use model::TaskNo;
 ghost use mathlib.Core.Path.{_≡_};
-ghost use Prim.Native.Nat.{ℕ, _+_, _*_, _≤_, _<_};
+ghost use Prim.Native.Nat.{_+_, _≤_, _<_};
 ghost use lib.ListN.{length, getD};
 ghost use Rattle.event_list.specs.Format.{twoBytes, lengthAt, taskOf, stopNumber, nodesOf, firstOf, nextAt};
 ghost use Rattle.event_list.specs.Parts.{Seen, sized, decoded, firstIn};
@@ -139,7 +139,7 @@ fn decode(tag: u8, contents: &[u8], next: usize) -> Next
     }
 }
 
-// What stands at an offset past the first field.
+// What stands at an offset past the first field. Past the end of the list that is its end.
 pub fn event_at(list: &[u8], at: usize) -> Next
     ensures { λ r. ⌜ r ≡ nextAt (now (list .entry)) at ⌝ }
 {
