@@ -7,6 +7,7 @@ use mathlib.Core.List.{List}
 use lib.ListN.{length, getD}
 use lib.Dec.{eqb, leb, ltb}
 use borrow.Author.Tests.{le-leb, leb-true, leb-false, ltb-false, eqb-true, eqb-false, not-false}
+use Rattle.model.specs.Limits.{nodeLimit}
 use Rattle.model.specs.Pick.{pick, by-test}
 use Rattle.model.specs.declared.Event.{Event}
 use Rattle.event_list.specs.declared.Stop.{Stop}
@@ -14,7 +15,7 @@ use Rattle.event_list.specs.declared.Next.{Next}
 use Rattle.event_list.specs.declared.Next.the-variants as Next
 use Rattle.event_list.specs.declared.First.{First}
 use Rattle.event_list.specs.declared.First.the-variants as First
-use Rattle.event_list.specs.Format.{maxBytes, maxNodes, between, tagAt, lengthAt, contentsAt, behind, firstTag, eventTag, lengthOf, cutShort, checked, nextAt, nodesOf, firstOf, complete, stopped, ended, after, onward, readFrom, rest, failed, begun, reading}
+use Rattle.event_list.specs.Format.{maxBytes, between, tagAt, lengthAt, contentsAt, behind, firstTag, eventTag, lengthOf, cutShort, checked, nextAt, nodesOf, firstOf, complete, stopped, ended, after, onward, readFrom, rest, failed, begun, reading}
 use Rattle.event_list.proofs.Fields.{next-end}
 
 -- Tests taken apart.
@@ -91,11 +92,11 @@ past-at l at =
 -- what is known of a list whose first field is good
 abbrev Good : List ℕ → First → Type 0
 Good l (First.Stopped s) = Unit {0}
-Good l (First.Nodes n) = (behind l 0 ≡ 4) × (4 ≤ length l) × (length l ≤ maxBytes) × (1 ≤ n) × (n ≤ maxNodes)
+Good l (First.Nodes n) = (behind l 0 ≡ 4) × (4 ≤ length l) × (length l ≤ maxBytes) × (1 ≤ n) × (n ≤ nodeLimit)
 
 good-nodes : (l : List ℕ) (n : ℕ) → behind l 0 ≡ 4 → 4 ≤ length l → length l ≤ maxBytes → Good l (nodesOf n)
 unfolding nodesOf
-good-nodes l n a b d = by-test (Good l) (λ e. let k = within 1 maxNodes n e in (a, b, d, k .0, k .1)) (λ e. tt)
+good-nodes l n a b d = by-test (Good l) (λ e. let k = within 1 nodeLimit n e in (a, b, d, k .0, k .1)) (λ e. tt)
 
 good-of : (l : List ℕ) → Good l (firstOf l)
 unfolding firstOf checked
@@ -154,7 +155,7 @@ module _ (l : List ℕ) {x : First} (i : x ≡ firstOf l) where
   reading-failed f = rw (← i, f)
 
   module _ {n : ℕ} (f : x ≡ First.Nodes n) where
-    good : (behind l 0 ≡ 4) × (4 ≤ length l) × (length l ≤ maxBytes) × (1 ≤ n) × (n ≤ maxNodes)
+    good : (behind l 0 ≡ 4) × (4 ≤ length l) × (length l ≤ maxBytes) × (1 ≤ n) × (n ≤ nodeLimit)
     good = let w : firstOf l ≡ First.Nodes n = sym i ∙ f in rw w at (good-of l)
 
     -- The first field takes four bytes.
@@ -162,7 +163,7 @@ module _ (l : List ℕ) {x : First} (i : x ≡ firstOf l) where
     unfolding reading
     reading-begun = rw (← i, f, good .0)
 
-    pub first-good : (4 ≤ length l) × (length l ≤ maxBytes) × (1 ≤ n) × (n ≤ maxNodes)
+    pub first-good : (4 ≤ length l) × (length l ≤ maxBytes) × (1 ≤ n) × (n ≤ nodeLimit)
     first-good = (good .1, good .2, good .3, good .4)
 
 -- Each event takes four bytes or more, so there are few: a bound for what is printed.

@@ -4,6 +4,7 @@ use mathlib.Core.List.{List, [], _∷_}
 use Prim.Native.Nat.{ℕ, zero, suc, _+_, _-_, _*_}
 use lib.ListN.{length, getD, take, drop}
 use lib.Dec.{eqb, leb, ltb}
+use Rattle.model.specs.Limits.{nodeLimit}
 use Rattle.model.specs.Pick.{pick}
 use Rattle.model.specs.declared.TaskNo.{TaskNo}
 use Rattle.model.specs.declared.Event.{Event}
@@ -26,10 +27,6 @@ stopNumber WrongCount = 6
 -- "over 65,536 bytes"
 abbrev pub maxBytes : ℕ
 maxBytes = 65536
-
--- "n from 1 to 16"
-abbrev pub maxNodes : ℕ
-maxNodes = 16
 
 -- from a to b, both included
 abbrev pub between : ℕ → ℕ → ℕ → Bool
@@ -112,7 +109,7 @@ nextAt l at =
 
 -- ground 6: "n outside 1 to 16"
 unfoldable pub nodesOf : ℕ → First
-nodesOf n = pick (between 1 maxNodes n) (First.Nodes n) (First.Stopped WrongCount)
+nodesOf n = pick (between 1 nodeLimit n) (First.Nodes n) (First.Stopped WrongCount)
 
 -- the ground of the "whole list", 2: "over 65,536 bytes"; then those of a field, and that of the "first field", 6
 unfoldable pub firstOf : List ℕ → First

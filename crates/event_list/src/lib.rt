@@ -41,7 +41,7 @@ enum Field {
 const MAX_BYTES: usize = 65536;
 
 // "n from 1 to 16"
-const MAX_NODES: u8 = 16;
+const NODE_LIMIT: u8 = 16;
 
 pub fn stop_number(s: Stop) -> u8
     ensures { λ r. ⌜ r ≡ stopNumber s ⌝ }
@@ -154,7 +154,7 @@ pub fn event_at(list: &[u8], at: usize) -> Next
 fn nodes_of(n: u8) -> First
     ensures { λ r. ⌜ r ≡ nodesOf n ⌝ }
 {
-    if (1 <= n) & (n <= MAX_NODES) {
+    if (1 <= n) & (n <= NODE_LIMIT) {
         return First::Nodes(n);
     }
     First::Stopped(Stop::WrongCount)
