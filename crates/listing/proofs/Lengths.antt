@@ -1,0 +1,1 @@
+-- How long each line can be.

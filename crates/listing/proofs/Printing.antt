@@ -1,0 +1,144 @@
+-- Laws of printing: some lines and then others, a text that fits, a text that does not, and a line at the start of a buffer's free end.
+use Prim.Native.Nat.{ℕ, zero, suc, _+_, _-_, _≤_, _<_}
+use native.Mathlib.Nat.{add-zero, add-assoc}
+use native.Mathlib.Omega.{arith}
+use mathlib.Core.Path.{_≡_, refl, sym, _∙_, ap}
+use mathlib.Core.Bool.{Bool, true, false, _&&_}
+use mathlib.Core.List.{List, [], _∷_, _++_, append-assoc, append-nil}
+use lib.ListN.{length, take, drop, length-append, length-drop, take-append-drop, drop-of-length-le}
+use lib.Seq.{length-take-le, take-all, drop-drop, drop-at, take-at}
+use lib.Dec.{leb, eqb}
+use borrow.Author.Tests.{le-leb, leb-true, leb-false}
+use Rattle.model.specs.Pick.{pick}
+use Rattle.listing.specs.declared.Put.{Put}
+use Rattle.listing.specs.declared.Put.the-variants.{Next, NoRoom}
+use Rattle.listing.specs.Printing.{putNumber, putNext, Print, shown, room, written, printed, joined}
+
+-- What follows a print: the lines ys, unless it was refused.
+abbrev andThen : Print → List (List ℕ) → Print
+andThen p ys = pick (eqb (p .refusal) 0) (printed (p .bytes) (p .next) ys) p
+
+printed-append : (b : List ℕ) (p : ℕ) (xs ys : List (List ℕ)) → printed b p (xs ++ ys) ≡ andThen (printed b p xs) ys
+unfolding printed pick
+printed-append b p [] ys = refl
+printed-append b p (x ∷ xs) ys = by (room b p x) _ _ (printed-append (written b p x) (p + length x) xs ys)
+  where
+    by : (t : Bool) (n m : Print) → n ≡ andThen m ys → pick t n (shown NoRoom b) ≡ andThen (pick t m (shown NoRoom b)) ys
+    by true n m e = e
+    by false n m e = refl
+
+-- A print that went well, and the rest after it; and one that did not.
+pub then-next : (b o : List ℕ) (p q : ℕ) (a : Put) (xs ys : List (List ℕ)) → shown a o ≡ printed b p xs → a ≡ Next q → printed b p (xs ++ ys) ≡ printed o q ys
+unfolding pick
+then-next b o p q a xs ys e f = printed-append b p xs ys ∙ rw (← e, f)
+
+pub then-refused : (b o : List ℕ) (p : ℕ) (a : Put) (xs ys : List (List ℕ)) → shown a o ≡ printed b p xs → a ≡ NoRoom → printed b p (xs ++ ys) ≡ shown NoRoom o
+unfolding pick
+then-refused b o p a xs ys e f = printed-append b p xs ys ∙ rw (← e, f)
+
+-- The answer, from 01's number and the offset.
+pub answer-next : (a : Put) (q : ℕ) → putNumber a ≡ 0 → putNext a ≡ q → a ≡ Next q
+answer-next (Next p) q e f = ap Next f
+answer-next NoRoom q e f = let v : ⊥ = omega arith in absurd v
+
+pub answer-refused : (a : Put) → putNumber a ≡ 15 → a ≡ NoRoom
+answer-refused (Next p) e = let v : ⊥ = omega arith in absurd v
+answer-refused NoRoom e = refl
+
+both : (x y : Bool) → x && y ≡ true → (x ≡ true) × (y ≡ true)
+both true true h = (refl, refl)
+both true false h = (refl, h)
+both false y h = (h, let w : _≡_ {A = ℕ} 0 1 = cc in let v : ⊥ = omega arith in absurd v)
+
+-- What is written keeps the length, and two pieces after one another are one.
+module _ (b x : List ℕ) (p : ℕ) (h : p + length x ≤ length b) where
+  before-long : length (take p b) ≡ p
+  before-long = length-take-le p b (omega arith)
+
+  pub written-long : length (written b p x) ≡ length b
+  written-long = simp (length-append, before-long, length-drop) (omega arith)
+
+  written-twice : (y : List ℕ) → written (written b p x) (p + length x) y ≡ written b p (x ++ y)
+  written-twice y =
+      let e : length (take p b ++ x) ≡ p + length x = simp (length-append, before-long) in
+      let t : take (p + length x) (written b p x) ≡ take p b ++ x = rw (← append-assoc) (take-at (take p b ++ x) _ (p + length x) e) in
+      let d : drop (p + length x) (written b p x) ≡ drop (p + length x) b = rw (← append-assoc) (drop-at (take p b ++ x) _ (p + length x) e) in
+      rw (t, ← drop-drop (length y) (p + length x) (written b p x), d, drop-drop, append-assoc, append-assoc, length-append, add-assoc)
+
+-- Enough room: everything is written.
+printed-fits : (b : List ℕ) (p : ℕ) (xs : List (List ℕ)) → p + length (joined xs) ≤ length b →
+    printed b p xs ≡ shown (Next (p + length (joined xs))) (written b p (joined xs))
+unfolding printed joined pick
+printed-fits b p [] h = rw (add-zero, take-append-drop)
+printed-fits b p (x ∷ xs) h =
+    let k : p + (length x + length (joined xs)) ≤ length b = simp length-append at h in
+    let h1 : p + length x ≤ length b = omega arith in
+    let l = written-long b x p h1 in
+    let i = printed-fits (written b p x) (p + length x) xs (rw l (omega arith)) in
+    rw (le-leb p (length b) (omega arith), le-leb (length x) (length b - p) (omega arith), i, written-twice b x p h1 (joined xs), length-append, add-assoc)
+
+-- Too little room: refused.
+printed-short : (b : List ℕ) (p : ℕ) (xs : List (List ℕ)) → p ≤ length b → length b < p + length (joined xs) → printed b p xs .refusal ≡ 15
+unfolding printed joined pick
+printed-short b p [] q h = let v : ⊥ = omega arith in absurd v
+printed-short b p (x ∷ xs) q h =
+    by (leb p (length b)) (leb (length x) (length b - p)) refl
+    (λ m. printed-short (written b p x) (p + length x) xs (rw (written-long b x p m) m) (rw (written-long b x p m) (let k = simp length-append at h in omega arith)))
+  where
+    by : (s t : Bool) → leb (length x) (length b - p) ≡ t → (p + length x ≤ length b → printed (written b p x) (p + length x) xs .refusal ≡ 15) →
+        pick (s && t) (printed (written b p x) (p + length x) xs) (shown NoRoom b) .refusal ≡ 15
+    by false t e f = refl
+    by true false e f = refl
+    by true true e f = let z = leb-true (length x) (length b - p) e in f (omega arith)
+
+-- Lines printed from p on: where the buffer is long enough they stand there whole, with all else as it was; else the answer is 15.
+module _ (b o : List ℕ) (p : ℕ) (a : Put) (xs : List (List ℕ)) (e : shown a o ≡ printed b p xs) where
+  pub printed-whole : p + length (joined xs) ≤ length b → (a ≡ Next (p + length (joined xs))) × (o ≡ written b p (joined xs))
+  printed-whole h =
+      let f = e ∙ printed-fits b p xs h in
+      (answer-next a _ (ap (λ (r : Print). r .refusal) f) (ap (λ (r : Print). r .next) f), ap (λ (r : Print). r .bytes) f)
+
+  pub printed-no-room : p ≤ length b → length b < p + length (joined xs) → a ≡ NoRoom
+  printed-no-room q h = answer-refused a (ap (λ (r : Print). r .refusal) e ∙ printed-short b p xs q h)
+
+-- A line written at the start of the free end from at on: the buffer has it at at.
+module _ (b s last : List ℕ) (at : ℕ) (a : Put) (h : at ≤ length b) (e : shown a last ≡ printed (take (length b - at) (drop at b)) 0 (s ∷ [])) where
+  free-all : take (length b - at) (drop at b) ≡ drop at b
+  free-all = take-all (length b - at) (drop at b) (simp length-drop (omega arith))
+
+  free-ends : drop (length b - at) (drop at b) ≡ []
+  free-ends = drop-of-length-le (drop at b) {i = length b - at} (simp length-drop (omega arith))
+
+  free-room : room (drop at b) 0 s ≡ room b at s
+  free-room =
+      let z : length b - at - 0 ≡ length b - at = omega arith in
+      rw (length-drop, z, le-leb 0 (length b - at) (omega arith), le-leb at (length b) h)
+
+  free-shown : (t : Bool) → room b at s ≡ t → shown a last ≡ pick t (shown (Next (length s)) (s ++ drop (length s) (drop at b))) (shown NoRoom (drop at b))
+  unfolding printed
+  free-shown t q = let z : 0 + length s ≡ length s = omega arith in rw (← q, ← free-room) (e ∙ rw (free-all, z))
+
+  by-room : (P : Type 0) → (room b at s ≡ true → (a ≡ Next (length s)) → last ≡ s ++ drop (length s) (drop at b) → P) → (room b at s ≡ false → a ≡ NoRoom → last ≡ drop at b → P) → P
+  unfolding pick
+  by-room P f g = by (room b at s) refl
+    where
+      by : (t : Bool) → room b at s ≡ t → P
+      by true q = let z = free-shown true q in f q (answer-next a _ (ap (λ (r : Print). r .refusal) z) (ap (λ (r : Print). r .next) z)) (ap (λ (r : Print). r .bytes) z)
+      by false q = let z = free-shown false q in g q (answer-refused a (ap (λ (r : Print). r .refusal) z)) (ap (λ (r : Print). r .bytes) z)
+
+  pub put-fits : (n : ℕ) → a ≡ Next n → n ≤ length b - at
+  put-fits n w =
+      by-room (n ≤ length b - at) (λ q i j. let z = both (leb at (length b)) (leb (length s) (length b - at)) q in let y : n ≡ length s = cc in let x = leb-true (length s) (length b - at) (z .1) in omega arith)
+      (λ q i j. let y : _≡_ {A = ℕ} 0 1 = cc in let v : ⊥ = omega arith in absurd v)
+
+  pub put-next : (n : ℕ) → a ≡ Next n → shown (Next (at + n)) (take at b ++ (last ++ drop (length b - at) (drop at b))) ≡ printed b at (s ∷ [])
+  unfolding printed pick
+  put-next n w =
+      by-room _ (λ q i j. let y : n ≡ length s = cc in rw (q, y, j, free-ends, append-nil, drop-drop))
+      (λ q i j. let y : _≡_ {A = ℕ} 0 1 = cc in let v : ⊥ = omega arith in absurd v)
+
+  pub put-refused : a ≡ NoRoom → shown NoRoom (take at b ++ (last ++ drop (length b - at) (drop at b))) ≡ printed b at (s ∷ [])
+  unfolding printed pick
+  put-refused w =
+      by-room _ (λ q i j. let y : _≡_ {A = ℕ} 0 1 = cc in let v : ⊥ = omega arith in absurd v)
+      (λ q i j. rw (q, j, free-ends, append-nil, take-append-drop))

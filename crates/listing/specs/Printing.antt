@@ -1,0 +1,51 @@
+-- Lines written one after the other into the free end of a lent buffer: what is answered, and what the buffer then holds.
+use mathlib.Core.Bool.{Bool, _&&_}
+use mathlib.Core.List.{List, [], _∷_, _++_}
+use Prim.Native.Nat.{ℕ, _+_, _-_}
+use lib.ListN.{length, take, drop}
+use lib.Dec.{leb}
+use Rattle.model.specs.Pick.{pick}
+use Rattle.listing.specs.declared.Line.{Line}
+use Rattle.listing.specs.declared.Put.{Put}
+use Rattle.listing.specs.declared.Put.the-variants.{Next, NoRoom}
+
+-- 01's number for each answer: 0 where nothing is refused
+abbrev pub putNumber : Put → ℕ
+putNumber (Next p) = 0
+putNumber NoRoom = 15
+
+-- the offset after what was written, for the next line
+abbrev pub putNext : Put → ℕ
+putNext (Next p) = p
+putNext NoRoom = 0
+
+-- what printing answers, in 01's numbers, and what the buffer then holds
+pub record Print : Type 0 where
+  pub refusal : ℕ
+  pub next : ℕ
+  pub bytes : List ℕ
+
+abbrev pub shown : Put → List ℕ → Print
+shown a b = record { refusal = putNumber a; next = putNext a; bytes = b }
+
+-- 15, "fewer bytes free than the line has, or offset past the end", is not met: s has room in b from p on
+abbrev pub room : List ℕ → ℕ → List ℕ → Bool
+room b p s = leb p (length b) && leb (length s) (length b - p)
+
+-- "written into the free end of a lent buffer, from an offset": b with s from p on, and all else as it was
+abbrev pub written : List ℕ → ℕ → List ℕ → List ℕ
+written b p s = take p b ++ (s ++ drop (p + length s) b)
+
+-- lines written one after the other into b from p on, up to the first that has no room
+unfoldable pub printed : List ℕ → ℕ → List (List ℕ) → Print
+printed b p [] = record { refusal = 0; next = p; bytes = b }
+printed b p (x ∷ xs) = pick (room b p x) (printed (written b p x) (p + length x) xs) (record { refusal = 15; next = 0; bytes = b })
+
+-- the bytes of lines after one another
+unfoldable pub joined : List (List ℕ) → List ℕ
+joined [] = []
+joined (x ∷ xs) = x ++ joined xs
+
+-- the bytes of a line that is being made
+abbrev pub text : Line → List ℕ
+text l = take (l .len) (l .bytes)
