@@ -8,7 +8,7 @@ use mathlib.Core.List.{List, [], _∷_, _++_, append-assoc, append-nil}
 use lib.ListN.{length, take, drop, length-append, length-drop, take-append-drop, drop-of-length-le}
 use lib.Seq.{length-take-le, take-all, drop-drop, drop-at, take-at}
 use lib.Dec.{leb, eqb}
-use borrow.Author.Tests.{le-leb, leb-true, leb-false}
+use borrow.Author.Tests.{le-leb, lt-leb, leb-true}
 use Rattle.model.specs.Pick.{pick}
 use Rattle.listing.specs.declared.Put.{Put}
 use Rattle.listing.specs.declared.Put.the-variants.{Next, NoRoom}
@@ -100,6 +100,19 @@ module _ (b o : List ℕ) (p : ℕ) (a : Put) (xs : List (List ℕ)) (e : shown 
 
   pub printed-no-room : p ≤ length b → length b < p + length (joined xs) → a ≡ NoRoom
   printed-no-room q h = answer-refused a (ap (λ (r : Print). r .refusal) e ∙ printed-short b p xs q h)
+
+-- One line.
+pub line-refused : (b s : List ℕ) (p : ℕ) → length b < p + length s → shown NoRoom b ≡ printed b p (s ∷ [])
+unfolding printed pick
+line-refused b s p h = by (leb p (length b)) refl
+  where
+    by : (t : Bool) → leb p (length b) ≡ t → shown NoRoom b ≡ pick (t && leb (length s) (length b - p)) (shown (Next (p + length s)) (written b p s)) (shown NoRoom b)
+    by true q = let z = leb-true p (length b) q in rw (lt-leb (length s) (length b - p) (omega arith))
+    by false q = refl
+
+pub line-next : (b o s : List ℕ) (p q : ℕ) → q ≡ p + length s → q ≤ length b → o ≡ written b p s → shown (Next q) o ≡ printed b p (s ∷ [])
+unfolding printed pick
+line-next b o s p q e h f = rw (e, f, le-leb p (length b) (omega arith), le-leb (length s) (length b - p) (omega arith))
 
 -- A line written at the start of the free end from at on: the buffer has it at at.
 module _ (b s last : List ℕ) (at : ℕ) (a : Put) (h : at ≤ length b) (e : shown a last ≡ printed (take (length b - at) (drop at b)) 0 (s ∷ [])) where

@@ -112,7 +112,7 @@ fn with_field(l: Line, x: u32) -> Line
 // The line with its end.
 fn ended(l: Line) -> Line
     requires { ⌜ l .len + 1 ≤ 80 ⌝ }
-    ensures { λ r. ⌜ (text r ≡ text l ++ row []) × (r .len ≤ 80) ⌝ }
+    ensures { λ r. ⌜ (text r ≡ text l ++ (10 ∷ [])) × (r .len ≤ 80) ⌝ }
 {
     with_word(l, b"\n")
 }

@@ -1,0 +1,38 @@
+-- `listing::put_line` meets its contract: what `write_line` does to the free end, read in the whole buffer.
+use borrow.Author.Needs.{needs}
+use native.Mathlib.Omega.{arith}
+use denote.Ref.{now}
+use Rattle.listing.specs.Printing.{text}
+use Rattle.listing.proofs.Printing.{line-refused, put-fits, put-next, put-refused}
+use Rattle.listing.proofs.put_line.Statement.{statement}
+use Rattle.listing.proofs.put_line.Tie as tie
+
+returns : tie.Need-returns
+returns c = let a = c .before .before .args in line-refused (now (a .buf)) (text (a .l)) (a .at) (omega arith)
+
+add-t12 : tie.Need-add-t12
+add-t12 c =
+    let w = c .before .before .before .before .before in
+    let i = w .before .before in
+    let s = i .before .before in
+    let z = put-fits (now (s .args .buf)) (text (s .args .l)) _ (s .args .at) _ (i .if1 .left) (w .write-line .ensures) _ (c .before .n .given .1) in
+    omega (arith, s .good .0 .0, i .if1 .left)
+
+returns-2 : tie.Need-returns-2
+returns-2 c =
+    let w = c .before .before .before .before in
+    let i = w .before .before in
+    let a = i .before .before .args in
+    put-refused (now (a .buf)) (text (a .l)) _ (a .at) _ (i .if1 .left) (w .write-line .ensures) (c .enum-told .given .1)
+
+returns-3 : tie.Need-returns-3
+returns-3 c =
+    let w = c .before .before .before .before .before in
+    let i = w .before .before in
+    let a = i .before .before .args in
+    put-next (now (a .buf)) (text (a .l)) _ (a .at) _ (i .if1 .left) (w .write-line .ensures) _ (c .before .n .given .1)
+
+pub put-line-spec : {M : Type 1} → statement M
+put-line-spec =
+    tie.close
+    (tie.spec returns (λ c. search needs) (λ c. search needs) (λ c. search needs) (λ c κs. search needs) (λ c. search needs) (λ c. search needs) add-t12 (λ c. search needs) returns-2 (λ c. search needs) returns-3)
