@@ -64,9 +64,10 @@ digits-short (suc p) (suc k) x h =
     let i = digits-short p k (x / 10) (tenth (suc k) h) in
     simp length-append (by-test (λ (l : List ℕ). length l + 1 ≤ suc (suc k)) (λ t. omega arith) (λ t. omega arith))
 
-pub decimal-short : (k : ℕ) {x : ℕ} → x < 10 ^ suc k → length (decimal x) ≤ suc k
+pub decimal-short : (k : ℕ) {x : ℕ} → 1 ≤ k → x < 10 ^ k → length (decimal x) ≤ k
 unfolding decimal
-decimal-short k {x} h = digits-short 10 k x h
+decimal-short zero o h = let v : ⊥ = omega arith in absurd v
+decimal-short (suc k) {x} o h = digits-short 10 k x h
 
 digits-long : (p x : ℕ) → length (digits p x) ≤ p
 unfolding digits
