@@ -3,13 +3,14 @@ use Prim.Native.Nat.{ℕ, zero, suc, _+_, _^_, _≤_, _<_}
 use native.Mathlib.Omega.{arith}
 use mathlib.Core.Path.{_≡_}
 use mathlib.Core.List.{List, [], _∷_, _++_}
-use lib.Count.{ones}
+use Rattle.node_set.specs.NodeSet.{count}
 use lib.ListN.{length, length-append}
 use Rattle.model.specs.declared.Node.{Node}
 use Rattle.model.specs.declared.Status.{Status}
 use Rattle.model.specs.declared.Status.the-variants.{Down, Election, Reorganization, Normal}
+use Rattle.model.specs.Answers.{statusNumber}
 use Rattle.listing.specs.Decimal.{decimal}
-use Rattle.listing.specs.Lines.{row, statusNumber, cabinetsWord, refusedWord, stoppedWord, messagesWord, cabinetsLine, refusedLine, stoppedLine, nodeLine, messagesLine}
+use Rattle.listing.specs.Lines.{row, cabinetsWord, refusedWord, stoppedWord, messagesWord, cabinetsLine, refusedLine, stoppedLine, nodeLine, messagesLine}
 use Rattle.listing.specs.Printing.{joined}
 use Rattle.listing.proofs.Decimal.{decimal-short}
 
@@ -51,7 +52,7 @@ status-small Election = omega arith
 status-small Reorganization = omega arith
 status-small Normal = omega arith
 
-pub node-long : (i : ℕ) (c : Node) → i ≤ 16 → c .coordinator ≤ 16 → c .group .number ≤ 16777215 → c .task .number ≤ 65535 → c .counter ≤ 1048575 → ones (c .members) ≤ 16 →
+pub node-long : (i : ℕ) (c : Node) → i ≤ 16 → c .coordinator ≤ 16 → c .group .number ≤ 16777215 → c .task .number ≤ 65535 → c .counter ≤ 1048575 → count (c .members) ≤ 16 →
     length (nodeLine i c) ≤ 34
 unfolding nodeLine
 node-long i c hi hk hg ht hc hm =
@@ -63,7 +64,7 @@ node-long i c hi hk hg ht hc hm =
     (row-more 8 {x = c .group .number} _ (omega arith) (omega arith)
     (row-more 5 {x = c .task .number} _ (omega arith) (omega arith)
     (row-more 7 {x = c .counter} _ (omega arith) (omega arith)
-    (row-more 2 {x = ones (c .members)} [] (omega arith) (omega arith) row-end)))))
+    (row-more 2 {x = count (c .members)} [] (omega arith) (omega arith) row-end)))))
     in
     simp length-append (omega arith)
 

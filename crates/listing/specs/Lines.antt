@@ -1,10 +1,11 @@
 -- The lines that are printed. In each, "single spaces part the fields, numbers have no leading zeros, and 0x0A ends each line".
 use mathlib.Core.List.{List, [], _∷_, _++_}
-use Prim.Native.Nat.{ℕ}
-use lib.Count.{ones}
+use Prim.Native.Nat.{ℕ, _+_}
+use lib.ListN.{length}
+use Rattle.node_set.specs.NodeSet.{count}
 use Rattle.model.specs.declared.Node.{Node}
-use Rattle.model.specs.declared.Status.{Status}
-use Rattle.model.specs.declared.Status.the-variants.{Down, Election, Reorganization, Normal}
+use Rattle.model.specs.Answers.{statusNumber}
+use Rattle.model.specs.State.{State}
 use Rattle.listing.specs.Decimal.{decimal}
 
 -- the fields after a line's first, which are numbers, and the line's end
@@ -37,17 +38,19 @@ refusedLine e r = refusedWord ++ row (e ∷ r ∷ [])
 unfoldable pub stoppedLine : ℕ → ℕ → List ℕ
 stoppedLine b r = stoppedWord ++ row (b ∷ r ∷ [])
 
--- "status: 0 Down, 1 Election, 2 Reorganization, 3 Normal"
-abbrev pub statusNumber : Status → ℕ
-statusNumber Down = 0
-statusNumber Election = 1
-statusNumber Reorganization = 2
-statusNumber Normal = 3
-
 -- "a line per cabinet: number, status, coordinator, group, task, counter, count of members"
 unfoldable pub nodeLine : ℕ → Node → List ℕ
-nodeLine i c = decimal i ++ row (statusNumber (c .status) ∷ c .coordinator ∷ c .group .number ∷ c .task .number ∷ c .counter ∷ ones (c .members) ∷ [])
+nodeLine i c = decimal i ++ row (statusNumber (c .status) ∷ c .coordinator ∷ c .group .number ∷ c .task .number ∷ c .counter ∷ count (c .members) ∷ [])
 
 -- "last `messages` and how many wait"
 unfoldable pub messagesLine : ℕ → List ℕ
 messagesLine k = messagesWord ++ row (k ∷ [])
+
+-- the lines of nodes, the first of which is node i
+unfoldable pub nodeLines : ℕ → List Node → List (List ℕ)
+nodeLines i [] = []
+nodeLines i (c ∷ cs) = nodeLine i c ∷ nodeLines (i + 1) cs
+
+-- "then a line per cabinet ..; last `messages` and how many wait"
+unfoldable pub tableLines : State → List (List ℕ)
+tableLines s = nodeLines 1 (s .nodes) ++ (messagesLine (length (s .queue)) ∷ [])

@@ -1,13 +1,20 @@
 // The printed lines of the machine, each written into the free end of a lent buffer from an offset that the caller names.
 // What a line is, and what writing answers, is in specs/: Decimal, Lines, Printing.
+use model::Activity;
+use model::CallNo;
+use model::GroupNo;
 use model::Node;
 use model::Status;
+use model::Table;
+use model::TaskNo;
 ghost use mathlib.Core.Path.{_≡_};
 ghost use mathlib.Core.List.{[], _∷_, _++_};
 ghost use Prim.Native.Nat.{ℕ, _+_, _%_, _≤_};
-ghost use lib.ListN.{length, drop};
+ghost use lib.ListN.{length, drop, getD};
+ghost use Rattle.model.specs.Answers.{statusNumber};
+ghost use Rattle.model.specs.State.{startingNode, view};
 ghost use Rattle.listing.specs.Decimal.{decimal};
-ghost use Rattle.listing.specs.Lines.{row, statusNumber, cabinetsLine, refusedLine, stoppedLine, nodeLine, messagesLine};
+ghost use Rattle.listing.specs.Lines.{row, cabinetsLine, refusedLine, stoppedLine, nodeLine, messagesLine, tableLines};
 ghost use Rattle.listing.specs.Printing.{text, shown, printed};
 
 // Written, and the offset after it; or refusal 15.
@@ -233,7 +240,53 @@ pub fn put_node(out: &mut [u8], at: usize, i: u8, node: Node) -> Put
         group.number,
         task.number as u32,
         node.counter,
-        u16::count_ones(node.members),
+        node_set::count(node.members),
     );
     put_line(out, at, l)
+}
+
+// A record that the table does not have.
+fn no_node() -> Node
+    ensures { λ r. ⌜ r ≡ startingNode ⌝ }
+{
+    Node {
+        status: Status::Down,
+        counter: 0,
+        group: GroupNo { number: 0 },
+        coordinator: 0,
+        task: TaskNo { number: 0 },
+        members: 0,
+        last: CallNo { number: 0 },
+        activity: Activity::Idle,
+    }
+}
+
+// The record at place k of the table.
+fn node_at(t: Table, k: usize) -> Node
+    ensures { λ r. ⌜ r ≡ getD (t .nodes) k startingNode ⌝ }
+{
+    if 16 <= k {
+        return no_node();
+    }
+    t.nodes[k]
+}
+
+// A line for each node, and how many messages wait.
+pub fn put_table(out: &mut [u8], at: usize, t: Table) -> Put
+    ensures { λ r. ⌜ shown r (now (out .exit)) ≡ printed (now (out .entry)) at (tableLines (view t)) ⌝ }
+{
+    let n = t.n;
+    let mut p = at;
+    let mut i: u8 = 0;
+    while i < n {
+        let node = node_at(t, i as usize);
+        i += 1;
+        match put_node(out, p, i, node) {
+            Put::NoRoom => return Put::NoRoom,
+            Put::Next(q) => {
+                p = q;
+            }
+        }
+    }
+    put_messages(out, p, t.waiting as u32)
 }
