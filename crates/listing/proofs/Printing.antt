@@ -10,6 +10,7 @@ use lib.Seq.{length-take-le, take-all, drop-drop, drop-at, take-at}
 use lib.Dec.{leb, eqb}
 use borrow.Author.Tests.{le-leb, lt-leb, leb-true}
 use Rattle.model.specs.Pick.{pick}
+use Rattle.model.proofs.Local.{both-right}
 use Rattle.listing.specs.declared.Put.{Put}
 use Rattle.listing.specs.declared.Put.the-variants.{Next, NoRoom}
 use Rattle.listing.specs.Printing.{putNumber, putNext, Print, shown, room, written, printed, joined}
@@ -44,11 +45,6 @@ answer-next NoRoom q e f = let v : ⊥ = omega arith in absurd v
 pub answer-refused : (a : Put) → putNumber a ≡ 15 → a ≡ NoRoom
 answer-refused (Next p) e = let v : ⊥ = omega arith in absurd v
 answer-refused NoRoom e = refl
-
-both : (x y : Bool) → x && y ≡ true → (x ≡ true) × (y ≡ true)
-both true true h = (refl, refl)
-both true false h = (refl, h)
-both false y h = (h, let w : _≡_ {A = ℕ} 0 1 = cc in let v : ⊥ = omega arith in absurd v)
 
 -- What is written keeps the length, and two pieces after one another are one.
 module _ (b x : List ℕ) (p : ℕ) (h : p + length x ≤ length b) where
@@ -141,7 +137,7 @@ module _ (b s last : List ℕ) (at : ℕ) (a : Put) (h : at ≤ length b) (e : s
 
   pub put-fits : (n : ℕ) → a ≡ Next n → n ≤ length b - at
   put-fits n w =
-      by-room (n ≤ length b - at) (λ q i j. let z = both (leb at (length b)) (leb (length s) (length b - at)) q in let y : n ≡ length s = cc in let x = leb-true (length s) (length b - at) (z .1) in omega arith)
+      by-room (n ≤ length b - at) (λ q i j. let x = leb-true (length s) (length b - at) (both-right (leb at (length b)) _ q) in let y : n ≡ length s = cc in omega arith)
       (λ q i j. let y : _≡_ {A = ℕ} 0 1 = cc in let v : ⊥ = omega arith in absurd v)
 
   pub put-next : (n : ℕ) → a ≡ Next n → shown (Next (at + n)) (take at b ++ (last ++ drop (length b - at) (drop at b))) ≡ printed b at (s ∷ [])
