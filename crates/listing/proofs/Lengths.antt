@@ -106,8 +106,8 @@ node-in-range-long : (n i : ℕ) (c : Node) → n ≤ 16 → i ≤ n → nodeInR
 unfolding nodeInRange
 node-in-range-long n i c h k g =
     let f =
-        five (leb (c .counter) counterEnd) (isGroupOrNone n (c .group .number)) (leb (c .coordinator) n) (leb (c .task .number) taskEnd) (isSetOfOthers n i (c .members))
-        (both-left _ _ (both-left _ _ (both-left _ _ (both-left _ _ g))))
+    five (leb (c .counter) counterEnd) (isGroupOrNone n (c .group .number)) (leb (c .coordinator) n) (leb (c .task .number) taskEnd) (isSetOfOthers n i (c .members))
+    (both-left _ _ (both-left _ _ (both-left _ _ (both-left _ _ g))))
     in
     let a : c .counter ≤ counterEnd = leb-true _ _ (f .0) in
     let b = group-small n _ (f .1) in
@@ -128,7 +128,7 @@ pub table-long : (s : State) → inRange s ≡ true → length (joined (tableLin
 unfolding tableLines inRange
 table-long s g =
     let f =
-        five (leb 1 (s .n)) (leb (s .n) nodeLimit) (eqb (length (s .nodes)) (s .n)) (leb (length (s .queue)) queueLimit) (every (nodeInRange (s .n)) 1 (s .nodes)) (both-left _ _ g)
+    five (leb 1 (s .n)) (leb (s .n) nodeLimit) (eqb (length (s .nodes)) (s .n)) (leb (length (s .queue)) queueLimit) (every (nodeInRange (s .n)) 1 (s .nodes)) (both-left _ _ g)
     in
     let h : s .n ≤ nodeLimit = leb-true _ _ (f .1) in
     let e : length (s .nodes) ≡ s .n = eqb-true _ _ (f .2) in

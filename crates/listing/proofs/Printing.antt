@@ -6,11 +6,11 @@ use mathlib.Core.Path.{_≡_, refl, sym, _∙_, ap}
 use mathlib.Core.Bool.{Bool, true, false, _&&_}
 use mathlib.Core.List.{List, [], _∷_, _++_, append-assoc, append-nil}
 use lib.ListN.{length, take, drop, length-append, length-drop, take-append-drop, drop-of-length-le}
-use lib.Seq.{length-take-le, take-all, drop-drop, drop-at, take-at}
+use lib.Seq.{length-take-le, take-all, take-take, drop-drop, drop-at, take-at}
 use lib.Dec.{leb, eqb}
 use borrow.Author.Tests.{le-leb, lt-leb, leb-true}
-use Rattle.model.specs.Pick.{pick}
-use Rattle.model.proofs.Local.{both-right}
+use Rattle.model.specs.Pick.{pick, by-test}
+use Rattle.model.proofs.Local.{both-left, both-right}
 use Rattle.listing.specs.declared.Put.{Put}
 use Rattle.listing.specs.declared.Put.the-variants.{Next, NoRoom}
 use Rattle.listing.specs.Printing.{putNumber, putNext, Print, shown, room, written, printed, joined}
@@ -60,6 +60,29 @@ module _ (b x : List ℕ) (p : ℕ) (h : p + length x ≤ length b) where
       let t : take (p + length x) (written b p x) ≡ take p b ++ x = rw (← append-assoc) (take-at (take p b ++ x) _ (p + length x) e) in
       let d : drop (p + length x) (written b p x) ≡ drop (p + length x) b = rw (← append-assoc) (drop-at (take p b ++ x) _ (p + length x) e) in
       rw (t, ← drop-drop (length y) (p + length x) (written b p x), d, drop-drop, append-assoc, append-assoc, length-append, add-assoc)
+
+room-fits : (b x : List ℕ) (p : ℕ) → room b p x ≡ true → p + length x ≤ length b
+room-fits b x p q =
+    let s = leb-true p (length b) (both-left _ _ q) in
+    let t = leb-true (length x) (length b - p) (both-right (leb p (length b)) _ q) in
+    omega arith
+
+-- Whatever is printed, the buffer keeps its length, and the bytes before the offset stay.
+pub printed-long : (b : List ℕ) (p : ℕ) (xs : List (List ℕ)) → length (printed b p xs .bytes) ≡ length b
+unfolding printed
+printed-long b p [] = refl
+printed-long b p (x ∷ xs) =
+    by-test (λ (r : Print). length (r .bytes) ≡ length b) (λ q. printed-long (written b p x) (p + length x) xs ∙ written-long b x p (room-fits b x p q)) (λ q. refl)
+
+pub printed-before : (b : List ℕ) (p : ℕ) (xs : List (List ℕ)) → take p (printed b p xs .bytes) ≡ take p b
+unfolding printed
+printed-before b p [] = refl
+printed-before b p (x ∷ xs) = by-test (λ (r : Print). take p (r .bytes) ≡ take p b) (λ q. more (room-fits b x p q) _ (printed-before (written b p x) (p + length x) xs)) (λ q. refl)
+  where
+    more : p + length x ≤ length b → (o : List ℕ) → take (p + length x) o ≡ take (p + length x) (written b p x) → take p o ≡ take p b
+    more h o e =
+        let s : p ≤ p + length x = omega arith in
+        sym (take-take p (p + length x) o s) ∙ rw e (take-take p (p + length x) (written b p x) s ∙ take-at (take p b) _ p (before-long b x p h))
 
 -- Enough room: everything is written.
 printed-fits : (b : List ℕ) (p : ℕ) (xs : List (List ℕ)) → p + length (joined xs) ≤ length b →
@@ -137,7 +160,7 @@ module _ (b s last : List ℕ) (at : ℕ) (a : Put) (h : at ≤ length b) (e : s
 
   pub put-fits : (n : ℕ) → a ≡ Next n → n ≤ length b - at
   put-fits n w =
-      by-room (n ≤ length b - at) (λ q i j. let x = leb-true (length s) (length b - at) (both-right (leb at (length b)) _ q) in let y : n ≡ length s = cc in omega arith)
+      by-room (n ≤ length b - at) (λ q i j. let x = room-fits b s at q in let y : n ≡ length s = cc in omega arith)
       (λ q i j. let y : _≡_ {A = ℕ} 0 1 = cc in let v : ⊥ = omega arith in absurd v)
 
   pub put-next : (n : ℕ) → a ≡ Next n → shown (Next (at + n)) (take at b ++ (last ++ drop (length b - at) (drop at b))) ≡ printed b at (s ∷ [])
