@@ -1,24 +1,23 @@
--- How long a line of each kind can be, by the digits of its numbers; and lines after one another.
-use Prim.Native.Nat.{ℕ, zero, suc, _+_, _*_, _^_, _≤_, _<_}
+-- How long a line of each kind can be, by the digits of its numbers; lines after one another; and the lines of a table in range.
+use Prim.Native.Nat.{ℕ, _+_, _*_, _^_, _≤_, _<_}
 use native.Mathlib.Omega.{arith}
 use mathlib.Core.Path.{_≡_, refl}
+use mathlib.Core.Bool.{Bool, true, false, _&&_, _||_}
 use mathlib.Core.List.{List, [], _∷_, _++_}
 use lib.Dec.{eqb, leb}
-use mathlib.Core.Bool.{Bool, true, false, _&&_, _||_}
+use lib.ListN.{length, length-append}
 use borrow.Author.Tests.{leb-true, eqb-true}
 use Rattle.node_set.specs.NodeSet.{count}
 use Rattle.node_set.proofs.Laws.{count-within}
+use Rattle.model.specs.declared.Node.{Node}
+use Rattle.model.specs.declared.Status.{Status}
+use Rattle.model.specs.declared.Status.the-variants.{Down, Election, Reorganization, Normal}
+use Rattle.model.specs.Answers.{statusNumber}
 use Rattle.model.specs.Limits.{nodeLimit, queueLimit, counterEnd, taskEnd}
 use Rattle.model.specs.Node.{ownerOf, counterOf}
 use Rattle.model.specs.Range.{isGroup, isGroupOrNone, isSetOfOthers, nodeInRange}
 use Rattle.model.specs.State.{State, every, inRange}
 use Rattle.model.proofs.Local.{both-left, both-right}
-use lib.ListN.{length, length-append}
-use Rattle.model.specs.declared.Node.{Node}
-use Rattle.model.specs.declared.Status.{Status}
-use Rattle.model.specs.declared.Status.the-variants.{Down, Election, Reorganization, Normal}
-use Rattle.model.specs.Answers.{statusNumber}
-use Rattle.listing.specs.Decimal.{decimal}
 use Rattle.listing.specs.Lines.{row, cabinetsWord, refusedWord, stoppedWord, messagesWord, cabinetsLine, refusedLine, stoppedLine, nodeLine, messagesLine, nodeLines, tableLines}
 use Rattle.listing.specs.Printing.{joined}
 use Rattle.listing.proofs.Decimal.{decimal-short}

@@ -24,7 +24,7 @@ valueFrom v (d ∷ ds) = valueFrom (v * 10 + (d - 48)) ds
 abbrev pub valueOf : List ℕ → ℕ
 valueOf l = valueFrom 0 l
 
--- "numbers have no leading zeros": l is the one list of digits that denotes x and does not start with 0, unless it is 0 alone
+-- "numbers have no leading zeros": l is one digit or more, they give x, and the first is 0 only in the number 0, which is that digit alone
 pub record Denotes (l : List ℕ) (x : ℕ) : Type 0 where
   pub value : valueOf l ≡ x
   pub some : 1 ≤ length l

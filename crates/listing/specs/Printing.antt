@@ -14,7 +14,7 @@ abbrev pub putNumber : Put → ℕ
 putNumber (Next p) = 0
 putNumber NoRoom = 15
 
--- the offset after what was written, for the next line
+-- the offset after what was written, for the next line; 0 where it was refused
 abbrev pub putNext : Put → ℕ
 putNext (Next p) = p
 putNext NoRoom = 0

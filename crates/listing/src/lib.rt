@@ -201,6 +201,7 @@ pub fn put_messages(out: &mut [u8], at: usize, k: u32) -> Put
     put_one(out, at, b"messages", k)
 }
 
+// The status as it is printed.
 fn status_number(s: Status) -> u32
     ensures { λ r. ⌜ r ≡ statusNumber s ⌝ }
 {
@@ -245,7 +246,7 @@ pub fn put_node(out: &mut [u8], at: usize, i: u8, node: Node) -> Put
     put_line(out, at, l)
 }
 
-// A record that the table does not have.
+// What stands for a record that the table does not have.
 fn no_node() -> Node
     ensures { λ r. ⌜ r ≡ startingNode ⌝ }
 {
@@ -261,7 +262,7 @@ fn no_node() -> Node
     }
 }
 
-// The record at place k of the table.
+// The record at place k of the table, also where n claims more places than there are.
 fn node_at(t: Table, k: usize) -> Node
     ensures { λ r. ⌜ r ≡ getD (t .nodes) k startingNode ⌝ }
 {
