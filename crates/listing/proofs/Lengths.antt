@@ -1,23 +1,21 @@
 -- How long a line of each kind can be, by the digits of its numbers; lines after one another; and the lines of a table in range.
 use Prim.Native.Nat.{ℕ, _+_, _*_, _^_, _≤_, _<_}
 use native.Mathlib.Omega.{arith}
-use mathlib.Core.Path.{_≡_, refl}
-use mathlib.Core.Bool.{Bool, true, false, _&&_, _||_}
+use mathlib.Core.Path.{_≡_}
+use mathlib.Core.Bool.{true}
+use mathlib.Core.Logic.{⊎-elim}
 use mathlib.Core.List.{List, [], _∷_, _++_}
-use lib.Dec.{eqb, leb}
 use lib.ListN.{length, length-append}
-use borrow.Author.Tests.{leb-true, eqb-true}
 use Rattle.node_set.specs.NodeSet.{count}
 use Rattle.node_set.proofs.Laws.{count-within}
 use Rattle.model.specs.declared.Node.{Node}
 use Rattle.model.specs.declared.Status.{Status}
 use Rattle.model.specs.declared.Status.the-variants.{Down, Election, Reorganization, Normal}
 use Rattle.model.specs.Answers.{statusNumber}
-use Rattle.model.specs.Limits.{nodeLimit, queueLimit, counterEnd, taskEnd}
-use Rattle.model.specs.Node.{ownerOf, counterOf}
-use Rattle.model.specs.Range.{isGroup, isGroupOrNone, isSetOfOthers, nodeInRange}
+use Rattle.model.specs.Range.{nodeInRange}
 use Rattle.model.specs.State.{State, every, inRange}
 use Rattle.model.proofs.Local.{both-left, both-right}
+use Rattle.model.proofs.Fields.{NodeFacts, node-facts, in-range-size, in-range-nodes}
 use Rattle.listing.specs.Lines.{row, cabinetsWord, refusedWord, stoppedWord, messagesWord, cabinetsLine, refusedLine, stoppedLine, nodeLine, messagesLine, nodeLines, tableLines}
 use Rattle.listing.specs.Printing.{joined}
 use Rattle.listing.proofs.Decimal.{decimal-short}
@@ -87,50 +85,24 @@ unfolding joined
 joined-one x = simp length-append (omega arith)
 
 -- A table in range.
-five : (a b c d e : Bool) → a && b && c && d && e ≡ true → (a ≡ true) × (b ≡ true) × (c ≡ true) × (d ≡ true) × (e ≡ true)
-five a b c d e h =
-    let h4 = both-left (a && b && c && d) e h in
-    let h3 = both-left (a && b && c) d h4 in
-    let h2 = both-left (a && b) c h3 in
-    (both-left a b h2, both-right a b h2, both-right (a && b) c h3, both-right (a && b && c) d h4, both-right (a && b && c && d) e h)
-
-group-small : (n g : ℕ) → isGroupOrNone n g ≡ true → g ≤ 16777215
-group-small n g h = by (eqb g 0) refl h
-  where
-    by : (t : Bool) → eqb g 0 ≡ t → t || isGroup n g ≡ true → g ≤ 16777215
-    by true e w = let z = eqb-true g 0 e in omega arith
-    by false e w = let z = leb-true (counterOf g) counterEnd (both-right (leb 1 (counterOf g)) _ (both-left (leb 1 (counterOf g) && leb (counterOf g) counterEnd) (leb (ownerOf g) n) w)) in omega arith
-
-node-in-range-long : (n i : ℕ) (c : Node) → n ≤ 16 → i ≤ n → nodeInRange n i c ≡ true → length (nodeLine i c) ≤ 34
-unfolding nodeInRange
-node-in-range-long n i c h k g =
-    let f =
-    five (leb (c .counter) counterEnd) (isGroupOrNone n (c .group .number)) (leb (c .coordinator) n) (leb (c .task .number) taskEnd) (isSetOfOthers n i (c .members))
-    (both-left _ _ (both-left _ _ (both-left _ _ (both-left _ _ g))))
-    in
-    let a : c .counter ≤ counterEnd = leb-true _ _ (f .0) in
-    let b = group-small n _ (f .1) in
-    let o : c .coordinator ≤ n = leb-true _ _ (f .2) in
-    let t : c .task .number ≤ taskEnd = leb-true _ _ (f .3) in
-    let m = count-within n (c .members) (both-left _ _ (f .4)) in
-    node-long i c (omega arith) (omega arith) b t a (omega arith)
+node-in-range-long : (n i : ℕ) (c : Node) → n ≤ 16 → i ≤ n → NodeFacts n i c → length (nodeLine i c) ≤ 34
+node-in-range-long n i c h k f =
+    let g : c .group .number ≤ 16777215 = ⊎-elim (λ e. omega arith) (λ e. omega arith) (f .group) in
+    let m = count-within n (c .members) (f .members .inside) in
+    node-long i c (omega arith) (omega arith) g (f .task) (f .counter) (omega arith)
 
 nodes-in-range-long : (n i : ℕ) (cs : List Node) → n ≤ 16 → i + length cs ≤ n + 1 → every (nodeInRange n) i cs ≡ true → length (joined (nodeLines i cs)) ≤ 34 * length cs
 unfolding nodeLines joined every
 nodes-in-range-long n i [] h k g = omega arith
 nodes-in-range-long n i (c ∷ cs) h k g =
-    let l = node-in-range-long n i c h (omega arith) (both-left _ _ g) in
+    let l = node-in-range-long n i c h (omega arith) (node-facts n i c (both-left _ _ g)) in
     let r = nodes-in-range-long n (i + 1) cs h (omega arith) (both-right (nodeInRange n i c) _ g) in
     simp length-append (omega arith)
 
 pub table-long : (s : State) → inRange s ≡ true → length (joined (tableLines s)) ≤ 34 * s .n + 12
-unfolding tableLines inRange
+unfolding tableLines
 table-long s g =
-    let f =
-    five (leb 1 (s .n)) (leb (s .n) nodeLimit) (eqb (length (s .nodes)) (s .n)) (leb (length (s .queue)) queueLimit) (every (nodeInRange (s .n)) 1 (s .nodes)) (both-left _ _ g)
-    in
-    let h : s .n ≤ nodeLimit = leb-true _ _ (f .1) in
-    let e : length (s .nodes) ≡ s .n = eqb-true _ _ (f .2) in
-    let q = messages-long (length (s .queue)) (leb-true _ _ (f .3)) in
-    let r = nodes-in-range-long (s .n) 1 (s .nodes) h (omega arith) (f .4) in
+    let f = in-range-size s g in
+    let q = messages-long (length (s .queue)) (f .3) in
+    let r = nodes-in-range-long (s .n) 1 (s .nodes) (f .1) (omega arith) (in-range-nodes s g) in
     rw (joined-append (nodeLines 1 (s .nodes)) (messagesLine (length (s .queue)) ∷ []), joined-one (messagesLine (length (s .queue)))) (omega arith)

@@ -2,10 +2,10 @@
 use Prim.Native.Nat.{ℕ, zero, suc, _+_, _-_, _/_, _%_, _^_, _≤_, _<_}
 use native.Mathlib.Numerals.{add-one}
 use native.Mathlib.Omega.{arith}
-use mathlib.Core.Path.{_≡_, refl, sym, _∙_, ap}
+use mathlib.Core.Path.{_≡_, sym, _∙_, ap}
 use mathlib.Core.List.{List, [], _∷_, _++_, append-assoc, append-nil}
 use lib.ListN.{length, getD, take, drop, set, length-set, length-drop, length-append, length-map, drop-of-length-le}
-use lib.Seq.{drop-cons, drop-set-lt, getD-set-same, take-suc, set-at, append-snoc, length-take-le, take-all, drop-drop, take-at}
+use lib.Seq.{drop-cons, drop-set-lt, getD-set-same, take-suc, set-at, append-snoc, length-take-le, take-all, take-at}
 use lib.Dec.{ltb}
 use borrow.Author.Tests.{le-ltb, lt-ltb}
 use mir.Val.{Val}

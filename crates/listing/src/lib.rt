@@ -9,7 +9,7 @@ use model::Table;
 use model::TaskNo;
 ghost use mathlib.Core.Path.{_≡_};
 ghost use mathlib.Core.List.{[], _∷_, _++_};
-ghost use Prim.Native.Nat.{ℕ, _+_, _%_, _≤_};
+ghost use Prim.Native.Nat.{_+_, _%_, _≤_};
 ghost use lib.ListN.{length, drop, getD};
 ghost use Rattle.model.specs.Answers.{statusNumber};
 ghost use Rattle.model.specs.State.{startingNode, view};

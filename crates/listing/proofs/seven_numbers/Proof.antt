@@ -1,6 +1,5 @@
 -- `listing::seven_numbers` meets its contract: the line's pieces are its first number and its row.
 use borrow.Author.Needs.{needs}
-use native.Mathlib.Omega.{arith}
 use mathlib.Core.Path.{_∙_}
 use mathlib.Core.List.{[], _∷_}
 use Rattle.listing.specs.Lines.{row}

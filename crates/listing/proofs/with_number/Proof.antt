@@ -1,7 +1,7 @@
 -- `listing::with_number` meets its contract: the part of the array that is added is the number's digits.
 use borrow.Author.Needs.{needs}
 use Prim.Native.Nat.{_-_, _≤_}
-use mathlib.Core.Path.{_≡_, _∙_}
+use mathlib.Core.Path.{_∙_}
 use native.Mathlib.Omega.{arith}
 use lib.ListN.{length, drop, take}
 use Rattle.listing.proofs.Making.{digits-long, digits-part}
