@@ -12,8 +12,10 @@ use lib.Seq.{drop-cons, drop-set-lt, take-set-lt, take-suc-set, take-take, appen
 use mir.Val.{Val}
 use denote.Laws.{Is}
 use denote.Struct.Declared.{row}
+use borrow.Author.Tests.{le-leb, eq-eqb}
+use Rattle.model.specs.Range.{nodeInRange, messageInRange}
 use Rattle.model.specs.Pick.{pick, pick-true, pick-false}
-use Rattle.model.specs.State.{State, startingNode, noMessage, every, firstOf, view, goes}
+use Rattle.model.specs.State.{State, startingNode, noMessage, every, inRange, firstOf, view, goes}
 use Rattle.model.specs.declared.Node.{Node}
 use Rattle.model.specs.declared.Message.{Message}
 use Rattle.model.specs.declared.Table.{Table}
@@ -52,6 +54,14 @@ module _ (t : Table) (s : Sized t) where
   pub view-queue : t .waiting ≤ 64 → view t .queue ≡ take (t .waiting) (t .messages)
   view-queue h = first-take (t .waiting) noMessage (t .messages) (omega arith)
 
+-- ── the range, once n and the number waiting are good ──
+pub in-range-is : (t : Table) → Sized t → 1 ≤ t .n → t .n ≤ 16 → t .waiting ≤ 64
+    → inRange (view t) ≡ every (nodeInRange (t .n)) 1 (take (t .n) (t .nodes)) && every (λ k. messageInRange (t .n)) 1 (take (t .waiting) (t .messages))
+unfolding inRange
+in-range-is t s l h w =
+    rw
+    (le-leb 1 (t .n) l, le-leb (t .n) 16 h, first-length (t .n) startingNode (t .nodes), eq-eqb (t .n) (t .n) refl, first-length (t .waiting) noMessage (t .messages), le-leb (t .waiting) 64 w, view-nodes t s h, view-queue t s w)
+
 -- ── loops over the first w elements of an array: what is left at k, by the element at k ──
 module _ {A : Type 0} (l : List A) (w : ℕ) (h : w ≤ length l) (k : ℕ) where
   left-turn : k < w → (d : A) → drop k (take w l) ≡ getD l k d ∷ drop (k + 1) (take w l)
@@ -87,7 +97,7 @@ module _ (a b : ℕ) (l : List Message) (w : ℕ) (h : w ≤ length l) (k : ℕ)
     unfolding place
     place-hit y = rw (left-turn l w h k p d, ← e, y, pick-true)
 
-    pub place-miss : r ≡ false → place a b (drop k (take w l)) ≡ place a b (drop (k + 1) (take w l)) + 1
+    pub place-miss : r ≡ false → place a b (drop k (take w l)) ≡ suc (place a b (drop (k + 1) (take w l)))
     unfolding place
     place-miss y = rw (left-turn l w h k p d, ← e, y, pick-false)
 

@@ -28,7 +28,7 @@ use Rattle.model.specs.declared.Event.the-variants.{Crash, Recover, Check, Time
 -- where the oldest message from a to b stands, or the queue's length
 unfoldable pub place : ℕ → ℕ → List Message → ℕ
 place a b [] = 0
-place a b (m ∷ ms) = pick (goes a b m) 0 (place a b ms + 1)
+place a b (m ∷ ms) = pick (goes a b m) 0 (suc (place a b ms))
 
 -- a list without its element at k
 abbrev pub without : {A : Type 0} → ℕ → List A → List A

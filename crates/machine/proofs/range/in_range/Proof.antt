@@ -2,9 +2,10 @@
 use borrow.Author.Tests.{le-leb, lt-leb, eq-eqb}
 use borrow.Author.Needs.{needs}
 use native.Mathlib.Omega.{arith}
-use mathlib.Core.Path.{refl}
+use mathlib.Core.Path.{refl, sym, _∙_, ap₂}
+use mathlib.Core.Bool.{Bool, _&&_}
 use Rattle.model.specs.State.{startingNode, noMessage, inRange}
-use Rattle.machine.proofs.Laws.{sized, first-length, view-nodes, view-queue}
+use Rattle.machine.proofs.Laws.{sized, first-length, in-range-is}
 use Rattle.machine.proofs.range.in_range.Statement.{statement}
 use Rattle.machine.proofs.range.in_range.Tie as tie
 
@@ -24,13 +25,11 @@ returns-3 c =
     (le-leb _ _ (c .before .before .if1 .left), le-leb _ _ (c .before .if2 .left), first-length (t .n) startingNode (t .nodes), eq-eqb (t .n) (t .n) refl, first-length (t .waiting) noMessage (t .messages), lt-leb _ _ (c .if3 .taken))
 
 returns-4 : tie.Need-returns-4
-unfolding inRange
 returns-4 c =
     let f = c .before .before in
     let t = f .before .before .before .args .t in
-    let s = sized t (f .before .before .before .good .0) in
-    simp
-    (le-leb _ _ (f .before .before .if1 .left), le-leb _ _ (f .before .if2 .left), first-length (t .n) startingNode (t .nodes), eq-eqb (t .n) (t .n) refl, first-length (t .waiting) noMessage (t .messages), le-leb _ _ (f .if3 .left), view-nodes t s (omega arith), view-queue t s (omega arith), c .before .nodes-in-range .ensures, c .messages-in-range .ensures)
+    ap₂ (λ (x y : Bool). x && y) (c .before .nodes-in-range .ensures) (c .messages-in-range .ensures)
+    ∙ sym (in-range-is t (sized t (f .before .before .before .good .0)) (omega arith) (omega arith) (omega arith))
 
 pub in-range-spec : {M : Type 1} → statement M
 in-range-spec =

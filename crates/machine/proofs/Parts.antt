@@ -1,0 +1,257 @@
+-- The model's step by the parts that the code computes: the grounds in three groups, the message by its place.
+use Prim.Native.Nat.{ℕ, zero, suc, _+_, _-_, _≤_, _<_}
+use native.Mathlib.Numerals.{add-one}
+use native.Mathlib.Omega.{arith}
+use native.Mathlib.Nat.{le-refl}
+use mathlib.Core.Path.{_≡_, refl, sym, _∙_, ap}
+use mathlib.Core.List.{List, [], _∷_, _++_, append-nil}
+use mathlib.Core.Bool.{Bool, true, false, not, _&&_, _||_, true≢false}
+use lib.Dec.{eqb, ltb, leb·suc-suc}
+use lib.ListN.{length, getD, take, drop, length-append, length-take, length-drop}
+use borrow.Author.Tests.{lt-ltb, le-ltb}
+use Rattle.model.specs.Pick.{pick, pick-true, pick-false, by-test}
+use Rattle.model.specs.State.{State, startingNode, nodeAt, noMessage, goes, waits, oldest, withoutOldest, inRange, view}
+use Rattle.model.specs.Step.{actor, reactionTo, remaining, noneWaits, effect, Ground, ground, grounds, Result, refused, accepted, judged, step, kept, after}
+use Rattle.model.specs.React.{react}
+use Rattle.model.specs.Answers.{answerNumber, resultNumber}
+use Rattle.model.specs.declared.Input.the-variants.{Receive}
+use Rattle.model.specs.declared.Node.{Node}
+use Rattle.model.specs.declared.Message.{Message}
+use Rattle.model.specs.declared.Mark.{Mark}
+use Rattle.model.specs.declared.Reaction.{Reaction}
+use Rattle.model.specs.declared.Table.{Table}
+use Rattle.model.specs.declared.Answer.{Answer}
+use Rattle.model.specs.declared.Answer.the-variants.{Accepted, NotInRange, WrongNumber, WrongTask, WrongStatus, WrongActivity, NoMessage, CounterAtEnd, CallsAtEnd, QueueFull}
+use Rattle.model.specs.declared.Outcome.{Outcome}
+use Rattle.model.specs.declared.Event.{Event}
+use Rattle.model.specs.declared.Event.the-variants.{Crash, Recover, Check, Timeout, Tick, Expire, Finish, Deliver, Lose}
+use Rattle.machine.specs.Parts.{place, without, takes, sender, placeFor, first, numberGrounds, stateGrounds, endGrounds, isAccepted, reactsTo}
+use Rattle.machine.specs.Stepped.{Stepped}
+use Rattle.machine.proofs.Laws.{without-none}
+
+-- ── the message of an event by its place ──
+pub waits-place : (a b : ℕ) (q : List Message) → waits a b q ≡ ltb (place a b q) (length q)
+unfolding waits place
+waits-place a b [] = refl
+waits-place a b (m ∷ ms) = by-goes (goes a b m) refl (waits-place a b ms)
+  where
+    by-goes : (t : Bool) → goes a b m ≡ t → waits a b ms ≡ ltb (place a b ms) (length ms) → (goes a b m || waits a b ms) ≡ ltb (pick (goes a b m) 0 (suc (place a b ms))) (suc (length ms))
+    by-goes true g r = rw (g, pick-true) (sym (lt-ltb 0 (suc (length ms)) (omega arith)))
+    by-goes false g r = rw (g, pick-false) (r ∙ sym (leb·suc-suc (suc (place a b ms)) (length ms)))
+
+pub oldest-place : (a b : ℕ) (q : List Message) → oldest a b q ≡ getD q (place a b q) noMessage
+unfolding oldest place
+oldest-place a b [] = refl
+oldest-place a b (m ∷ ms) = by-goes (goes a b m) refl (oldest-place a b ms)
+  where
+    by-goes : (t : Bool) → goes a b m ≡ t → oldest a b ms ≡ getD ms (place a b ms) noMessage → pick (goes a b m) m (oldest a b ms) ≡ getD (m ∷ ms) (pick (goes a b m) 0 (suc (place a b ms))) noMessage
+    by-goes true g r = rw (g, pick-true, pick-true)
+    by-goes false g r = rw (g, pick-false, pick-false) r
+
+pub without-place : (a b : ℕ) (q : List Message) → withoutOldest a b q ≡ without (place a b q) q
+unfolding withoutOldest place
+without-place a b [] = refl
+without-place a b (m ∷ ms) = by-goes (goes a b m) refl (without-place a b ms)
+  where
+    by-goes : (t : Bool) → goes a b m ≡ t → withoutOldest a b ms ≡ without (place a b ms) ms → pick (goes a b m) ms (m ∷ withoutOldest a b ms) ≡ without (pick (goes a b m) 0 (suc (place a b ms))) (m ∷ ms)
+    by-goes true g r = rw (g, pick-true, pick-true)
+    by-goes false g r = rw (g, pick-false, pick-false, add-one (suc (place a b ms))) (ap (λ (l : List Message). m ∷ l) (rw (add-one (place a b ms)) at r))
+
+-- the place of an event's message, where it takes one, and where it takes none
+pub place-taken : (q : List Message) (e : Event) → takes e ≡ true → placeFor q e ≡ place (sender e) (actor e) q
+place-taken q (Crash i) t = absurd (true≢false (sym t))
+place-taken q (Recover i) t = absurd (true≢false (sym t))
+place-taken q (Check i) t = absurd (true≢false (sym t))
+place-taken q (Timeout i) t = absurd (true≢false (sym t))
+place-taken q (Tick i) t = absurd (true≢false (sym t))
+place-taken q (Expire i) t = absurd (true≢false (sym t))
+place-taken q (Finish i x) t = absurd (true≢false (sym t))
+place-taken q (Deliver a b) t = refl
+place-taken q (Lose a b) t = refl
+
+pub place-none : (q : List Message) (e : Event) → takes e ≡ false → placeFor q e ≡ length q
+place-none q (Crash i) t = refl
+place-none q (Recover i) t = refl
+place-none q (Check i) t = refl
+place-none q (Timeout i) t = refl
+place-none q (Tick i) t = refl
+place-none q (Expire i) t = refl
+place-none q (Finish i x) t = refl
+place-none q (Deliver a b) t = absurd (true≢false t)
+place-none q (Lose a b) t = absurd (true≢false t)
+
+without-all : (q : List Message) → q ≡ without (length q) q
+without-all q = sym (without-none q (length q) (le-refl (length q)))
+
+pub remaining-place : (s : State) (e : Event) → remaining s e ≡ without (placeFor (s .queue) e) (s .queue)
+unfolding remaining
+remaining-place s (Crash i) = without-all (s .queue)
+remaining-place s (Recover i) = without-all (s .queue)
+remaining-place s (Check i) = without-all (s .queue)
+remaining-place s (Timeout i) = without-all (s .queue)
+remaining-place s (Tick i) = without-all (s .queue)
+remaining-place s (Expire i) = without-all (s .queue)
+remaining-place s (Finish i x) = without-all (s .queue)
+remaining-place s (Deliver a b) = without-place a b (s .queue)
+remaining-place s (Lose a b) = without-place a b (s .queue)
+
+pub none-place : (q : List Message) (e : Event) → noneWaits q e ≡ takes e && not (ltb (placeFor q e) (length q))
+none-place q (Crash i) = refl
+none-place q (Recover i) = refl
+none-place q (Check i) = refl
+none-place q (Timeout i) = refl
+none-place q (Tick i) = refl
+none-place q (Expire i) = refl
+none-place q (Finish i x) = refl
+none-place q (Deliver a b) = ap not (waits-place a b q)
+none-place q (Lose a b) = ap not (waits-place a b q)
+
+-- the reaction does not depend on a message that the event does not act on
+pub reaction-place : (s : State) (e : Event) (m : Message) → (takes e ≡ true → m ≡ getD (s .queue) (placeFor (s .queue) e) noMessage) → reactionTo s e ≡ reactsTo (s .n) (nodeAt s (actor e)) m e
+unfolding reactionTo
+reaction-place s (Crash i) m h = refl
+reaction-place s (Recover i) m h = refl
+reaction-place s (Check i) m h = refl
+reaction-place s (Timeout i) m h = refl
+reaction-place s (Tick i) m h = refl
+reaction-place s (Expire i) m h = refl
+reaction-place s (Finish i x) m h = refl
+reaction-place s (Deliver a b) m h = ap (λ (x : Message). react (s .n) b (nodeAt s b) (Receive x)) (oldest-place a b (s .queue) ∙ sym (h refl))
+reaction-place s (Lose a b) m h = refl
+
+-- ── the first ground that applies ──
+
+-- the grounds' numbers are not 0
+abbrev Numbered : List Ground → Type 0
+Numbered [] = Unit {0}
+Numbered (g ∷ gs) = (1 ≤ g .number) × Numbered gs
+
+-- none applies in front
+first-clear : (xs ys : List Ground) → Numbered xs → first xs ≡ 0 → first (xs ++ ys) ≡ first ys
+unfolding first
+first-clear [] ys n h = refl
+first-clear (g ∷ gs) ys n h = by-applies (g .applies) refl (first-clear gs ys (n .1))
+  where
+    by-applies : (t : Bool) → g .applies ≡ t → (first gs ≡ 0 → first (gs ++ ys) ≡ first ys) → pick (g .applies) (g .number) (first (gs ++ ys)) ≡ first ys
+    by-applies true a r = absurd (none (rw (a, pick-true) at h))
+      where
+        none : g .number ≡ 0 → ⊥
+        none q = omega (arith, n .0)
+    by-applies false a r = rw (a, pick-false) (r (rw (a, pick-false) at h))
+
+-- one applies in front
+first-met : (xs ys : List Ground) → 1 ≤ first xs → first (xs ++ ys) ≡ first xs
+unfolding first
+first-met [] ys h = absurd (none h)
+  where
+    none : 1 ≤ 0 → ⊥
+    none q = omega arith
+first-met (g ∷ gs) ys h = by-applies (g .applies) refl (first-met gs ys)
+  where
+    by-applies : (t : Bool) → g .applies ≡ t → (1 ≤ first gs → first (gs ++ ys) ≡ first gs) → pick (g .applies) (g .number) (first (gs ++ ys)) ≡ pick (g .applies) (g .number) (first gs)
+    by-applies true a r = rw (a, pick-true, pick-true)
+    by-applies false a r = rw (a, pick-false, pick-false) (r (rw (a, pick-false) at h))
+
+-- the step by the first ground's number
+judged-clear : (r : Result) (gs : List Ground) → Numbered gs → first gs ≡ 0 → judged r gs ≡ r
+unfolding judged first
+judged-clear r [] n h = refl
+judged-clear r (g ∷ gs) n h = by-applies (g .applies) refl (judged-clear r gs (n .1))
+  where
+    by-applies : (t : Bool) → g .applies ≡ t → (first gs ≡ 0 → judged r gs ≡ r) → pick (g .applies) (refused (g .number)) (judged r gs) ≡ r
+    by-applies true a k = absurd (none (rw (a, pick-true) at h))
+      where
+        none : g .number ≡ 0 → ⊥
+        none q = omega (arith, n .0)
+    by-applies false a k = rw (a, pick-false) (k (rw (a, pick-false) at h))
+
+judged-met : (r : Result) (gs : List Ground) → 1 ≤ first gs → judged r gs ≡ refused (first gs)
+unfolding judged first
+judged-met r [] h = absurd (none h)
+  where
+    none : 1 ≤ 0 → ⊥
+    none q = omega arith
+judged-met r (g ∷ gs) h = by-applies (g .applies) refl (judged-met r gs)
+  where
+    by-applies : (t : Bool) → g .applies ≡ t → (1 ≤ first gs → judged r gs ≡ refused (first gs)) → pick (g .applies) (refused (g .number)) (judged r gs) ≡ refused (pick (g .applies) (g .number) (first gs))
+    by-applies true a k = rw (a, pick-true, pick-true)
+    by-applies false a k = rw (a, pick-false, pick-false) (k (rw (a, pick-false) at h))
+
+-- ── answers ──
+pub accepted-zero : (a : Answer) → isAccepted a ≡ true → answerNumber a ≡ 0
+accepted-zero Accepted q = refl
+accepted-zero NotInRange q = absurd (true≢false (sym q))
+accepted-zero WrongNumber q = absurd (true≢false (sym q))
+accepted-zero WrongTask q = absurd (true≢false (sym q))
+accepted-zero WrongStatus q = absurd (true≢false (sym q))
+accepted-zero WrongActivity q = absurd (true≢false (sym q))
+accepted-zero NoMessage q = absurd (true≢false (sym q))
+accepted-zero CounterAtEnd q = absurd (true≢false (sym q))
+accepted-zero CallsAtEnd q = absurd (true≢false (sym q))
+accepted-zero QueueFull q = absurd (true≢false (sym q))
+
+pub refused-some : (a : Answer) → isAccepted a ≡ false → 1 ≤ answerNumber a
+refused-some Accepted q = absurd (true≢false q)
+refused-some NotInRange q = omega arith
+refused-some WrongNumber q = omega arith
+refused-some WrongTask q = omega arith
+refused-some WrongStatus q = omega arith
+refused-some WrongActivity q = omega arith
+refused-some NoMessage q = omega arith
+refused-some CounterAtEnd q = omega arith
+refused-some CallsAtEnd q = omega arith
+refused-some QueueFull q = omega arith
+
+-- ── what a step comes to ──
+
+-- a refusal with the first ground's number, and the same table
+refused-stepped : (t : Table) (e : Event) (a : Answer) → isAccepted a ≡ false → answerNumber a ≡ first (grounds (view t) e) → Stepped t e (record { answer = a; table = t })
+unfolding step
+refused-stepped t e a q h =
+    let n : 1 ≤ first (grounds (view t) e) = omega (arith, refused-some a q, h) in
+    let r = judged-met (accepted (effect (view t) e) (reactionTo (view t) e .mark)) (grounds (view t) e) n in
+    record { answer = h ∙ sym (ap resultNumber r); table = sym (ap (kept (view t)) r); same = λ _. refl }
+
+-- the grounds in three groups, of a table in range
+module _ (t : Table) (e : Event) (ok : inRange (view t) ≡ true) (c : Node) (hc : c ≡ nodeAt (view t) (actor e)) (found : Bool) (hf : found ≡ ltb (placeFor (view t .queue) e) (length (view t .queue))) where
+  grounds-are : (r : Reaction) (left : ℕ) → r ≡ reactionTo (view t) e → left ≡ length (remaining (view t) e)
+      → grounds (view t) e ≡ ground 1 false ∷ (numberGrounds (t .n) e ++ (stateGrounds c e found ++ endGrounds c r left))
+  unfolding grounds
+  grounds-are r left hr hl = rw (hc, hf, hr, hl, ok, none-place (view t .queue) e)
+
+  rest : Reaction → ℕ → List Ground
+  rest r left = stateGrounds c e found ++ endGrounds c r left
+
+  first-is : (xs : List Ground) → first (ground 1 false ∷ xs) ≡ first xs
+  unfolding first
+  first-is xs = pick-false 1 (first xs)
+
+  actual : first (grounds (view t) e) ≡ first (numberGrounds (t .n) e ++ (stateGrounds c e found ++ endGrounds c (reactionTo (view t) e) (length (remaining (view t) e))))
+  actual = ap first (grounds-are _ _ refl refl) ∙ first-is _
+
+  -- 7 and 8
+  pub numbers-refuse : (a : Answer) → isAccepted a ≡ false → answerNumber a ≡ first (numberGrounds (t .n) e) → Stepped t e (record { answer = a; table = t })
+  numbers-refuse a q h = refused-stepped t e a q (h ∙ sym (actual ∙ first-met (numberGrounds (t .n) e) _ (omega (arith, refused-some a q, h))))
+
+  module _ (clear : first (numberGrounds (t .n) e) ≡ 0) where
+    past-numbers : first (grounds (view t) e) ≡ first (stateGrounds c e found ++ endGrounds c (reactionTo (view t) e) (length (remaining (view t) e)))
+    past-numbers = actual ∙ first-clear (numberGrounds (t .n) e) _ (omega arith, omega arith, tt) clear
+
+    -- 9 to 11
+    pub state-refuses : (a : Answer) → isAccepted a ≡ false → answerNumber a ≡ first (stateGrounds c e found) → Stepped t e (record { answer = a; table = t })
+    state-refuses a q h = refused-stepped t e a q (h ∙ sym (past-numbers ∙ first-met (stateGrounds c e found) _ (omega (arith, refused-some a q, h))))
+
+    module _ (going : first (stateGrounds c e found) ≡ 0) (r : Reaction) (hr : r ≡ reactionTo (view t) e) (left : ℕ) (hl : left ≡ length (remaining (view t) e)) where
+      past-state : first (grounds (view t) e) ≡ first (endGrounds c r left)
+      past-state = rw (hr, hl) (past-numbers ∙ first-clear (stateGrounds c e found) _ (omega arith, omega arith, omega arith, tt) going)
+
+      -- 12 to 14
+      pub ends-refuse : (a : Answer) → isAccepted a ≡ false → answerNumber a ≡ first (endGrounds c r left) → Stepped t e (record { answer = a; table = t })
+      ends-refuse a q h = refused-stepped t e a q (h ∙ sym past-state)
+
+      pub all-clear : first (endGrounds c r left) ≡ 0 → (u : Table) → view u ≡ effect (view t) e → Stepped t e (record { answer = Accepted; table = u })
+      unfolding step grounds
+      all-clear h u v =
+          let k = judged-clear (accepted (effect (view t) e) (reactionTo (view t) e .mark)) (grounds (view t) e)
+              (omega arith, omega arith, omega arith, omega arith, omega arith, omega arith, omega arith, omega arith, omega arith, tt) (past-state ∙ h) in
+          record { answer = sym (ap resultNumber k); table = v ∙ sym (ap (kept (view t)) k); same = λ n. absurd (n refl) }
