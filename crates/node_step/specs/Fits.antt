@@ -1,4 +1,4 @@
--- What the code's arithmetic needs of a node and its input, so that no number leaves its word. What is in range has it: proofs/InRange.
+-- What the code needs of a node and its input, so that no number leaves its word. What is in range has it: proofs/InRange.
 use Prim.Native.Nat.{ℕ, _≤_}
 use Rattle.model.specs.Limits.{nodeLimit, counterEnd, callEnd}
 use Rattle.model.specs.declared.Activity.{Activity}
@@ -22,6 +22,7 @@ FitsActivity (Accepting caller call) = Unit {0}
 -- the record of node i
 pub record Fits (i : ℕ) (c : Node) : Type 0 where
   pub low : 1 ≤ i
+  pub high : i ≤ nodeLimit
   pub counter : c .counter ≤ counterEnd
   pub last : c .last .number ≤ callEnd
   pub activity : FitsActivity (c .activity)

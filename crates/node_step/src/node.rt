@@ -204,7 +204,7 @@ pub fn settled(c: Node, s: Status) -> Node
 {
     Node {
         status: s,
-        activity: Activity::Idle,
+        activity: Activity::Idle, // "All else is kept": the counter too
         ..c
     }
 }
@@ -242,7 +242,7 @@ pub fn recovered(i: u8, c: Node) -> Node
         coordinator: i,
         task: TaskNo { number: i as u16 },
         members: 0,
-        activity: Activity::Idle,
+        activity: Activity::Idle, // "nothing further of the procedure runs"
         ..c
     }
 }
@@ -268,7 +268,7 @@ pub fn invited(c: Node, g: GroupNo) -> Node
 {
     let owner = owner_of(g);
     Node {
-        status: Status::Election,
+        status: Status::Election, // and not Normal: the task comes with Ready
         group: g,
         coordinator: owner,
         activity: Activity::Idle,

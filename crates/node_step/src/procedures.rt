@@ -115,7 +115,8 @@ pub fn merges(i: u8, c: Node, found: u16) -> Reaction
     requires { ⌜ Fits i c ⌝ }
     ensures { λ r. ⌜ r ≡ spec.merges i c found ⌝ }
 {
-    invite_next(i, node::merged(i, c), Mark::Merges, found, c.members)
+    let d = node::merged(i, c);
+    invite_next(i, d, Mark::Merges, found, c.members)
 }
 
 pub fn hand_next(i: u8, c: Node, rest: u16) -> Reaction
