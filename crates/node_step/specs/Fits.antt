@@ -4,6 +4,7 @@ use Rattle.model.specs.Limits.{nodeLimit, counterEnd, callEnd}
 use Rattle.model.specs.declared.Activity.{Activity}
 use Rattle.model.specs.declared.Activity.the-variants.{Idle, Asking, Waiting, Inviting, Collecting, Handing, Contacting, Forwarding, Accepting}
 use Rattle.model.specs.declared.Node.{Node}
+use Rattle.model.specs.declared.Message.{Message}
 use Rattle.model.specs.declared.Input.{Input}
 use Rattle.model.specs.declared.Input.the-variants.{Crash, Recover, Check, Timeout, Tick, Expire, Finish, Receive}
 
@@ -28,6 +29,9 @@ pub record Fits (i : ℕ) (c : Node) : Type 0 where
   pub activity : FitsActivity (c .activity)
 
 -- the sender of a message can be put into a set
+abbrev pub FitsSender : Message → Type 0
+FitsSender m = (1 ≤ m .sender) × (m .sender ≤ nodeLimit)
+
 abbrev pub FitsInput : Input → Type 0
 FitsInput Crash = Unit {0}
 FitsInput Recover = Unit {0}
@@ -36,4 +40,4 @@ FitsInput Timeout = Unit {0}
 FitsInput Tick = Unit {0}
 FitsInput Expire = Unit {0}
 FitsInput (Finish t) = Unit {0}
-FitsInput (Receive m) = (1 ≤ m .sender) × (m .sender ≤ nodeLimit)
+FitsInput (Receive m) = FitsSender m

@@ -1,4 +1,5 @@
-// The local step of one node: the definitions of model's specs/React as functions. The other files have those of the specs file that each is named after.
+// The local step of one node: the definitions of model's specs/React as functions.
+// Each other file has those of the file of model's specs that it is named after.
 pub mod node;
 pub mod procedures;
 pub mod range;
@@ -9,9 +10,11 @@ ghost use Prim.Native.Nat.{_≤_};
 ghost use lib.Dec.{eqb};
 ghost use Rattle.model.specs.Limits.{nodeLimit, counterEnd, callEnd};
 ghost use Rattle.model.specs.Pick.{pick};
+ghost use Rattle.model.specs.Node.{turned};
+ghost use Rattle.model.specs.Procedures.{stays, recovers};
 ghost use Rattle.model.specs.React as spec;
 ghost use Rattle.node_set.specs.NodeSet.{with};
-ghost use Rattle.node_step.specs.Fits.{Fits, FitsActivity, FitsInput};
+ghost use Rattle.node_step.specs.Fits.{Fits, FitsActivity, FitsInput, FitsSender};
 use model::Activity;
 use model::Input;
 use model::Mark;
@@ -146,9 +149,9 @@ fn found_with(found: u16, asked: u8, y: bool) -> u16
 }
 
 // The coordinator that node `i` contacts has answered.
-fn contacted(n: u8, i: u8, c: Node, y: bool) -> Reaction
+fn contacted(i: u8, c: Node, y: bool) -> Reaction
     requires { ⌜ (1 ≤ i) × (c .counter ≤ counterEnd) ⌝ }
-    ensures { λ r. ⌜ r ≡ spec.resumed n i c y Activity.Contacting ⌝ }
+    ensures { λ r. ⌜ r ≡ pick y (stays (turned c Activity.Idle)) (recovers i c) ⌝ }
 {
     if y {
         return procedures::stays(node::turned(c, Activity::Idle));
@@ -177,7 +180,7 @@ fn resumed(n: u8, i: u8, c: Node, y: bool, a: Activity) -> Reaction
         } => procedures::invite_next(i, c, Mark::Plain, found, former),
         Activity::Collecting => procedures::stays(c),
         Activity::Handing { rest, now: _ } => procedures::hand_next(i, c, rest),
-        Activity::Contacting => contacted(n, i, c, y),
+        Activity::Contacting => contacted(i, c, y),
         Activity::Forwarding {
             rest,
             now: _,
@@ -199,7 +202,7 @@ fn on_are_you_coordinator(i: u8, c: Node, m: Message) -> Reaction
 }
 
 fn on_are_you_there(i: u8, c: Node, m: Message) -> Reaction
-    requires { ⌜ (1 ≤ m .sender) × (m .sender ≤ nodeLimit) ⌝ }
+    requires { ⌜ FitsSender m ⌝ }
     ensures { λ r. ⌜ r ≡ spec.onAreYouThere i c m ⌝ }
 {
     let y = (c.group.number == m.group.number)
@@ -235,7 +238,7 @@ fn on_invitation(i: u8, c: Node, m: Message) -> Reaction
 }
 
 fn on_accept(i: u8, c: Node, m: Message) -> Reaction
-    requires { ⌜ (1 ≤ m .sender) × (m .sender ≤ nodeLimit) ⌝ }
+    requires { ⌜ FitsSender m ⌝ }
     ensures { λ r. ⌜ r ≡ spec.onAccept i c m ⌝ }
 {
     let status = c.status;
@@ -268,7 +271,7 @@ fn on_reply(n: u8, i: u8, c: Node, m: Message) -> Reaction
 }
 
 fn received(n: u8, i: u8, c: Node, m: Message) -> Reaction
-    requires { ⌜ Fits i c × ((1 ≤ m .sender) × (m .sender ≤ nodeLimit)) ⌝ }
+    requires { ⌜ Fits i c × FitsSender m ⌝ }
     ensures { λ r. ⌜ r ≡ spec.received n i c m ⌝ }
 {
     let kind = m.kind;

@@ -1,7 +1,7 @@
 // One node: the definitions of model's specs/Node as functions.
 ghost use mathlib.Core.Path.{_≡_};
 ghost use Prim.Native.Nat.{_+_, _≤_};
-ghost use Rattle.model.specs.Limits.{counterEnd, callEnd};
+ghost use Rattle.model.specs.Limits.{nodeLimit, counterEnd, callEnd};
 ghost use Rattle.model.specs.Node as spec;
 use model::Activity;
 use model::CallNo;
@@ -220,7 +220,7 @@ pub fn tasked(c: Node, s: Status, t: TaskNo) -> Node
 }
 
 pub fn joined(c: Node, j: u8) -> Node
-    requires { ⌜ (1 ≤ j) × (j ≤ 16) ⌝ }
+    requires { ⌜ (1 ≤ j) × (j ≤ nodeLimit) ⌝ }
     ensures { λ r. ⌜ r ≡ spec.joined c j ⌝ }
 {
     let members = node_set::insert(c.members, j);

@@ -115,6 +115,7 @@ pub fn merges(i: u8, c: Node, found: u16) -> Reaction
     requires { ⌜ Fits i c ⌝ }
     ensures { λ r. ⌜ r ≡ spec.merges i c found ⌝ }
 {
+    // the members set aside are those before it
     let d = node::merged(i, c);
     invite_next(i, d, Mark::Merges, found, c.members)
 }

@@ -1,6 +1,7 @@
 // "A table is in range when ..": of one node's record and of one message, the definitions of model's specs/Range as functions.
 ghost use mathlib.Core.Path.{_≡_};
 ghost use Prim.Native.Nat.{_≤_};
+ghost use Rattle.model.specs.Limits.{nodeLimit};
 ghost use Rattle.model.specs.Range as spec;
 use crate::node;
 use model::Activity;
@@ -9,6 +10,17 @@ use model::GroupNo;
 use model::Message;
 use model::Node;
 use model::TaskNo;
+
+// The ends of the ranges, as in model's specs/Limits.
+pub const COUNTER_END: u32 = 1048575;
+
+pub const CALL_END: u32 = 16777215;
+
+pub const TICK_END: u8 = 15;
+
+pub const TASK_LOW: u16 = 100;
+
+pub const TASK_END: u16 = 65535;
 
 pub fn is_node(n: u8, j: u8) -> bool
     ensures { λ r. ⌜ r ≡ spec.isNode n j ⌝ }
@@ -23,7 +35,7 @@ pub fn is_other(n: u8, i: u8, j: u8) -> bool
 }
 
 fn is_set_of_others(n: u8, i: u8, s: u16) -> bool
-    requires { ⌜ (1 ≤ i) × (i ≤ 16) × (n ≤ 16) ⌝ }
+    requires { ⌜ (1 ≤ i) × (i ≤ nodeLimit) × (n ≤ nodeLimit) ⌝ }
     ensures { λ r. ⌜ r ≡ spec.isSetOfOthers n i s ⌝ }
 {
     node_set::is_within(n, s) & !node_set::contains(s, i)
@@ -32,30 +44,30 @@ fn is_set_of_others(n: u8, i: u8, s: u16) -> bool
 fn is_group(n: u8, g: GroupNo) -> bool
     ensures { λ r. ⌜ r ≡ spec.isGroup n (g .number) ⌝ }
 {
-    (1 <= g.number / 16) & (g.number / 16 <= 1048575) & (node::owner_of(g) <= n)
+    (1 <= g.number / 16) & (g.number / 16 <= COUNTER_END) & (node::owner_of(g) <= n)
 }
 
 pub fn is_given_task(t: TaskNo) -> bool
     ensures { λ r. ⌜ r ≡ spec.isGivenTask (t .number) ⌝ }
 {
-    (100 <= t.number) & (t.number <= 65535)
+    (TASK_LOW <= t.number) & (t.number <= TASK_END)
 }
 
 fn is_call(k: CallNo) -> bool
     ensures { λ r. ⌜ r ≡ spec.isCall (k .number) ⌝ }
 {
-    (1 <= k.number) & (k.number <= 16777215)
+    (1 <= k.number) & (k.number <= CALL_END)
 }
 
 fn activity_in_range(n: u8, i: u8, g: GroupNo, t: TaskNo, a: Activity) -> bool
-    requires { ⌜ (1 ≤ i) × (i ≤ 16) × (n ≤ 16) ⌝ }
+    requires { ⌜ (1 ≤ i) × (i ≤ nodeLimit) × (n ≤ nodeLimit) ⌝ }
     ensures { λ r. ⌜ r ≡ spec.activityInRange n i (g .number) (t .number) a ⌝ }
 {
     match a {
         Activity::Idle => true,
         Activity::Asking { asked, found } => is_other(n, i, asked) & is_set_of_others(n, i, found),
         Activity::Waiting { ticks, found } => (1 <= ticks)
-            & (ticks <= 15)
+            & (ticks <= TICK_END)
             & is_set_of_others(n, i, found),
         Activity::Inviting { found, former, now } => {
             is_set_of_others(n, i, found) & is_set_of_others(n, i, former) & is_other(n, i, now)
@@ -96,7 +108,7 @@ fn is_led(n: u8, down: bool, g: GroupNo, coordinator: u8) -> bool
 }
 
 pub fn node_in_range(n: u8, i: u8, c: Node) -> bool
-    requires { ⌜ (1 ≤ i) × (i ≤ 16) × (n ≤ 16) ⌝ }
+    requires { ⌜ (1 ≤ i) × (i ≤ nodeLimit) × (n ≤ nodeLimit) ⌝ }
     ensures { λ r. ⌜ r ≡ spec.nodeInRange n i c ⌝ }
 {
     let status = c.status;
@@ -104,12 +116,12 @@ pub fn node_in_range(n: u8, i: u8, c: Node) -> bool
     let task = c.task;
     let activity = c.activity;
     let down = node::is_down(status);
-    (c.counter <= 1048575)
+    (c.counter <= COUNTER_END)
         & is_group_or_none(n, group)
         & (c.coordinator <= n)
-        & (c.task.number <= 65535)
+        & (c.task.number <= TASK_END)
         & is_set_of_others(n, i, c.members)
-        & (c.last.number <= 16777215)
+        & (c.last.number <= CALL_END)
         & is_led(n, down, group, c.coordinator)
         & (!down | node::is_idle(activity))
         & activity_in_range(n, i, group, task, activity)

@@ -1,12 +1,11 @@
 -- `contacted` meets its contract: by the answer, what the callees ensure.
 use borrow.Author.Needs.{needs}
 use Rattle.model.specs.Pick.{pick}
-use Rattle.model.specs.React.{resumed}
 use Rattle.node_step.proofs.contacted.Statement.{statement}
 use Rattle.node_step.proofs.contacted.Tie as tie
 
 pub contacted-spec : {M : Type 1} → statement M
-unfolding resumed pick
+unfolding pick
 contacted-spec =
     tie.close
     (tie.spec

@@ -9,4 +9,7 @@ next-of-spec =
     tie.close
     (tie.spec
     (search needs)
-    (λ c. let b = lowest-in 16 (c .before .args .s) (search needs) (lt-within 16 _ (c .before .fits .s .fits)) (c .before .pre) in (c .lowest .ensures, rw (c .lowest .ensures) (b .0), rw (c .lowest .ensures) (b .1))))
+    (λ c.
+    let s = c .before in
+    let b = lowest-in 16 (s .args .s) (search needs) (lt-within 16 _ (s .fits .s .fits)) (s .pre) in
+    (c .lowest .ensures, rw (c .lowest .ensures) (b .0), rw (c .lowest .ensures) (b .1))))
