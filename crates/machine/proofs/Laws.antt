@@ -7,7 +7,7 @@ use mathlib.Core.Path.{_≡_, refl, sym, _∙_, ap}
 use mathlib.Core.List.{List, [], _∷_, _++_, append-nil}
 use mathlib.Core.Bool.{Bool, true, false, _&&_}
 use mathlib.Core.Logic.{_⊎_, ⊎-elim}
-use lib.ListN.{length, getD, take, drop, set, length-map, length-set, length-take, drop-of-length-le}
+use lib.ListN.{length, getD, take, drop, set, length-map, length-set, length-take, replicate, drop-of-length-le}
 use lib.Seq.{drop-cons, drop-set-lt, take-set-lt, take-suc-set, take-take, append-snoc, getD-take, length-take-le, take-all}
 use mir.Val.{Val}
 use denote.Laws.{Is}
@@ -15,7 +15,7 @@ use denote.Struct.Declared.{row}
 use borrow.Author.Tests.{le-leb, eq-eqb}
 use Rattle.model.specs.Range.{nodeInRange, messageInRange}
 use Rattle.model.specs.Pick.{pick, pick-true, pick-false}
-use Rattle.model.specs.State.{State, startingNode, noMessage, every, inRange, firstOf, view, goes}
+use Rattle.model.specs.State.{State, startingNode, start, noMessage, every, inRange, firstOf, view, goes}
 use Rattle.model.specs.declared.Node.{Node}
 use Rattle.model.specs.declared.Message.{Message}
 use Rattle.model.specs.declared.Table.{Table}
@@ -166,3 +166,14 @@ module _ (t : Table) (s : Sized t) (small : t .n ≤ 16) (short : t .waiting ≤
     where
       one-more : take (left + 1) (set ms left m) ≡ take left ms ++ (m ∷ [])
       one-more = rw (add-one left) (take-suc-set ms left m (omega arith))
+
+-- ── the starting table ──
+pub first-replicate : {A : Type 0} (k w : ℕ) (d : A) → k ≤ w → firstOf k d (replicate w d) ≡ replicate k d
+unfolding firstOf
+first-replicate zero w d h = refl
+first-replicate (suc k) zero d h = absurd (not-suc-le-zero h)
+first-replicate {A} (suc k) (suc w) d h = ap (λ (r : List A). d ∷ r) (first-replicate k w d (omega arith))
+
+pub start-is : (t : Table) (n : ℕ) → n ≤ 16 → (t .n ≡ n) × (t .waiting ≡ 0) × (t .nodes ≡ replicate 16 startingNode) → view t ≡ start n
+unfolding firstOf
+start-is t n h e = rw (e .0, e .1, e .2) (state-is n (first-replicate n 16 startingNode h) refl)

@@ -235,7 +235,7 @@ module _ (t : Table) (e : Event) (ok : inRange (view t) ≡ true) (c : Node) (hc
 
   module _ (clear : first (numberGrounds (t .n) e) ≡ 0) where
     past-numbers : first (grounds (view t) e) ≡ first (stateGrounds c e found ++ endGrounds c (reactionTo (view t) e) (length (remaining (view t) e)))
-    past-numbers = actual ∙ first-clear (numberGrounds (t .n) e) _ (omega arith, omega arith, tt) clear
+    past-numbers = actual ∙ first-clear (numberGrounds (t .n) e) _ (omega arith, (omega arith, tt)) clear
 
     -- 9 to 11
     pub state-refuses : (a : Answer) → isAccepted a ≡ false → answerNumber a ≡ first (stateGrounds c e found) → Stepped t e (record { answer = a; table = t })
@@ -243,7 +243,7 @@ module _ (t : Table) (e : Event) (ok : inRange (view t) ≡ true) (c : Node) (hc
 
     module _ (going : first (stateGrounds c e found) ≡ 0) (r : Reaction) (hr : r ≡ reactionTo (view t) e) (left : ℕ) (hl : left ≡ length (remaining (view t) e)) where
       past-state : first (grounds (view t) e) ≡ first (endGrounds c r left)
-      past-state = rw (hr, hl) (past-numbers ∙ first-clear (stateGrounds c e found) _ (omega arith, omega arith, omega arith, tt) going)
+      past-state = rw (hr, hl) (past-numbers ∙ first-clear (stateGrounds c e found) _ (omega arith, (omega arith, (omega arith, tt))) going)
 
       -- 12 to 14
       pub ends-refuse : (a : Answer) → isAccepted a ≡ false → answerNumber a ≡ first (endGrounds c r left) → Stepped t e (record { answer = a; table = t })
@@ -253,5 +253,10 @@ module _ (t : Table) (e : Event) (ok : inRange (view t) ≡ true) (c : Node) (hc
       unfolding step grounds
       all-clear h u v =
           let k = judged-clear (accepted (effect (view t) e) (reactionTo (view t) e .mark)) (grounds (view t) e)
-              (omega arith, omega arith, omega arith, omega arith, omega arith, omega arith, omega arith, omega arith, omega arith, tt) (past-state ∙ h) in
+          (omega arith, (omega arith, (omega arith, (omega arith, (omega arith, (omega arith, (omega arith, (omega arith, (omega arith, tt))))))))) (past-state ∙ h) in
           record { answer = sym (ap resultNumber k); table = v ∙ sym (ap (kept (view t)) k); same = λ n. absurd (n refl) }
+
+-- a table that is not in range
+pub range-refuses : (t : Table) (e : Event) → inRange (view t) ≡ false → Stepped t e (record { answer = NotInRange; table = t })
+unfolding grounds first
+range-refuses t e h = refused-stepped t e NotInRange refl (sym (rw (h, pick-true)))

@@ -16,11 +16,10 @@ returns c =
     let o = c .before .before .before .before .before in
     let t = o .args .t in
     let e = o .args .e in
-    let k : takes e ≡ true = sym (c .before .before .before .before .takes .ensures) ∙ c .before .before .before .if1 .taken in
-    (
+    let k : takes e ≡ true = sym (c .before .before .before .before .takes .ensures) ∙ c .before .before .before .if1 .taken in (
       c .find .ensures .0
-      ∙ ap₂ (λ (a b : ℕ). place a b (view t .queue)) (c .before .before .sender .ensures) (c .before .actor .ensures)
-      ∙ sym (place-taken (view t .queue) e k),
+          ∙ ap₂ (λ (a b : ℕ). place a b (view t .queue)) (c .before .before .sender .ensures) (c .before .actor .ensures)
+          ∙ sym (place-taken (view t .queue) e k),
       c .find .ensures .1,
     )
 

@@ -1,0 +1,173 @@
+-- What `advance` needs at each place, of the table, the event and the values computed so far.
+use Prim.Native.Nat.{ℕ, zero, suc, _+_, _-_, _%_, _≤_, _<_}
+use native.Mathlib.Omega.{arith}
+use native.Mathlib.Nat.{mod-eq-of-lt, le-refl}
+use mathlib.Core.Path.{_≡_, refl, sym, _∙_, ap, subst}
+use mathlib.Core.Logic.{_⊎_, inl, inr}
+use mathlib.Core.List.{List, [], _∷_, _++_}
+use mathlib.Core.Bool.{Bool, true, false, not, _&&_, true≢false}
+use lib.Dec.{eqb, ltb}
+use lib.ListN.{length, getD, take, drop, set, length-append, length-take, length-drop}
+use lib.Seq.{getD-take, length-take-le}
+use borrow.Author.Tests.{ltb-true, ltb-false, eqb-false, not-false, lt-ltb}
+use Rattle.model.specs.Pick.{pick, pick-true, pick-false}
+use Rattle.model.specs.State.{State, startingNode, nodeAt, noMessage, waits, oldest, inRange, firstOf, view}
+use Rattle.model.specs.Step.{actor, reactionTo, remaining, sent, effect, wrongNumber, isSending, Ground}
+use Rattle.model.proofs.Fields.{in-range-size, in-range-node, in-range-oldest}
+use Rattle.model.proofs.Numbers.{actor-in}
+use Rattle.node_step.specs.Fits.{Fits}
+use Rattle.node_step.proofs.InRange.{in-range-fits, message-fits}
+use Rattle.model.specs.declared.Node.{Node}
+use Rattle.model.specs.declared.Message.{Message}
+use Rattle.model.specs.declared.Outgoing.{Outgoing}
+use Rattle.model.specs.declared.Outgoing.the-variants.{Nothing, Send}
+use Rattle.model.specs.declared.Reaction.{Reaction}
+use Rattle.model.specs.declared.Table.{Table}
+use Rattle.model.specs.declared.Event.{Event}
+use Rattle.model.specs.declared.Event.the-variants.{Crash, Recover, Check, Timeout, Tick, Expire, Finish, Deliver, Lose}
+use Rattle.machine.specs.Parts.{place, without, takes, placeFor, stored, Left, Room, first, numberGrounds, stateGrounds, endGrounds, FitsMessage, reactsTo}
+use Rattle.machine.proofs.Laws.{Sized, first-take, first-length, without-none, left-few}
+use Rattle.machine.proofs.Parts.{waits-place, oldest-place, remaining-place, reaction-place}
+
+-- ── lists ──
+
+-- within a list, what stands past its end does not matter
+getD-any : {A : Type 0} (l : List A) (k : ℕ) (d f : A) → k < length l → getD l k d ≡ getD l k f
+getD-any [] k d f h = absurd (none h)
+  where
+    none : k < 0 → ⊥
+    none q = omega arith
+getD-any (x ∷ l) zero d f h = refl
+getD-any (x ∷ l) (suc k) d f h = getD-any l k d f (omega arith)
+
+-- an element of the first n
+first-at : {A : Type 0} (n k : ℕ) (l : List A) (d f : A) → k < n → n ≤ length l → getD l k d ≡ getD (firstOf n f l) k f
+first-at n k l d f h g = rw (first-take n f l g, getD-take n l k f h) (getD-any l k d f (omega arith))
+
+length-without : {A : Type 0} (k : ℕ) (q : List A) → k < length q → length (without k q) + 1 ≡ length q
+length-without k q h = simp (length-append, length-take-le k q (omega arith), length-drop) (omega arith)
+
+-- ── the first ground of a list ──
+first-head : (g : Ground) (gs : List Ground) → 1 ≤ g .number → first (g ∷ gs) ≡ 0 → (g .applies ≡ false) × (first gs ≡ 0)
+unfolding first
+first-head g gs n h = by-applies (g .applies) refl
+  where
+    by-applies : (t : Bool) → g .applies ≡ t → (g .applies ≡ false) × (first gs ≡ 0)
+    by-applies true a = absurd (none (rw (a, pick-true) at h))
+      where
+        none : g .number ≡ 0 → ⊥
+        none q = omega arith
+    by-applies false a = (a, rw (a, pick-false) at h)
+
+module _ (t : Table) (z : Sized t) (ok : inRange (view t) ≡ true) (e : Event) where
+  pub small : (1 ≤ t .n) × (t .n ≤ 16) × (t .waiting ≤ 64)
+  small =
+      let s = in-range-size (view t) ok in
+      (s .0, s .1, omega (arith, s .3, first-length (t .waiting) noMessage (t .messages)))
+
+  module _ (clear : first (numberGrounds (t .n) e) ≡ 0) where
+    -- the event's node is one of the table
+    pub actor-is : (1 ≤ actor e) × (actor e ≤ t .n)
+    actor-is = actor-in (t .n) e (first-head _ _ (omega arith) clear .0)
+
+    -- its record, as read from the array
+    pub node-read : (d : Node) → getD (t .nodes) (actor e - 1) d ≡ nodeAt (view t) (actor e)
+    node-read d =
+        let a = actor-is in
+        first-at (t .n) (actor e - 1) (t .nodes) d startingNode (omega arith) (omega (arith, small .1, z .nodes))
+
+    pub node-fits : (c : Node) → c ≡ nodeAt (view t) (actor e) → Fits (actor e) c
+    node-fits c h =
+        let a = actor-is in
+        rw h (in-range-fits (t .n) (actor e) (nodeAt (view t) (actor e)) (small .1) (a .0) (a .1) (in-range-node (view t) (actor e) ok (a .0) (a .1)))
+
+  -- k: where the event's message stands
+  module _ (k : ℕ) (hk : k ≡ placeFor (view t .queue) e) (reach : k ≤ t .waiting) where
+    pub found-is : ltb k (t .waiting) ≡ ltb (placeFor (view t .queue) e) (length (view t .queue))
+    found-is = rw (hk, first-length (t .waiting) noMessage (t .messages))
+
+    -- the message, as read from the array
+    message-at : k < t .waiting → (d : Message) → getD (t .messages) (k % 64) d ≡ getD (view t .queue) (placeFor (view t .queue) e) noMessage
+    message-at h d =
+        let m : k % 64 ≡ k = mod-eq-of-lt (omega (arith, small .2)) in
+        rw (m, ← hk) (first-at (t .waiting) k (t .messages) d noMessage h (omega (arith, small .2, z .messages)))
+
+    module _ (c : Node) (going : first (stateGrounds c e (ltb k (t .waiting))) ≡ 0) where
+      -- an event that takes a message has found it
+      taken-found : takes e ≡ true → k < t .waiting
+      taken-found q =
+          let g9 = first-head _ _ (omega arith) going in
+          let g10 = first-head _ _ (omega arith) (g9 .1) in
+          let g11 : takes e && not (ltb k (t .waiting)) ≡ false = first-head _ _ (omega arith) (g10 .1) .0 in
+          ltb-true k (t .waiting) (not-false _ (rw q at g11))
+
+      pub reaction-is : (d : Message) → c ≡ nodeAt (view t) (actor e) → reactsTo (t .n) c (getD (t .messages) (k % 64) d) e ≡ reactionTo (view t) e
+      reaction-is d h = rw h (sym (reaction-place (view t) e (getD (t .messages) (k % 64) d) (λ q. message-at (taken-found q) d)))
+
+      -- a message that is acted on is in range
+      pub message-ok : (d : Message) → FitsMessage (getD (t .messages) (k % 64) d) e
+      message-ok d = by-event e refl
+        where
+          by-event : (x : Event) → e ≡ x → FitsMessage (getD (t .messages) (k % 64) d) x
+          by-event (Crash i) q = tt
+          by-event (Recover i) q = tt
+          by-event (Check i) q = tt
+          by-event (Timeout i) q = tt
+          by-event (Tick i) q = tt
+          by-event (Expire i) q = tt
+          by-event (Finish i x) q = tt
+          by-event (Deliver a b) q =
+              let h : k < t .waiting = taken-found (rw q) in
+              let p : place a b (view t .queue) ≡ k = sym (hk ∙ ap (placeFor (view t .queue)) q) in
+              let w : waits a b (view t .queue) ≡ true = waits-place a b (view t .queue) ∙ rw (p, first-length (t .waiting) noMessage (t .messages)) (lt-ltb k (t .waiting) h) in
+              let m : getD (t .messages) (k % 64) d ≡ oldest a b (view t .queue) = message-at h d ∙ ap (λ (x : Event). getD (view t .queue) (placeFor (view t .queue) x) noMessage) q ∙ sym (oldest-place a b (view t .queue)) in
+              rw m (message-fits (t .n) (oldest a b (view t .queue)) (small .1) (in-range-oldest (view t) a b ok w))
+          by-event (Lose a b) q = tt
+
+    -- left: how many messages wait once the event's own is out
+    module _ (left : ℕ) (hl : left ≡ pick (ltb k (t .waiting)) (t .waiting - 1) (t .waiting)) where
+      by-found : (b : Bool) → ltb k (t .waiting) ≡ b → Left (t .waiting) k left
+      by-found true q = inl (ltb-true k (t .waiting) q, omega (arith, ltb-true k (t .waiting) q, (rw (q, pick-true) at hl)))
+      by-found false q = let h = ltb-false k (t .waiting) q in inr (omega arith, rw (q, pick-false) at hl)
+
+      pub left-is : Left (t .waiting) k left
+      left-is = by-found (ltb k (t .waiting)) refl
+
+      below : (b : Bool) → ltb k (t .waiting) ≡ b → k ≤ left
+      below true q = omega (arith, ltb-true k (t .waiting) q, (rw (q, pick-true) at hl))
+      below false q = omega (arith, (rw (q, pick-false) at hl))
+
+      pub place-below : k ≤ left
+      place-below = below (ltb k (t .waiting)) refl
+
+      counted : (b : Bool) → ltb k (t .waiting) ≡ b → left ≡ length (without k (view t .queue))
+      counted true q =
+          let h = ltb-true k (t .waiting) q in
+          let w = first-length (t .waiting) noMessage (t .messages) in
+          omega (arith, (rw (q, pick-true) at hl), length-without k (view t .queue) (omega arith))
+      counted false q =
+          let h = ltb-false k (t .waiting) q in
+          let w = first-length (t .waiting) noMessage (t .messages) in
+          omega (arith, (rw (q, pick-false) at hl), ap length (without-none (view t .queue) k (omega arith)))
+
+      pub left-counts : left ≡ length (remaining (view t) e)
+      left-counts = counted (ltb k (t .waiting)) refl ∙ ap length (sym (remaining-place (view t) e ∙ ap (λ (j : ℕ). without j (view t .queue)) (sym hk)))
+
+      -- there is a place for what is sent
+      pub room-is : (c : Node) (r : Reaction) → first (endGrounds c r left) ≡ 0 → Room (r .outgoing) left
+      room-is c r h =
+          let g12 = first-head _ _ (omega arith) h in
+          let g13 = first-head _ _ (omega arith) (g12 .1) in
+          let g14 = first-head _ _ (omega arith) (g13 .1) in
+          by-outgoing (r .outgoing) (g14 .0)
+        where
+          by-outgoing : (o : Outgoing) → isSending o && eqb left 64 ≡ false → Room o left
+          by-outgoing Nothing q = tt
+          by-outgoing (Send m) q = omega (arith, eqb-false left 64 q, place-few)
+            where
+              place-few : left ≤ 64
+              place-few = left-few (t .waiting) k left left-is (small .2)
+
+      pub effect-is : (r : Reaction) (at : ℕ) → r ≡ reactionTo (view t) e → at ≡ actor e - 1 → stored (view t) k at r ≡ effect (view t) e
+      unfolding effect
+      effect-is r at hr ha = rw (hr, ha, remaining-place (view t) e, ← hk)
