@@ -1,2 +1,3 @@
 pub mod Stepped
+pub mod Folded
 pub mod Parts
