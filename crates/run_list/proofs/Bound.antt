@@ -1,0 +1,140 @@
+-- How long the text of a list can be, and what a buffer of a given length then holds.
+use Prim.Native.Nat.{ℕ, zero, suc, _+_, _*_, _≤_, _<_}
+use native.Mathlib.Omega.{arith}
+use mathlib.Core.Path.{_≡_, refl, sym, _∙_, ap}
+use mathlib.Core.Bool.{Bool, true, false}
+use mathlib.Core.List.{List, [], _∷_, _++_}
+use lib.ListN.{length, drop}
+use lib.Dec.{eqb, leb}
+use borrow.Author.Needs.{needs}
+use borrow.Author.Tests.{leb-true, leb-false}
+use Rattle.model.specs.Pick.{pick, pick-true, pick-false, by-test}
+use Rattle.model.specs.State.{State, start, inRange}
+use Rattle.model.specs.Step.{Ground, grounds, Result, refused, accepted, judged, step, after, runFrom, run}
+use Rattle.model.specs.Answers.{resultNumber}
+use Rattle.model.specs.declared.Event.{Event}
+use Rattle.model.specs.declared.Mark.{Mark}
+use Rattle.model.proofs.Fields.{in-range-size}
+use Rattle.model.proofs.InRange.{stays-in-range}
+use Rattle.event_list.specs.declared.Stop.{Stop}
+use Rattle.event_list.specs.declared.Stop.the-variants.{TooLong, CutShort, WrongTag, WrongLength, WrongCount}
+use Rattle.event_list.specs.declared.First.{First}
+use Rattle.event_list.specs.declared.First.the-variants as First
+use Rattle.event_list.specs.declared.Next.{Next}
+use Rattle.event_list.specs.declared.Next.the-variants as Next
+use Rattle.event_list.specs.Format.{stopNumber, nextAt, firstOf, Ending, complete, stopped, onward, readFrom, rest}
+use Rattle.event_list.proofs.Reading.{rest-few, next-past, first-good}
+use Rattle.listing.specs.declared.Put.{Put}
+use Rattle.listing.specs.declared.Put.the-variants as Put
+use Rattle.listing.specs.Lines.{cabinetsLine, refusedLine, stoppedLine, tableLines}
+use Rattle.listing.specs.Printing.{shown, printed, joined}
+use Rattle.listing.proofs.Lengths.{cabinets-long, refused-long, stopped-long, table-long, joined-append, joined-one}
+use Rattle.listing.proofs.Printing.{printed-whole, printed-no-room}
+use Rattle.run_list.specs.Text.{noteLines, refusedLines, endingLines, runLines, linesOf, textOf, Printed, textLimit}
+use Rattle.run_list.proofs.Laws.{left, lines-failed, lines-begun}
+
+-- ── numbers of refusals have two digits at most ──
+
+abbrev Small : List Ground → Type 0
+Small [] = Unit {0}
+Small (g ∷ gs) = (g .number ≤ 22) × Small gs
+
+judged-small : (u : State) (k : Mark) (gs : List Ground) → Small gs → resultNumber (judged (accepted u k) gs) ≤ 22
+unfolding judged
+judged-small u k [] h = omega arith
+judged-small u k (g ∷ gs) h = by-test (λ (r : Result). resultNumber r ≤ 22) (λ q. h .0) (λ q. judged-small u k gs (h .1))
+
+step-small : (s : State) (v : Event) → resultNumber (step s v) ≤ 22
+unfolding step grounds
+step-small s v = judged-small _ _ _ (search needs)
+
+stop-small : (s : Stop) → stopNumber s ≤ 22
+stop-small TooLong = omega arith
+stop-small CutShort = omega arith
+stop-small WrongTag = omega arith
+stop-small WrongLength = omega arith
+stop-small WrongCount = omega arith
+
+-- ── the parts of a text ──
+
+note-long : (e r : ℕ) → e ≤ 65536 → r ≤ 22 → length (joined (noteLines e r)) ≤ 17
+unfolding noteLines joined
+note-long e r h i =
+    by-test (λ (xs : List (List ℕ)). length (joined xs) ≤ 17) (λ q. omega arith)
+    (λ q. rw (joined-one (refusedLine e r)) (refused-long e r h i))
+
+refusals-long : (s : State) (e : ℕ) (vs : List Event) → e + length vs ≤ 65536 → length (joined (refusedLines s e vs)) ≤ 17 * length vs
+unfolding refusedLines joined
+refusals-long s e [] h = omega arith
+refusals-long s e (v ∷ vs) h =
+    let a = note-long e (resultNumber (step s v)) (omega arith) (step-small s v) in
+    let b = refusals-long (after s v) (e + 1) vs (omega arith) in
+    rw (joined-append (noteLines e (resultNumber (step s v))) (refusedLines (after s v) (e + 1) vs)) (omega arith)
+
+-- a list stops at one of its bytes
+abbrev Within : ℕ → Ending → Type 0
+Within m complete = Unit {0}
+Within m (stopped b s) = b ≤ m
+
+ends-within : (k : ℕ) (l : List ℕ) (at : ℕ) → at ≤ length l → Within (length l) (readFrom k l at .ending)
+unfolding readFrom
+ends-within zero l at h = tt
+ends-within (suc k) l at h = by (nextAt l at) refl (λ n u. ends-within k l n u)
+  where
+    by : (x : Next) → x ≡ nextAt l at → ((n : ℕ) → n ≤ length l → Within (length l) (readFrom k l n .ending)) → Within (length l) (onward at x (readFrom k l) .ending)
+    by Next.Done i f = tt
+    by (Next.Stopped s) i f = h
+    by (Next.Got v n) i f = f n (next-past l at i refl .1)
+
+ending-long : (m : ℕ) (x : Ending) → Within m x → m ≤ 65536 → length (joined (endingLines x)) ≤ 17
+unfolding joined
+ending-long m complete h i = omega arith
+ending-long m (stopped b s) h i = rw (joined-one (stoppedLine b (stopNumber s))) (stopped-long b (stopNumber s) (omega arith) (stop-small s))
+
+run-table-long : (n : ℕ) (vs : List Event) → 1 ≤ n → n ≤ 16 → length (joined (tableLines (run n vs))) ≤ 34 * 16 + 12
+run-table-long n vs h i =
+    let g = stays-in-range .runs n h i vs in
+    let t = table-long (run n vs) g in
+    let z = in-range-size (run n vs) g .1 in
+    omega arith
+
+left-long : (l : List ℕ) (n : ℕ) → 1 ≤ n → n ≤ 16 → 4 ≤ length l → length l ≤ 65536 → length (joined (left l (start n) 4 1)) ≤ 17 * 16384 + (34 * 16 + 12)
+unfolding rest
+left-long l n h i j k =
+    let r = rest l 4 in
+    let f = rest-few l 4 j in
+    let a = refusals-long (start n) 1 (r .events) (omega arith) in
+    let b = ending-long (length l) (r .ending) (ends-within (length l) l 4 j) k in
+    let c = run-table-long n (r .events) h i in
+    rw (joined-append (refusedLines (start n) 1 (r .events)) (endingLines (r .ending) ++ tableLines (run n (r .events))), joined-append (endingLines (r .ending)) (tableLines (run n (r .events)))) (omega arith)
+
+-- ── the whole ──
+
+-- A buffer of textLimit bytes is enough for every list.
+pub text-fits : (l : List ℕ) → length (textOf l) ≤ textLimit
+text-fits l = by (firstOf l) refl
+  where
+    by : (x : First) → x ≡ firstOf l → length (textOf l) ≤ textLimit
+    by (First.Stopped s) i = rw (lines-failed l i refl, joined-one (stoppedLine 0 (stopNumber s))) (let h = stopped-long 0 (stopNumber s) (omega arith) (stop-small s) in omega arith)
+    by (First.Nodes n) i =
+        let g = first-good l i refl in
+        let c = cabinets-long n (g .3) in
+        let r = left-long l n (g .2) (g .3) (g .0) (g .1) in
+        rw (lines-begun l i refl, joined-append (cabinetsLine n ∷ []) (left l (start n) 4 1), joined-one (cabinetsLine n)) (omega arith)
+
+-- Lines printed from the start of a buffer are what `Printed` says.
+pub printed-holds : (l b o : List ℕ) (a : Put) → shown a o ≡ printed b 0 (linesOf l) → Printed l b o a
+printed-holds l b o a e = by (leb (length (textOf l)) (length b)) refl
+  where
+    z : 0 + length (textOf l) ≡ length (textOf l)
+    z = omega arith
+
+    by : (t : Bool) → leb (length (textOf l)) (length b) ≡ t → Printed l b o a
+    by true f =
+        let h = leb-true (length (textOf l)) (length b) f in
+        let w = rw z at (printed-whole b o 0 a (linesOf l) e (omega arith)) in
+        record { answer = rw (f, pick-true) (w .0); whole = λ k. w .1; lines = e }
+    by false f =
+        let h = leb-false (length (textOf l)) (length b) f in
+        let w = printed-no-room b o 0 a (linesOf l) e (omega arith) (omega arith) in
+        record { answer = rw (f, pick-false) w; whole = λ k. (let v : ⊥ = omega arith in absurd v); lines = e }

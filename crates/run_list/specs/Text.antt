@@ -1,0 +1,62 @@
+-- What is printed for a list: one definition from input bytes to printed bytes, after 01's "The list and the printed table".
+use mathlib.Core.Path.{_≡_}
+use mathlib.Core.List.{List, [], _∷_, _++_}
+use Prim.Native.Nat.{ℕ, _+_, _*_, _≤_}
+use lib.ListN.{length, drop}
+use lib.Dec.{eqb, leb}
+use Rattle.model.specs.Pick.{pick}
+use Rattle.model.specs.State.{State, start}
+use Rattle.model.specs.Step.{step, after, runFrom}
+use Rattle.model.specs.Answers.{resultNumber}
+use Rattle.model.specs.declared.Event.{Event}
+use Rattle.event_list.specs.Format.{stopNumber, Ending, complete, stopped, Reading, Listed, failed, begun, reading}
+use Rattle.listing.specs.Lines.{cabinetsLine, refusedLine, stoppedLine, tableLines}
+use Rattle.listing.specs.Printing.{shown, printed, joined}
+use Rattle.listing.specs.declared.Put.{Put}
+use Rattle.listing.specs.declared.Put.the-variants.{Next, NoRoom}
+
+-- "for each event refused `refused e r`": event e with the number r, which is 0 where it is accepted
+unfoldable pub noteLines : ℕ → ℕ → List (List ℕ)
+noteLines e r = pick (eqb r 0) [] (refusedLine e r ∷ [])
+
+-- the same for a run from s, the first event of which is event e
+unfoldable pub refusedLines : State → ℕ → List Event → List (List ℕ)
+refusedLines s e [] = []
+refusedLines s e (v ∷ vs) = noteLines e (resultNumber (step s v)) ++ refusedLines (after s v) (e + 1) vs
+
+-- "A list refusal prints `stopped b r` at the offset b of its field's tag"
+abbrev pub endingLines : Ending → List (List ℕ)
+endingLines complete = []
+endingLines (stopped b s) = stoppedLine b (stopNumber s) ∷ []
+
+-- what is printed of a run from s, the first event of which is event e: "then the table so far", and so where nothing is refused
+abbrev pub runLines : State → ℕ → Reading → List (List ℕ)
+runLines s e r = refusedLines s e (r .events) ++ (endingLines (r .ending) ++ tableLines (runFrom s (r .events)))
+
+-- by what the list says
+abbrev pub listedLines : Listed → List (List ℕ)
+-- "if the whole list or the first field failed, that line is all that is printed, without `cabinets n`"; both fail at offset 0
+listedLines (failed s) = stoppedLine 0 (stopNumber s) ∷ []
+-- "It prints `cabinets n`; .. (e counts events from 1 ..)"
+listedLines (begun n r) = cabinetsLine n ∷ runLines (start n) 1 r
+
+-- the lines that are printed for a list
+unfoldable pub linesOf : List ℕ → List (List ℕ)
+linesOf l = listedLines (reading l)
+
+-- and their bytes
+abbrev pub textOf : List ℕ → List ℕ
+textOf l = joined (linesOf l)
+
+-- What printing the list l into a buffer that held b answers, a, and leaves there, o.
+pub record Printed (l b o : List ℕ) (a : Put) : Type 0 where
+  -- the text's length, or 15 where it does not fit
+  pub answer : a ≡ pick (leb (length (textOf l)) (length b)) (Next (length (textOf l))) NoRoom
+  -- a text that fits stands there whole, and behind it what was there
+  pub whole : length (textOf l) ≤ length b → o ≡ textOf l ++ drop (length (textOf l)) b
+  -- in any case the lines are written one after the other, up to the first that does not fit
+  pub lines : shown a o ≡ printed b 0 (linesOf l)
+
+-- No text is longer: `cabinets n`, a line for every four bytes of a list (an event, or the field that stops it), and a table.
+abbrev pub textLimit : ℕ
+textLimit = 12 + 17 * 16384 + (34 * 16 + 12)
