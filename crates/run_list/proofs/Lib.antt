@@ -1,2 +1,4 @@
 pub mod Laws
 pub mod Bound
+pub mod Behind
+pub mod NamedCases

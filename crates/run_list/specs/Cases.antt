@@ -1,0 +1,50 @@
+-- "Named cases": K1 to K13 jointly, with K1 and K10 also from the bytes of a list to the printed text.
+use Prim.Native.Nat.{ℕ}
+use Prim.Native.Char.{code}
+use Prim.Native.String.{String, [] as empty, _∷_ as _then_}
+use mathlib.Core.Path.{_≡_}
+use mathlib.Core.List.{List, [], _∷_, _++_}
+use Rattle.model.specs.Cases.{NamedCases}
+use Rattle.run_list.specs.Text.{textOf}
+
+-- the bytes of a text in ASCII
+unfoldable pub bytes : String → List ℕ
+bytes empty = []
+bytes (c then s) = code c ∷ bytes s
+
+-- the first field of n nodes
+abbrev pub nodes : ℕ → List ℕ
+nodes n = 0x01 ∷ 0 ∷ 1 ∷ n ∷ []
+
+-- fields of events
+abbrev pub recover : ℕ → List ℕ
+recover i = 0x11 ∷ 0 ∷ 1 ∷ i ∷ []
+
+abbrev pub check : ℕ → List ℕ
+check i = 0x12 ∷ 0 ∷ 1 ∷ i ∷ []
+
+abbrev pub deliver : ℕ → ℕ → List ℕ
+deliver a b = 0x17 ∷ 0 ∷ 2 ∷ a ∷ b ∷ []
+
+-- of a task below 256
+abbrev pub finish : ℕ → ℕ → List ℕ
+finish i t = 0x16 ∷ 0 ∷ 3 ∷ i ∷ 0 ∷ t ∷ []
+
+-- "Case K10. Events: recover 1, recover 2, check 2, deliver 2 1, deliver 1 2, .. finish 2 task 100, deliver 2 1, deliver 1 2, with n = 2"
+abbrev pub k10-list : List ℕ
+k10-list =
+    nodes 2
+    ++ (recover 1 ++ (recover 2 ++ (check 2
+    ++ (deliver 2 1 ++ (deliver 1 2 ++ (deliver 2 1 ++ (deliver 1 2 ++ (deliver 2 1 ++ (deliver 1 2
+    ++ (finish 2 100 ++ (deliver 2 1 ++ deliver 1 2)))))))))))
+
+pub record ListCases : Type 0 where
+  -- K2 to K13, and the numbers behind K1 and K10
+  pub in-model : NamedCases
+  -- "K1 n = 0 and 17: 6; 1 and 16 pass."
+  pub k1-low : textOf (nodes 0) ≡ bytes "stopped 0 6\n"
+  pub k1-high : textOf (nodes 17) ≡ bytes "stopped 0 6\n"
+  pub k1-first : textOf (nodes 1) ≡ bytes "cabinets 1\n1 0 0 0 0 0 0\nmessages 0\n"
+  pub k1-last : textOf (nodes 16) ≡ bytes "cabinets 16\n1 0 0 0 0 0 0\n2 0 0 0 0 0 0\n3 0 0 0 0 0 0\n4 0 0 0 0 0 0\n5 0 0 0 0 0 0\n6 0 0 0 0 0 0\n7 0 0 0 0 0 0\n8 0 0 0 0 0 0\n9 0 0 0 0 0 0\n10 0 0 0 0 0 0\n11 0 0 0 0 0 0\n12 0 0 0 0 0 0\n13 0 0 0 0 0 0\n14 0 0 0 0 0 0\n15 0 0 0 0 0 0\n16 0 0 0 0 0 0\nmessages 0\n"
+  -- K10's lines
+  pub k10 : textOf k10-list ≡ bytes "cabinets 2\n1 3 2 33 100 1 0\n2 3 2 33 100 2 1\nmessages 0\n"
