@@ -4,10 +4,11 @@ use native.Mathlib.Omega.{arith}
 use mathlib.Core.Path.{_≡_, refl, sym, _∙_, ap}
 use mathlib.Core.Bool.{Bool, true, false}
 use mathlib.Core.List.{List, [], _∷_, _++_}
-use lib.ListN.{length, drop}
+use lib.ListN.{length, take, drop, length-append, length-drop}
+use lib.Seq.{take-append-seam}
 use lib.Dec.{eqb, leb}
 use borrow.Author.Needs.{needs}
-use borrow.Author.Tests.{leb-true, leb-false}
+use borrow.Author.Tests.{le-leb, leb-true, leb-false}
 use Rattle.model.specs.Pick.{pick, pick-true, pick-false, by-test}
 use Rattle.model.specs.State.{State, start, inRange}
 use Rattle.model.specs.Step.{Ground, grounds, Result, refused, accepted, judged, step, after, runFrom, run}
@@ -30,7 +31,7 @@ use Rattle.listing.specs.Lines.{cabinetsLine, refusedLine, stoppedLine, tableLi
 use Rattle.listing.specs.Printing.{shown, printed, joined}
 use Rattle.listing.proofs.Lengths.{cabinets-long, refused-long, stopped-long, table-long, joined-append, joined-one}
 use Rattle.listing.proofs.Printing.{printed-whole, printed-no-room}
-use Rattle.run_list.specs.Text.{noteLines, refusedLines, endingLines, runLines, linesOf, textOf, Printed, textLimit}
+use Rattle.run_list.specs.Text.{noteLines, refusedLines, endingLines, runLines, linesOf, textOf, Printed, textLimit, Whole}
 use Rattle.run_list.proofs.Laws.{left, lines-failed, lines-begun}
 
 -- ── numbers of refusals have two digits at most ──
@@ -138,3 +139,21 @@ printed-holds l b o a e = by (leb (length (textOf l)) (length b)) refl
         let h = leb-false (length (textOf l)) (length b) f in
         let w = printed-no-room b o 0 a (linesOf l) e (omega arith) (omega arith) in
         record { answer = rw (f, pick-false) w; whole = λ k. (let v : ⊥ = omega arith in absurd v); lines = e }
+
+-- A buffer of textLimit bytes then holds the whole text.
+module _ (l b o : List ℕ) (a : Put) (e : Printed l b o a) (h : textLimit ≤ length b) where
+  fits : length (textOf l) ≤ length b
+  fits = let t = text-fits l in omega arith
+
+  answered : a ≡ Put.Next (length (textOf l))
+  answered = rw (le-leb _ _ fits, pick-true) at (e .answer)
+
+  pub whole-next : (n : ℕ) → a ≡ Put.Next n → Whole l o n
+  whole-next n f =
+      let m : n ≡ length (textOf l) = (let k = sym f ∙ answered in cc) in
+      let y : take n o ≡ textOf l = rw (m, e .whole fits) (take-append-seam (textOf l) (drop (length (textOf l)) b)) in
+      let z : length o ≡ length b = rw (e .whole fits) (simp (length-append, length-drop) (omega (arith, fits))) in
+      record { size = m; bytes = y; within = omega (arith, fits); counted = rw y m }
+
+  pub never-refused : a ≡ Put.NoRoom → ⊥
+  never-refused f = let k = sym f ∙ answered in let z : _≡_ {A = ℕ} 0 1 = cc in omega arith

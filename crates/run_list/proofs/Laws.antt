@@ -1,9 +1,11 @@
 -- The lines that are left at a field, by what is read there, and those of a whole list, by its first field.
 use Prim.Native.Nat.{ℕ, _+_}
 use mathlib.Core.Path.{_≡_, refl, sym, _∙_, ap}
-use mathlib.Core.Bool.{true}
+use mathlib.Core.Bool.{true, false}
 use mathlib.Core.List.{List, [], _∷_, _++_, append-assoc}
-use Rattle.model.specs.State.{State, start, inRange}
+use borrow.Author.Tests.{le-leb}
+use Rattle.model.specs.Limits.{nodeLimit}
+use Rattle.model.specs.State.{State, start, wrongCount, inRange}
 use Rattle.model.specs.Step.{Result, refused, accepted, step, kept, after, runFrom}
 use Rattle.model.specs.Answers.{resultNumber}
 use Rattle.model.specs.declared.Event.{Event}
@@ -14,7 +16,7 @@ use Rattle.event_list.specs.declared.Next.the-variants as Next
 use Rattle.event_list.specs.declared.First.{First}
 use Rattle.event_list.specs.declared.First.the-variants as First
 use Rattle.event_list.specs.Format.{stopNumber, nextAt, firstOf, rest}
-use Rattle.event_list.proofs.Reading.{rest-done, rest-stopped, rest-got, reading-failed, reading-begun}
+use Rattle.event_list.proofs.Reading.{rest-done, rest-stopped, rest-got, reading-failed, reading-begun, first-good}
 use Rattle.listing.specs.declared.Put.{Put}
 use Rattle.listing.specs.declared.Put.the-variants as Put
 use Rattle.listing.specs.Lines.{cabinetsLine, stoppedLine, tableLines}
@@ -61,6 +63,13 @@ module _ (l : List ℕ) {x : First} (i : x ≡ firstOf l) where
   unfolding linesOf
   lines-failed f = rw (reading-failed l i f)
 
-  pub lines-begun : {n : ℕ} → x ≡ First.Nodes n → linesOf l ≡ cabinetsLine n ∷ left l (start n) 4 1
-  unfolding linesOf
-  lines-begun f = rw (reading-begun l i f)
+  module _ {n : ℕ} (f : x ≡ First.Nodes n) where
+    pub lines-begun : linesOf l ≡ cabinetsLine n ∷ left l (start n) 4 1
+    unfolding linesOf
+    lines-begun = rw (reading-begun l i f)
+
+    pub count-right : wrongCount n ≡ false
+    count-right = let g = first-good l i f in rw (le-leb 1 n (g .2), le-leb n nodeLimit (g .3))
+
+    pub start-in-range : inRange (start n) ≡ true
+    start-in-range = let g = first-good l i f in stays-in-range .starts n (g .2) (g .3)

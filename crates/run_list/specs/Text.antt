@@ -2,7 +2,7 @@
 use mathlib.Core.Path.{_≡_}
 use mathlib.Core.List.{List, [], _∷_, _++_}
 use Prim.Native.Nat.{ℕ, _+_, _*_, _≤_}
-use lib.ListN.{length, drop}
+use lib.ListN.{length, take, drop}
 use lib.Dec.{eqb, leb}
 use Rattle.model.specs.Pick.{pick}
 use Rattle.model.specs.State.{State, start}
@@ -60,3 +60,11 @@ pub record Printed (l b o : List ℕ) (a : Put) : Type 0 where
 -- No text is longer: `cabinets n`, a line for every four bytes of a list (an event, or the field that stops it), and a table.
 abbrev pub textLimit : ℕ
 textLimit = 12 + 17 * 16384 + (34 * 16 + 12)
+
+-- the first r bytes of a buffer that then holds o are the whole text of the list l
+pub record Whole (l o : List ℕ) (r : ℕ) : Type 0 where
+  pub size : r ≡ length (textOf l)
+  pub bytes : take r o ≡ textOf l
+  -- so r counts bytes of the buffer, as writing them out asks
+  pub within : r ≤ length o
+  pub counted : r ≡ length (take r o)

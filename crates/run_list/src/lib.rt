@@ -1,17 +1,22 @@
 // A list of events run from the starting table, and the text that is printed for it.
 // What the text is, is in specs/Text.
+use event_list::First;
+use event_list::Next;
 use event_list::Stop;
 use listing::Put;
 use model::Answer;
 use model::Table;
 ghost use mathlib.Core.Path.{_≡_};
+ghost use mathlib.Core.Bool.{true};
 ghost use mathlib.Core.List.{_∷_};
+ghost use Prim.Native.Nat.{_≤_};
+ghost use lib.ListN.{length};
 ghost use Rattle.model.specs.Answers.{answerNumber};
-ghost use Rattle.model.specs.State.{view};
-ghost use Rattle.event_list.specs.Format.{stopNumber};
+ghost use Rattle.model.specs.State.{view, inRange};
+ghost use Rattle.event_list.specs.Format.{stopNumber, rest};
 ghost use Rattle.listing.specs.Lines.{stoppedLine, tableLines};
 ghost use Rattle.listing.specs.Printing.{shown, printed};
-ghost use Rattle.run_list.specs.Text.{noteLines};
+ghost use Rattle.run_list.specs.Text.{noteLines, runLines, linesOf, Printed, Whole};
 
 // The number of an answer; 0 where the event is accepted.
 fn answer_number(a: Answer) -> u8
@@ -49,5 +54,73 @@ fn stop(out: &mut [u8], at: usize, b: u32, s: Stop, t: Table) -> Put
     match listing::put_stopped(out, at, b, event_list::stop_number(s)) {
         Put::NoRoom => Put::NoRoom,
         Put::Next(next) => listing::put_table(out, next, t),
+    }
+}
+
+// The events of list behind its first field, run from the table start, and all that is printed of them.
+fn run(list: &[u8], out: &mut [u8], from: usize, start: Table) -> Put
+    requires { ⌜ (4 ≤ length (now list)) × (length (now list) ≤ 65536) × (inRange (view start) ≡ true) ⌝ }
+    ensures { λ a. ⌜ shown a (now (out .exit)) ≡ printed (now (out .entry)) from (runLines (view start) 1 (rest (now (list .entry)) 4)) ⌝ }
+{
+    let mut t = start;
+    let mut at: usize = 4;
+    let mut e: u32 = 1;
+    let mut p = from;
+    loop {
+        match event_list::event_at(list, at) {
+            Next::Done => return listing::put_table(out, p, t),
+            Next::Stopped(s) => return stop(out, p, at as u32, s, t),
+            Next::Got(event, next) => {
+                let o = machine::advance(t, event);
+                let answer = o.answer;
+                match note(out, p, e, answer) {
+                    Put::NoRoom => return Put::NoRoom,
+                    Put::Next(q) => {
+                        p = q;
+                    }
+                }
+                let after = o.table;
+                t = after;
+                at = next;
+                e += 1;
+            }
+        }
+    }
+}
+
+// The lines of list, written into out from its start.
+fn print_lines(list: &[u8], out: &mut [u8]) -> Put
+    ensures { λ a. ⌜ shown a (now (out .exit)) ≡ printed (now (out .entry)) 0 (linesOf (now (list .entry))) ⌝ }
+{
+    match event_list::first_of(list) {
+        First::Stopped(s) => listing::put_stopped(out, 0, 0, event_list::stop_number(s)),
+        First::Nodes(n) => match listing::put_cabinets(out, 0, n) {
+            Put::NoRoom => Put::NoRoom,
+            Put::Next(q) => {
+                let begun = machine::starting(n);
+                let t = begun.table;
+                run(list, out, q, t)
+            }
+        },
+    }
+}
+
+// The text of list at the start of out, and its length; or refusal 15.
+pub fn print(list: &[u8], out: &mut [u8]) -> Put
+    ensures { λ a. ⌜ Printed (now (list .entry)) (now (out .entry)) (now (out .exit)) a ⌝ }
+{
+    print_lines(list, out)
+}
+
+// No text is longer.
+pub const TEXT_LIMIT: usize = 279096;
+
+// The text of list at the start of out, and its length: there is always room.
+pub fn print_whole(list: &[u8], out: &mut [u8; TEXT_LIMIT]) -> usize
+    ensures { λ r. ⌜ Whole (now (list .entry)) (now (out .exit)) r ⌝ }
+{
+    match print(list, out) {
+        Put::Next(n) => n,
+        Put::NoRoom => 0,
     }
 }

@@ -1,0 +1,11 @@
+-- `run_list::print` meets its contract.
+use borrow.Author.Needs.{needs}
+use Rattle.run_list.proofs.Bound.{printed-holds}
+use Rattle.run_list.proofs.print.Statement.{statement}
+use Rattle.run_list.proofs.print.Tie as tie
+
+returns : tie.Need-returns
+returns c = printed-holds _ _ _ _ (c .before .before .print-lines .ensures)
+
+pub print-spec : {M : Type 1} → statement M
+print-spec = tie.close (tie.spec (λ c κs. search needs) (λ c. search needs) returns)
