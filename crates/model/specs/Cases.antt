@@ -101,7 +101,7 @@ pub record NamedCases : Type 0 where
   -- "K8 an invitation to a cabinet in Election changes nothing but the messages."
   pub k8 : after (pair Election Collecting (calls 1 3 2 (callNo 3) (groupNo 16) ∷ [])) (Deliver 1 2) ≡ pair Election Collecting (replies 2 1 (callNo 3) true ∷ [])
   -- "K9 a reply with an older call number is only dropped."
-  pub k9 : after (pair Normal Contacting (replies 1 2 (callNo 1) false ∷ [])) (Deliver 1 2) ≡ pair Normal Contacting []
+  pub k9 : after (pair Normal (Asking 1 0) (replies 1 2 (callNo 1) true ∷ [])) (Deliver 1 2) ≡ pair Normal (Asking 1 0) []
   -- "Case K10": what its lines print
   pub k10-first : printedFields (run 2 k10) 1 ≡ 1 ∷ 3 ∷ 2 ∷ 33 ∷ 100 ∷ 1 ∷ 0 ∷ []
   pub k10-second : printedFields (run 2 k10) 2 ≡ 2 ∷ 3 ∷ 2 ∷ 33 ∷ 100 ∷ 2 ∷ 1 ∷ []
