@@ -19,7 +19,7 @@ ghost use Rattle.listing.specs.Printing.{shown, printed};
 ghost use Rattle.run_list.specs.Text.{noteLines, runLines, linesOf, Printed, Whole};
 
 // The number of an answer; 0 where the event is accepted.
-fn answer_number(a: Answer) -> u8
+pub fn answer_number(a: Answer) -> u8
     ensures { λ r. ⌜ r ≡ answerNumber a ⌝ }
 {
     match a {
