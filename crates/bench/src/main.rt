@@ -20,13 +20,13 @@ fn text_space() -> [u8; TEXT_LIMIT]
     [0; TEXT_LIMIT]
 }
 
-// Whether there is nothing more to read. Where a read failed, before or now, the answer is false.
+// Whether the input has ended. `read_full` also stops at a read that fails: then this one fails too, or brings more.
 fn at_end() -> bool {
     let mut space = io::buffer();
     libc::read(STDIN_FILENO, &mut space) == 0
 }
 
-// A list that is read only in part is not run: there is then nothing to print.
+// Where the input can't be read to its end, nothing is printed.
 fn main() {
     let mut list = list_space();
     let got = io::read_full(STDIN_FILENO, &mut list);

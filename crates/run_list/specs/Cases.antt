@@ -45,6 +45,10 @@ pub record ListCases : Type 0 where
   pub k1-low : textOf (nodes 0) ≡ bytes "stopped 0 6\n"
   pub k1-high : textOf (nodes 17) ≡ bytes "stopped 0 6\n"
   pub k1-first : textOf (nodes 1) ≡ bytes "cabinets 1\n1 0 0 0 0 0 0\nmessages 0\n"
-  pub k1-last : textOf (nodes 16) ≡ bytes "cabinets 16\n1 0 0 0 0 0 0\n2 0 0 0 0 0 0\n3 0 0 0 0 0 0\n4 0 0 0 0 0 0\n5 0 0 0 0 0 0\n6 0 0 0 0 0 0\n7 0 0 0 0 0 0\n8 0 0 0 0 0 0\n9 0 0 0 0 0 0\n10 0 0 0 0 0 0\n11 0 0 0 0 0 0\n12 0 0 0 0 0 0\n13 0 0 0 0 0 0\n14 0 0 0 0 0 0\n15 0 0 0 0 0 0\n16 0 0 0 0 0 0\nmessages 0\n"
+  pub k1-last : textOf (nodes 16) ≡
+      bytes "cabinets 16\n1 0 0 0 0 0 0\n2 0 0 0 0 0 0\n3 0 0 0 0 0 0\n4 0 0 0 0 0 0\n"
+      ++ (bytes "5 0 0 0 0 0 0\n6 0 0 0 0 0 0\n7 0 0 0 0 0 0\n8 0 0 0 0 0 0\n"
+      ++ (bytes "9 0 0 0 0 0 0\n10 0 0 0 0 0 0\n11 0 0 0 0 0 0\n12 0 0 0 0 0 0\n"
+      ++ bytes "13 0 0 0 0 0 0\n14 0 0 0 0 0 0\n15 0 0 0 0 0 0\n16 0 0 0 0 0 0\nmessages 0\n"))
   -- K10's lines
   pub k10 : textOf k10-list ≡ bytes "cabinets 2\n1 3 2 33 100 1 0\n2 3 2 33 100 2 1\nmessages 0\n"

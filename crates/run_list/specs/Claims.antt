@@ -1,23 +1,23 @@
 -- What is claimed of the run behind a printed text. The proof is in proofs/Behind.
 use Prim.Native.Nat.{ℕ, _≤_}
 use mathlib.Core.Path.{_≡_}
-use mathlib.Core.List.{List, _∷_, _++_}
+use mathlib.Core.List.{List, _∷_}
 use Rattle.model.specs.Limits.{nodeLimit}
 use Rattle.model.specs.State.{start, nodeAt}
 use Rattle.model.specs.Step.{run}
 use Rattle.model.specs.Claims.{RunFixes}
 use Rattle.model.specs.declared.Status.the-variants.{Normal}
 use Rattle.event_list.specs.Format.{Reading}
-use Rattle.listing.specs.Lines.{cabinetsLine, tableLines}
+use Rattle.listing.specs.Lines.{cabinetsLine}
 use Rattle.listing.specs.Printing.{joined}
-use Rattle.run_list.specs.Text.{refusedLines, endingLines, textOf}
+use Rattle.run_list.specs.Text.{runLines, textOf}
 
 -- Of any bytes l whose first field is good with n, and which say r behind it: the text is that of a run of r's events, and demand 3 holds of that run.
 pub record Behind (l : List ℕ) (n : ℕ) (r : Reading) : Type 0 where
   pub low : 1 ≤ n
   pub high : n ≤ nodeLimit
-  -- the refusals printed are those of the events from the starting table on, and the table printed is the one after them
-  pub text : textOf l ≡ joined (cabinetsLine n ∷ (refusedLines (start n) 1 (r .events) ++ (endingLines (r .ending) ++ tableLines (run n (r .events)))))
+  -- the text is that of the run of r's events from the starting table: the last table printed is `run n (r .events)`
+  pub text : textOf l ≡ joined (cabinetsLine n ∷ runLines (start n) 1 r)
   -- demand 3 of every list of events with n nodes, so of r's events and each beginning of them
   pub fixes : RunFixes n
   -- so in the table printed, nodes that are Normal with the same group have the same coordinator and the same task

@@ -57,11 +57,11 @@ pub record Printed (l b o : List ℕ) (a : Put) : Type 0 where
   -- in any case the lines are written one after the other, up to the first that does not fit
   pub lines : shown a o ≡ printed b 0 (linesOf l)
 
--- No text is longer: `cabinets n`, a line for every four bytes of a list (an event, or the field that stops it), and a table.
+-- No text is longer: `cabinets n`, a line for each of at most 16,383 events (of four bytes or more) and for a stop, and the table of 16 nodes.
 abbrev pub textLimit : ℕ
 textLimit = 12 + 17 * 16384 + (34 * 16 + 12)
 
--- the first r bytes of a buffer that then holds o are the whole text of the list l
+-- What printing the list l into a buffer of that size answers, r, and leaves there, o: its first r bytes are the text.
 pub record Whole (l o : List ℕ) (r : ℕ) : Type 0 where
   pub size : r ≡ length (textOf l)
   pub bytes : take r o ≡ textOf l
