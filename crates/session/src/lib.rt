@@ -1,0 +1,28 @@
+// The table that the rig keeps for a whole session: each event is applied to it in place.
+ghost use Rattle.machine.specs.Stepped.{Stepped};
+use model::Answer;
+use model::Event;
+use model::Outcome;
+use model::Table;
+
+// One event on the table that is lent: the by-value step, and a store of its result. The answer, and what the table holds at exit,
+// are what `machine::step` promises of what it held at entry.
+pub fn apply(table: &mut Table, event: Event) -> Answer
+    ensures { λ r. ⌜ Stepped (now (table .entry)) event (record { answer = r; table = now (table .exit) }) ⌝ }
+{
+    let o = machine::step(*table, event);
+    *table = o.table;
+    o.answer
+}
+
+// The same on a table of the caller's own, by value: for callers that are proved without a walk.
+pub fn stepped_in_place(t: Table, e: Event) -> Outcome
+    ensures { λ r. ⌜ Stepped t e r ⌝ }
+{
+    let mut kept = t;
+    let answer = apply(&mut kept, e);
+    Outcome {
+        answer: answer,
+        table: kept,
+    }
+}
