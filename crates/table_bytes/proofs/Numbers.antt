@@ -1,0 +1,67 @@
+-- Numbers of k bytes: what the code's sums and quotients are, and that a number is read back from its bytes.
+use Prim.Native.Nat.{ℕ, zero, suc, _+_, _*_, _/_, _%_, _^_, _<_}
+use native.Mathlib.Numerals.{add-one}
+use native.Mathlib.Omega.{arith}
+use mathlib.Core.Path.{_≡_, refl, sym, _∙_, ap}
+use mathlib.Core.List.{List, [], _∷_, _++_}
+use lib.ListN.{length, getD, drop, set}
+use Rattle.table_bytes.specs.Bytes.{number, bytes, written}
+
+-- ── reading ──
+
+pub one-is : (l : List ℕ) (k : ℕ) → number 1 l k ≡ getD l k 0
+unfolding number
+one-is l k = omega arith
+
+pub two-is : (l : List ℕ) (k : ℕ) → number 2 l k ≡ getD l k 0 * 256 + getD l (k + 1) 0
+unfolding number
+two-is l k = omega arith
+
+pub four-is : (l : List ℕ) (k : ℕ) → number 4 l k ≡ number 2 l k * 65536 + number 2 l (k + 2)
+unfolding number
+four-is l k =
+    let e : k + 2 ≡ k + 1 + 1 = omega arith in
+    rw e (omega arith)
+
+-- ── writing ──
+
+pub one-bytes : (x : ℕ) → x < 256 → bytes 1 x ≡ x ∷ []
+unfolding bytes
+one-bytes x h =
+    let e : x / 1 % 256 ≡ x = omega arith in
+    rw e
+
+pub two-bytes : (x : ℕ) → x < 65536 → bytes 2 x ≡ x / 256 ∷ x % 256 ∷ []
+unfolding bytes
+two-bytes x h =
+    let e : x / 256 % 256 ≡ x / 256 = omega arith in
+    let f : x / 1 % 256 ≡ x % 256 = omega arith in
+    rw (e, f)
+
+pub four-bytes : (x : ℕ) → bytes 4 x ≡ bytes 2 (x / 65536) ++ bytes 2 (x % 65536)
+unfolding bytes
+four-bytes x =
+    let a : x / 65536 / 256 % 256 ≡ x / 16777216 % 256 = omega arith in
+    let b : x / 65536 / 1 % 256 ≡ x / 65536 % 256 = omega arith in
+    let c : x % 65536 / 256 % 256 ≡ x / 256 % 256 = omega arith in
+    let d : x % 65536 / 1 % 256 ≡ x / 1 % 256 = omega arith in
+    rw (a, b, c, d)
+
+-- bytes written one after another
+pub written-append : (out : List ℕ) (at : ℕ) (a b : List ℕ) → written out at (a ++ b) ≡ written (written out at a) (at + length a) b
+unfolding written
+written-append out at [] b =
+    let e : at + 0 ≡ at = omega arith in
+    rw e
+written-append out at (x ∷ a) b =
+    let e : at + suc (length a) ≡ at + 1 + length a = omega arith in
+    rw e (written-append (set out at x) (at + 1) a b)
+
+pub length-bytes : (k x : ℕ) → length (bytes k x) ≡ k
+unfolding bytes
+length-bytes zero x = refl
+length-bytes (suc k) x = ap suc (length-bytes k x)
+
+-- a is written, and then b behind it
+pub then : (out : List ℕ) (at : ℕ) (a b : List ℕ) (n : ℕ) {p q : List ℕ} → p ≡ written out at a → length a ≡ n → q ≡ written p (at + n) b → q ≡ written out at (a ++ b)
+then out at a b n e f g = g ∙ sym (written-append out at a b ∙ rw (f, ← e))

@@ -1,0 +1,143 @@
+-- A table as 1,362 bytes, and the table of any bytes. Numbers have their high byte first.
+--   table     n 1, 16 nodes of 29 bytes, 64 messages of 14 bytes, waiting 1
+--   node      status 1, counter 4, group 4, coordinator 1, task 2, members 2, last 4, activity 11
+--   activity  tag 1, set 2, former 2, node 1, caller 1, call 4; what an activity does not have is 0
+--   message   sender 1, receiver 1, kind 1, call 4, group 4, task 2, yes 1
+use Prim.Native.Nat.{ℕ, zero, suc, _+_, _*_, _/_, _%_, _^_}
+use mathlib.Core.Bool.{Bool, true, false}
+use mathlib.Core.List.{List, [], _∷_, _++_}
+use lib.Dec.{eqb}
+use lib.ListN.{getD, drop, set}
+use Rattle.model.specs.Pick.{pick}
+use Rattle.model.specs.Answers.{statusNumber}
+use Rattle.model.specs.declared.Status.{Status}
+use Rattle.model.specs.declared.Status.the-variants.{Down, Election, Reorganization, Normal}
+use Rattle.model.specs.declared.Activity.{Activity}
+use Rattle.model.specs.declared.Activity.the-variants.{Idle, Asking, Waiting, Inviting, Collecting, Handing, Contacting, Forwarding, Accepting}
+use Rattle.model.specs.declared.Node.{Node}
+use Rattle.model.specs.declared.Message.{Message}
+use Rattle.model.specs.declared.Table.{Table}
+use Rattle.table_bytes.specs.declared.Parts.{Parts}
+
+-- ── numbers ──
+
+-- the number of the k bytes from at on; past the end stands 0
+unfoldable pub number : ℕ → List ℕ → ℕ → ℕ
+number zero l at = 0
+number (suc k) l at = getD l at 0 * 256 ^ k + number k l (at + 1)
+
+-- the k bytes of a number
+unfoldable pub bytes : ℕ → ℕ → List ℕ
+bytes zero x = []
+bytes (suc k) x = x / 256 ^ k % 256 ∷ bytes k x
+
+-- ── records of one size, one after another ──
+
+-- the first k records, read by f
+unfoldable pub many : {A : Type 0} → (List ℕ → A) → ℕ → ℕ → List ℕ → List A
+many f size zero l = []
+many f size (suc k) l = f l ∷ many f size k (drop size l)
+
+-- the bytes of all records, written by g
+unfoldable pub all : {A : Type 0} → (A → List ℕ) → List A → List ℕ
+all g [] = []
+all g (x ∷ xs) = g x ++ all g xs
+
+-- ── activities ──
+
+abbrev pub parts : ℕ → ℕ → ℕ → ℕ → ℕ → ℕ → Parts
+parts tag set former node caller call = record { tag = tag; set = set; former = former; node = node; caller = caller; call = call }
+
+-- the variants in their order, 0 to 8, each with what it holds
+abbrev pub partsOf : Activity → Parts
+partsOf Idle = parts 0 0 0 0 0 0
+partsOf (Asking asked found) = parts 1 found 0 asked 0 0
+partsOf (Waiting ticks found) = parts 2 found 0 ticks 0 0
+partsOf (Inviting found former now) = parts 3 found former now 0 0
+partsOf Collecting = parts 4 0 0 0 0 0
+partsOf (Handing rest now) = parts 5 rest 0 now 0 0
+partsOf Contacting = parts 6 0 0 0 0 0
+partsOf (Forwarding rest now caller call) = parts 7 rest 0 now caller (call .number)
+partsOf (Accepting caller call) = parts 8 0 0 0 caller (call .number)
+
+-- the activity of any parts: the tag counts modulo 9, and what the activity does not have is not looked at
+unfoldable pub activityOf : Parts → Activity
+activityOf p =
+    pick (eqb (p .tag % 9) 0) Idle
+    (pick (eqb (p .tag % 9) 1) (Asking (p .node) (p .set))
+    (pick (eqb (p .tag % 9) 2) (Waiting (p .node) (p .set))
+    (pick (eqb (p .tag % 9) 3) (Inviting (p .set) (p .former) (p .node))
+    (pick (eqb (p .tag % 9) 4) Collecting
+    (pick (eqb (p .tag % 9) 5) (Handing (p .set) (p .node))
+    (pick (eqb (p .tag % 9) 6) Contacting
+    (pick (eqb (p .tag % 9) 7) (Forwarding (p .set) (p .node) (p .caller) (record { number = p .call }))
+    (Accepting (p .caller) (record { number = p .call })))))))))
+
+-- ── what bytes mean ──
+
+-- modulo 4
+unfoldable pub statusOf : ℕ → Status
+statusOf x =
+    pick (eqb (x % 4) 0) Down
+    (pick (eqb (x % 4) 1) Election
+    (pick (eqb (x % 4) 2) Reorganization
+    Normal))
+
+unfoldable pub nodeOf : List ℕ → Node
+nodeOf l = record {
+  status = statusOf (number 1 l 0);
+  counter = number 4 l 1;
+  group = record { number = number 4 l 5 };
+  coordinator = number 1 l 9;
+  task = record { number = number 2 l 10 };
+  members = number 2 l 12;
+  last = record { number = number 4 l 14 };
+  activity = activityOf (parts (number 1 l 18) (number 2 l 19) (number 2 l 21) (number 1 l 23) (number 1 l 24) (number 4 l 25));
+}
+
+unfoldable pub messageOf : List ℕ → Message
+messageOf l = record {
+  sender = number 1 l 0;
+  receiver = number 1 l 1;
+  kind = number 1 l 2;
+  call = record { number = number 4 l 3 };
+  group = record { number = number 4 l 7 };
+  task = record { number = number 2 l 11 };
+  yes = eqb (number 1 l 13 % 2) 1;
+}
+
+-- the table of any bytes, in range or not
+unfoldable pub decoded : List ℕ → Table
+decoded l = record {
+  n = number 1 l 0;
+  nodes = many nodeOf 29 16 (drop 1 l);
+  messages = many messageOf 14 64 (drop 465 l);
+  waiting = number 1 l 1361;
+}
+
+-- ── the bytes of a table ──
+
+abbrev pub yesNumber : Bool → ℕ
+yesNumber false = 0
+yesNumber true = 1
+
+unfoldable pub partsBytes : Parts → List ℕ
+partsBytes p = bytes 1 (p .tag) ++ bytes 2 (p .set) ++ bytes 2 (p .former) ++ bytes 1 (p .node) ++ bytes 1 (p .caller) ++ bytes 4 (p .call)
+
+unfoldable pub nodeBytes : Node → List ℕ
+nodeBytes c =
+    bytes 1 (statusNumber (c .status)) ++ bytes 4 (c .counter) ++ bytes 4 (c .group .number) ++ bytes 1 (c .coordinator)
+    ++ bytes 2 (c .task .number) ++ bytes 2 (c .members) ++ bytes 4 (c .last .number) ++ partsBytes (partsOf (c .activity))
+
+unfoldable pub messageBytes : Message → List ℕ
+messageBytes m =
+    bytes 1 (m .sender) ++ bytes 1 (m .receiver) ++ bytes 1 (m .kind) ++ bytes 4 (m .call .number) ++ bytes 4 (m .group .number)
+    ++ bytes 2 (m .task .number) ++ bytes 1 (yesNumber (m .yes))
+
+unfoldable pub encoded : Table → List ℕ
+encoded t = bytes 1 (t .n) ++ all nodeBytes (t .nodes) ++ all messageBytes (t .messages) ++ bytes 1 (t .waiting)
+
+-- l over out from at on; what comes past the end of out is not written
+unfoldable pub written : List ℕ → ℕ → List ℕ → List ℕ
+written out at [] = out
+written out at (b ∷ l) = written (set out at b) (at + 1) l

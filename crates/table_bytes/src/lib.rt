@@ -1,0 +1,377 @@
+// A table as 1,362 bytes, and the table of any bytes: a form in which any table at all, in range or not, can be handed in.
+// Numbers have their high byte first.
+//   table     n 1, 16 nodes of 29 bytes, 64 messages of 14 bytes, waiting 1
+//   node      status 1, counter 4, group 4, coordinator 1, task 2, members 2, last 4, activity 11
+//   activity  tag 1, set 2, former 2, node 1, caller 1, call 4; what an activity does not have is 0
+//   message   sender 1, receiver 1, kind 1, call 4, group 4, task 2, yes 1
+// What is read and written is in specs/Bytes.
+use model::Activity;
+use model::CallNo;
+use model::GroupNo;
+use model::Message;
+use model::Node;
+use model::Status;
+use model::Table;
+use model::TaskNo;
+ghost use mathlib.Core.Path.{_≡_};
+ghost use Prim.Native.Nat.{_+_, _*_, _%_, _≤_, _<_};
+ghost use lib.ListN.{length, getD, drop, set};
+ghost use Rattle.model.specs.Answers.{statusNumber};
+ghost use Rattle.table_bytes.specs.Bytes as spec;
+
+// How long a table's bytes are.
+pub const SIZE: usize = 1362;
+
+// An activity with a place for each thing that one of them holds.
+struct Parts {
+    tag: u8,
+    set: u16,
+    former: u16,
+    node: u8,
+    caller: u8,
+    call: u32,
+}
+
+fn parts_with(tag: u8, set: u16, former: u16, node: u8, caller: u8, call: u32) -> Parts
+    ensures { λ r. ⌜ r ≡ spec.parts tag set former node caller call ⌝ }
+{
+    Parts {
+        tag: tag,
+        set: set,
+        former: former,
+        node: node,
+        caller: caller,
+        call: call,
+    }
+}
+
+// ── reading ──
+
+// The byte at k, or 0 past the end.
+fn byte(s: &[u8], k: usize) -> u8
+    ensures { λ r. ⌜ r ≡ getD (now (s .entry)) k 0 ⌝ }
+{
+    if k < s.len() { s[k] } else { 0 }
+}
+
+fn one(s: &[u8], k: usize) -> u8
+    ensures { λ r. ⌜ r ≡ spec.number 1 (now (s .entry)) k ⌝ }
+{
+    byte(s, k)
+}
+
+fn two(s: &[u8], k: usize) -> u16
+    requires { ⌜ k ≤ 64 ⌝ }
+    ensures { λ r. ⌜ r ≡ spec.number 2 (now (s .entry)) k ⌝ }
+{
+    (byte(s, k) as u16) * 256 + byte(s, k + 1) as u16
+}
+
+fn four(s: &[u8], k: usize) -> u32
+    requires { ⌜ k ≤ 32 ⌝ }
+    ensures { λ r. ⌜ r ≡ spec.number 4 (now (s .entry)) k ⌝ }
+{
+    (two(s, k) as u32) * 65536 + two(s, k + 2) as u32
+}
+
+// What of s stands from at on: nothing, past the end.
+fn from(s: &[u8], at: usize) -> &[u8]
+    ensures { λ r. ⌜ now r ≡ drop at (now (s .entry)) ⌝ }
+{
+    if s.len() < at {
+        return &s[s.len()..];
+    }
+    &s[at..]
+}
+
+fn status_of(x: u8) -> Status
+    ensures { λ r. ⌜ r ≡ spec.statusOf x ⌝ }
+{
+    let k = x % 4;
+    match k {
+        0 => Status::Down,
+        1 => Status::Election,
+        2 => Status::Reorganization,
+        3..=255 => Status::Normal,
+    }
+}
+
+fn activity_of(p: Parts) -> Activity
+    ensures { λ r. ⌜ r ≡ spec.activityOf p ⌝ }
+{
+    let set = p.set;
+    let former = p.former;
+    let node = p.node;
+    let caller = p.caller;
+    let call = CallNo { number: p.call };
+    let k = p.tag % 9;
+    match k {
+        0 => Activity::Idle,
+        1 => Activity::Asking {
+            asked: node,
+            found: set,
+        },
+        2 => Activity::Waiting {
+            ticks: node,
+            found: set,
+        },
+        3 => Activity::Inviting {
+            found: set,
+            former: former,
+            now: node,
+        },
+        4 => Activity::Collecting,
+        5 => Activity::Handing {
+            rest: set,
+            now: node,
+        },
+        6 => Activity::Contacting,
+        7 => Activity::Forwarding {
+            rest: set,
+            now: node,
+            caller: caller,
+            call: call,
+        },
+        8..=255 => Activity::Accepting {
+            caller: caller,
+            call: call,
+        },
+    }
+}
+
+// The node whose record starts s.
+fn node_of(s: &[u8]) -> Node
+    ensures { λ r. ⌜ r ≡ spec.nodeOf (now (s .entry)) ⌝ }
+{
+    let p = parts_with(
+        one(s, 18),
+        two(s, 19),
+        two(s, 21),
+        one(s, 23),
+        one(s, 24),
+        four(s, 25),
+    );
+    Node {
+        status: status_of(one(s, 0)),
+        counter: four(s, 1),
+        group: GroupNo { number: four(s, 5) },
+        coordinator: one(s, 9),
+        task: TaskNo { number: two(s, 10) },
+        members: two(s, 12),
+        last: CallNo {
+            number: four(s, 14),
+        },
+        activity: activity_of(p),
+    }
+}
+
+// The message whose record starts s.
+fn message_of(s: &[u8]) -> Message
+    ensures { λ r. ⌜ r ≡ spec.messageOf (now (s .entry)) ⌝ }
+{
+    Message {
+        sender: one(s, 0),
+        receiver: one(s, 1),
+        kind: one(s, 2),
+        call: CallNo { number: four(s, 3) },
+        group: GroupNo { number: four(s, 7) },
+        task: TaskNo { number: two(s, 11) },
+        yes: one(s, 13) % 2 == 1,
+    }
+}
+
+// The nodes whose records start s.
+fn nodes_of(s: &[u8]) -> [Node; 16]
+    ensures { λ r. ⌜ r ≡ spec.many spec.nodeOf 29 16 (now (s .entry)) ⌝ }
+{
+    let first = node_of(s);
+    let mut all = [first; 16];
+    let mut i: usize = 0;
+    while i < 16 {
+        let node = node_of(from(s, i * 29));
+        all[i] = node;
+        i += 1;
+    }
+    all
+}
+
+// The messages whose records start s.
+fn messages_of(s: &[u8]) -> [Message; 64]
+    ensures { λ r. ⌜ r ≡ spec.many spec.messageOf 14 64 (now (s .entry)) ⌝ }
+{
+    let first = message_of(s);
+    let mut all = [first; 64];
+    let mut i: usize = 0;
+    while i < 64 {
+        let m = message_of(from(s, i * 14));
+        all[i] = m;
+        i += 1;
+    }
+    all
+}
+
+// The table of any bytes. What a list is too short for is 0; what comes after 1,362 bytes is not looked at.
+pub fn decode(bytes: &[u8]) -> Table
+    ensures { λ r. ⌜ r ≡ spec.decoded (now (bytes .entry)) ⌝ }
+{
+    let nodes = nodes_of(from(bytes, 1));
+    let messages = messages_of(from(bytes, 465));
+    Table {
+        n: one(bytes, 0),
+        nodes: nodes,
+        messages: messages,
+        waiting: one(bytes, 1361),
+    }
+}
+
+// ── writing: a byte past the end is not written ──
+
+fn put(out: &mut [u8], at: usize, b: u8)
+    ensures { λ _. ⌜ now (out .exit) ≡ set (now (out .entry)) at b ⌝ }
+{
+    if at < out.len() {
+        out[at] = b;
+    }
+}
+
+fn put_one(out: &mut [u8], at: usize, x: u8)
+    ensures { λ _. ⌜ now (out .exit) ≡ spec.written (now (out .entry)) at (spec.bytes 1 x) ⌝ }
+{
+    put(out, at, x)
+}
+
+fn put_two(out: &mut [u8], at: usize, x: u16)
+    requires { ⌜ at ≤ 4096 ⌝ }
+    ensures { λ _. ⌜ now (out .exit) ≡ spec.written (now (out .entry)) at (spec.bytes 2 x) ⌝ }
+{
+    put(out, at, (x / 256) as u8);
+    put(out, at + 1, (x % 256) as u8)
+}
+
+fn put_four(out: &mut [u8], at: usize, x: u32)
+    requires { ⌜ at ≤ 4000 ⌝ }
+    ensures { λ _. ⌜ now (out .exit) ≡ spec.written (now (out .entry)) at (spec.bytes 4 x) ⌝ }
+{
+    put_two(out, at, (x / 65536) as u16);
+    put_two(out, at + 2, (x % 65536) as u16)
+}
+
+fn status_number(s: Status) -> u8
+    ensures { λ r. ⌜ r ≡ statusNumber s ⌝ }
+{
+    match s {
+        Status::Down => 0,
+        Status::Election => 1,
+        Status::Reorganization => 2,
+        Status::Normal => 3,
+    }
+}
+
+fn parts_of(a: Activity) -> Parts
+    ensures { λ r. ⌜ r ≡ spec.partsOf a ⌝ }
+{
+    match a {
+        Activity::Idle => parts_with(0, 0, 0, 0, 0, 0),
+        Activity::Asking { asked, found } => parts_with(1, found, 0, asked, 0, 0),
+        Activity::Waiting { ticks, found } => parts_with(2, found, 0, ticks, 0, 0),
+        Activity::Inviting { found, former, now } => parts_with(3, found, former, now, 0, 0),
+        Activity::Collecting => parts_with(4, 0, 0, 0, 0, 0),
+        Activity::Handing { rest, now } => parts_with(5, rest, 0, now, 0, 0),
+        Activity::Contacting => parts_with(6, 0, 0, 0, 0, 0),
+        Activity::Forwarding {
+            rest,
+            now,
+            caller,
+            call,
+        } => parts_with(7, rest, 0, now, caller, call.number),
+        Activity::Accepting { caller, call } => parts_with(8, 0, 0, 0, caller, call.number),
+    }
+}
+
+fn yes_number(yes: bool) -> u8
+    ensures { λ r. ⌜ r ≡ spec.yesNumber yes ⌝ }
+{
+    if yes { 1 } else { 0 }
+}
+
+fn put_parts(out: &mut [u8], at: usize, p: Parts)
+    requires { ⌜ at ≤ 3000 ⌝ }
+    ensures { λ _. ⌜ now (out .exit) ≡ spec.written (now (out .entry)) at (spec.partsBytes p) ⌝ }
+{
+    put_one(out, at, p.tag);
+    put_two(out, at + 1, p.set);
+    put_two(out, at + 3, p.former);
+    put_one(out, at + 5, p.node);
+    put_one(out, at + 6, p.caller);
+    put_four(out, at + 7, p.call)
+}
+
+fn put_node(out: &mut [u8], at: usize, node: Node)
+    requires { ⌜ at ≤ 2000 ⌝ }
+    ensures { λ _. ⌜ now (out .exit) ≡ spec.written (now (out .entry)) at (spec.nodeBytes node) ⌝ }
+{
+    let status = node.status;
+    let group = node.group;
+    let task = node.task;
+    let last = node.last;
+    let activity = node.activity;
+    let tag = status_number(status);
+    let parts = parts_of(activity);
+    put_one(out, at, tag);
+    put_four(out, at + 1, node.counter);
+    put_four(out, at + 5, group.number);
+    put_one(out, at + 9, node.coordinator);
+    put_two(out, at + 10, task.number);
+    put_two(out, at + 12, node.members);
+    put_four(out, at + 14, last.number);
+    put_parts(out, at + 18, parts)
+}
+
+fn put_message(out: &mut [u8], at: usize, m: Message)
+    requires { ⌜ at ≤ 2000 ⌝ }
+    ensures { λ _. ⌜ now (out .exit) ≡ spec.written (now (out .entry)) at (spec.messageBytes m) ⌝ }
+{
+    let call = m.call;
+    let group = m.group;
+    let task = m.task;
+    let yes = yes_number(m.yes);
+    put_one(out, at, m.sender);
+    put_one(out, at + 1, m.receiver);
+    put_one(out, at + 2, m.kind);
+    put_four(out, at + 3, call.number);
+    put_four(out, at + 7, group.number);
+    put_two(out, at + 11, task.number);
+    put_one(out, at + 13, yes)
+}
+
+fn put_nodes(out: &mut [u8], t: Table)
+    ensures { λ _. ⌜ now (out .exit) ≡ spec.written (now (out .entry)) 1 (spec.all spec.nodeBytes (t .nodes)) ⌝ }
+{
+    let mut i: usize = 0;
+    while i < 16 {
+        let node = t.nodes[i];
+        put_node(out, 1 + i * 29, node);
+        i += 1;
+    }
+}
+
+fn put_messages(out: &mut [u8], t: Table)
+    ensures { λ _. ⌜ now (out .exit) ≡ spec.written (now (out .entry)) 465 (spec.all spec.messageBytes (t .messages)) ⌝ }
+{
+    let mut i: usize = 0;
+    while i < 64 {
+        let m = t.messages[i];
+        put_message(out, 465 + i * 14, m);
+        i += 1;
+    }
+}
+
+// The bytes of t over the start of out; where out is shorter, as many as it has room for.
+pub fn encode(t: Table, out: &mut [u8])
+    ensures { λ _. ⌜ now (out .exit) ≡ spec.written (now (out .entry)) 0 (spec.encoded t) ⌝ }
+{
+    put_one(out, 0, t.n);
+    put_nodes(out, t);
+    put_messages(out, t);
+    put_one(out, 1361, t.waiting)
+}
