@@ -2,12 +2,14 @@
 --   table     n 1, 16 nodes of 29 bytes, 64 messages of 14 bytes, waiting 1
 --   node      status 1, counter 4, group 4, coordinator 1, task 2, members 2, last 4, activity 11
 --   activity  tag 1, set 2, former 2, node 1, caller 1, call 4; what an activity does not have is 0
+--             set is found or rest; node is asked, ticks or now
 --   message   sender 1, receiver 1, kind 1, call 4, group 4, task 2, yes 1
-use Prim.Native.Nat.{ℕ, zero, suc, _+_, _*_, _/_, _%_, _^_}
+use Prim.Native.Nat.{ℕ, zero, suc, _+_, _*_, _/_, _%_, _^_, _<_}
+use mathlib.Core.Path.{_≡_}
 use mathlib.Core.Bool.{Bool, true, false}
 use mathlib.Core.List.{List, [], _∷_, _++_}
 use lib.Dec.{eqb}
-use lib.ListN.{getD, drop, set}
+use lib.ListN.{length, getD, drop, set}
 use Rattle.model.specs.Pick.{pick}
 use Rattle.model.specs.Answers.{statusNumber}
 use Rattle.model.specs.declared.Status.{Status}
@@ -141,3 +143,41 @@ encoded t = bytes 1 (t .n) ++ all nodeBytes (t .nodes) ++ all messageBytes (t .m
 unfoldable pub written : List ℕ → ℕ → List ℕ → List ℕ
 written out at [] = out
 written out at (b ∷ l) = written (set out at b) (at + 1) l
+
+-- ── what the types of a table's fields hold: every table of the code fits ──
+
+pub record PartsFit (p : Parts) : Type 0 where
+  pub tag : p .tag < 256
+  pub set : p .set < 65536
+  pub former : p .former < 65536
+  pub node : p .node < 256
+  pub caller : p .caller < 256
+  pub call : p .call < 4294967296
+
+pub record NodeFits (c : Node) : Type 0 where
+  pub counter : c .counter < 4294967296
+  pub group : c .group .number < 4294967296
+  pub coordinator : c .coordinator < 256
+  pub task : c .task .number < 65536
+  pub members : c .members < 65536
+  pub last : c .last .number < 4294967296
+  pub activity : PartsFit (partsOf (c .activity))
+
+pub record MessageFits (m : Message) : Type 0 where
+  pub sender : m .sender < 256
+  pub receiver : m .receiver < 256
+  pub kind : m .kind < 256
+  pub call : m .call .number < 4294967296
+  pub group : m .group .number < 4294967296
+  pub task : m .task .number < 65536
+
+-- P holds of each element
+unfoldable pub Each : {A : Type 0} → (A → Type 0) → List A → Type 0
+Each P [] = Unit {0}
+Each P (x ∷ xs) = P x × Each P xs
+
+pub record Fits (t : Table) : Type 0 where
+  pub n : t .n < 256
+  pub nodes : (length (t .nodes) ≡ 16) × Each NodeFits (t .nodes)
+  pub messages : (length (t .messages) ≡ 64) × Each MessageFits (t .messages)
+  pub waiting : t .waiting < 256

@@ -3,6 +3,7 @@
 //   table     n 1, 16 nodes of 29 bytes, 64 messages of 14 bytes, waiting 1
 //   node      status 1, counter 4, group 4, coordinator 1, task 2, members 2, last 4, activity 11
 //   activity  tag 1, set 2, former 2, node 1, caller 1, call 4; what an activity does not have is 0
+//             set is found or rest; node is asked, ticks or now
 //   message   sender 1, receiver 1, kind 1, call 4, group 4, task 2, yes 1
 // What is read and written is in specs/Bytes.
 use model::Activity;

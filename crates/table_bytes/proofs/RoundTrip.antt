@@ -1,0 +1,127 @@
+-- A table that fits is read back from its bytes: `decode-encode`, and `round-trip` for the bytes over a buffer.
+use Prim.Native.Nat.{ℕ, _%_, _≤_, _<_}
+use native.Mathlib.Omega.{arith}
+use mathlib.Core.Path.{_≡_, refl}
+use mathlib.Core.Bool.{Bool, true, false}
+use mathlib.Core.List.{List, [], _∷_, _++_, append-assoc, append-nil}
+use lib.Dec.{eqb}
+use lib.ListN.{length, drop, length-append}
+use lib.Seq.{drop-at}
+use Rattle.model.specs.Pick.{pick}
+use Rattle.model.specs.Answers.{statusNumber}
+use Rattle.model.specs.declared.Status.{Status}
+use Rattle.model.specs.declared.Status.the-variants.{Down, Election, Reorganization, Normal}
+use Rattle.model.specs.declared.Activity.{Activity}
+use Rattle.model.specs.declared.Activity.the-variants.{Idle, Asking, Waiting, Inviting, Collecting, Handing, Contacting, Forwarding, Accepting}
+use Rattle.model.specs.declared.Node.{Node}
+use Rattle.model.specs.declared.Message.{Message}
+use Rattle.model.specs.declared.Table.{Table}
+use Rattle.table_bytes.specs.Bytes.{number, bytes, many, all, partsOf, activityOf, statusOf, nodeOf, messageOf, decoded, yesNumber, partsBytes, nodeBytes, messageBytes, encoded, written, NodeFits, MessageFits, Each, Fits}
+use Rattle.table_bytes.proofs.Numbers.{read, number-at, length-bytes, written-over}
+use Rattle.table_bytes.proofs.Records.{Sized, node-long, message-long, nodes-end, messages-end}
+
+-- ── records of one size ──
+module _ {A : Type 0} (f : List ℕ → A) (g : A → List ℕ) (size : ℕ) (long : (x : A) → length (g x) ≡ size) (P : A → Type 0) (back : (x : A) → P x → (l : List ℕ) → f (g x ++ l) ≡ x) where
+  many-all : (xs : List A) → Each P xs → (l : List ℕ) → many f size (length xs) (all g xs ++ l) ≡ xs
+  unfolding many all Each
+  many-all [] h l = refl
+  many-all (x ∷ xs) h l =
+      rw (append-assoc (g x) (all g xs) l, back x (h .0), drop-at (g x) (all g xs ++ l) size (long x), many-all xs (h .1) l)
+
+  many-back : (k : ℕ) (xs : List A) → length xs ≡ k → Each P xs → (l : List ℕ) → many f size k (all g xs ++ l) ≡ xs
+  many-back k xs e h l = rw (← e) (many-all xs h l)
+
+-- ── the records ──
+status-back : (s : Status) → statusOf (statusNumber s) ≡ s
+unfolding statusOf pick
+status-back Down = refl
+status-back Election = refl
+status-back Reorganization = refl
+status-back Normal = refl
+
+activity-back : (a : Activity) → activityOf (partsOf a) ≡ a
+unfolding activityOf pick
+activity-back Idle = refl
+activity-back (Asking asked found) = refl
+activity-back (Waiting ticks found) = refl
+activity-back (Inviting found former now) = refl
+activity-back Collecting = refl
+activity-back (Handing rest now) = refl
+activity-back Contacting = refl
+activity-back (Forwarding rest now caller call) = refl
+activity-back (Accepting caller call) = refl
+
+yes-small : (b : Bool) → yesNumber b < 256
+yes-small true = omega arith
+yes-small false = omega arith
+
+yes-back : (b : Bool) → eqb (yesNumber b % 2) 1 ≡ b
+yes-back true = refl
+yes-back false = refl
+
+status-small : (s : Status) → statusNumber s < 256
+status-small Down = omega arith
+status-small Election = omega arith
+status-small Reorganization = omega arith
+status-small Normal = omega arith
+
+node-back : (c : Node) → NodeFits c → (l : List ℕ) → nodeOf (nodeBytes c ++ l) ≡ c
+unfolding number bytes nodeOf partsBytes nodeBytes
+node-back c h l =
+    let p = partsOf (c .activity) in
+    let a = h .activity in
+    rw (read 1 (statusNumber (c .status)) (status-small (c .status)), read 4 (c .counter) (h .counter), read 4 (c .group .number) (h .group), read 1 (c .coordinator) (h .coordinator), read 2 (c .task .number) (h .task), read 2 (c .members) (h .members), read 4 (c .last .number) (h .last))
+    (rw (read 1 (p .tag) (a .tag), read 2 (p .set) (a .set), read 2 (p .former) (a .former), read 1 (p .node) (a .node), read 1 (p .caller) (a .caller), read 4 (p .call) (a .call), status-back, activity-back (c .activity)))
+
+message-back : (m : Message) → MessageFits m → (l : List ℕ) → messageOf (messageBytes m ++ l) ≡ m
+unfolding number bytes messageOf messageBytes
+message-back m h l =
+    rw (read 1 (m .sender) (h .sender), read 1 (m .receiver) (h .receiver), read 1 (m .kind) (h .kind), read 4 (m .call .number) (h .call), read 4 (m .group .number) (h .group), read 2 (m .task .number) (h .task), read 1 (yesNumber (m .yes)) (yes-small (m .yes)), yes-back)
+
+-- ── the table ──
+one-back : (x : ℕ) → x < 256 → (l : List ℕ) → number 1 (bytes 1 x ++ l) 0 ≡ x
+unfolding number bytes
+one-back x h l = read 1 x h
+
+table-is : {n m w v : ℕ} {xs ys : List Node} {qs rs : List Message} → n ≡ m → xs ≡ ys → qs ≡ rs → w ≡ v → _≡_ {A = Table} (record { n = n; nodes = xs; messages = qs; waiting = w }) (record { n = m; nodes = ys; messages = rs; waiting = v })
+table-is a b c d = cc
+
+sized-of : (t : Table) → Fits t → Sized t
+sized-of t h = record { nodes = h .nodes .0; messages = h .messages .0 }
+
+module _ (t : Table) (h : Fits t) (l : List ℕ) where
+  n-back : number 1 (encoded t ++ l) 0 ≡ t .n
+  unfolding number bytes encoded
+  n-back = read 1 (t .n) (h .n)
+
+  nodes-back : many nodeOf 29 16 (drop 1 (encoded t ++ l)) ≡ t .nodes
+  unfolding encoded bytes
+  nodes-back = rw (append-assoc, append-assoc) (many-back nodeOf nodeBytes 29 node-long NodeFits node-back 16 (t .nodes) (h .nodes .0) (h .nodes .1) _)
+
+  messages-back : many messageOf 14 64 (drop 465 (encoded t ++ l)) ≡ t .messages
+  unfolding encoded
+  messages-back =
+      rw (append-assoc, append-assoc, drop-at (bytes 1 (t .n) ++ all nodeBytes (t .nodes)) _ 465 (nodes-end t (sized-of t h)))
+      (many-back messageOf messageBytes 14 message-long MessageFits message-back 64 (t .messages) (h .messages .0) (h .messages .1) _)
+
+  waiting-back : number 1 (encoded t ++ l) 1361 ≡ t .waiting
+  unfolding encoded
+  waiting-back =
+      rw (append-assoc, number-at 1 (bytes 1 (t .n) ++ all nodeBytes (t .nodes) ++ all messageBytes (t .messages)) _ 1361 (messages-end t (sized-of t h)))
+      (one-back (t .waiting) (h .waiting) l)
+
+  -- also where more bytes come after them
+  pub decode-more : decoded (encoded t ++ l) ≡ t
+  unfolding decoded
+  decode-more = table-is n-back nodes-back messages-back waiting-back
+
+pub decode-encode : (t : Table) → Fits t → decoded (encoded t) ≡ t
+decode-encode t h = rw (← append-nil (encoded t)) (decode-more t h [])
+
+pub encoded-long : (t : Table) → Fits t → length (encoded t) ≡ 1362
+unfolding encoded
+encoded-long t h = rw (length-append, messages-end t (sized-of t h), length-bytes)
+
+-- what `encode` leaves in a buffer with room, `decode` reads back
+pub round-trip : (t : Table) → Fits t → (out : List ℕ) → 1362 ≤ length out → decoded (written out 0 (encoded t)) ≡ t
+round-trip t h out room = rw (written-over out (encoded t) (rw (encoded-long t h) room)) (decode-more t h _)
