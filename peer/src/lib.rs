@@ -2,8 +2,17 @@
 //! papers alone, so that other implementations can be compared with it. Document 01's cabinet is
 //! called node here, and its book history.
 
+pub mod compare;
+pub mod corners;
+pub mod damage;
+pub mod drive;
+pub mod fuzzing;
 pub mod history;
 pub mod list;
 pub mod machine;
+pub mod numbers;
 pub mod print;
+pub mod proved;
+pub mod shortest;
+pub mod tables;
 pub mod vectors;

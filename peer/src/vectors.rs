@@ -16,15 +16,15 @@ pub struct StepCase {
     pub after: Table,
 }
 
-/// A list and the text that the bench program prints for it.
+/// A list and the text that the bench program prints for it, if that is there.
 #[derive(Clone, Debug)]
 pub struct ListCase {
     pub name: String,
     pub list: Vec<u8>,
-    pub text: Vec<u8>,
+    pub text: Option<Vec<u8>>,
 }
 
-/// Reads every pair NAME.list, NAME.txt of a directory, in the order of the names.
+/// Reads every NAME.list of a directory, and its NAME.txt if there is one, in the order of the names.
 pub fn read_lists(directory: &Path) -> Result<Vec<ListCase>, String> {
     let fault = |path: &Path, e: std::io::Error| format!("{}: {e}", path.display());
     let mut cases = Vec::new();
@@ -35,7 +35,11 @@ pub fn read_lists(directory: &Path) -> Result<Vec<ListCase>, String> {
             cases.push(ListCase {
                 name: path.file_stem().unwrap_or_default().to_string_lossy().into_owned(),
                 list: std::fs::read(&path).map_err(|e| fault(&path, e))?,
-                text: std::fs::read(&text).map_err(|e| fault(&text, e))?,
+                text: if text.exists() {
+                    Some(std::fs::read(&text).map_err(|e| fault(&text, e))?)
+                } else {
+                    None
+                },
             });
         }
     }

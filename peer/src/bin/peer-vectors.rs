@@ -44,11 +44,14 @@ fn run(lists: &Path, steps: &Path) -> Result<(usize, usize), String> {
 
 fn list_difference(case: &ListCase) -> Option<String> {
     let printed = run_list(&case.list);
-    if printed != case.text {
+    let Some(text) = &case.text else {
+        return Some(format!("list {}: no text beside it", case.name));
+    };
+    if printed != *text {
         return Some(format!(
             "list {}: expected\n{}printed\n{}",
             case.name,
-            String::from_utf8_lossy(&case.text),
+            String::from_utf8_lossy(text),
             String::from_utf8_lossy(&printed)
         ));
     }

@@ -1,0 +1,277 @@
+//! Compares a library with this program's machine: on runs, on lists of any bytes, and on events from
+//! any table. A difference is shortened and told in words.
+
+use crate::corners::{Before, Corners, Source};
+use crate::history::Checker;
+use crate::list::{read_list, write_event, write_list};
+use crate::machine::{step, Event, Node, Table, MAX_NODES};
+use crate::print::run_list;
+use crate::proved::{
+    fitting, fold, same_table, table_from_bytes, table_to_bytes, Library, TABLE_BYTES,
+};
+use crate::shortest::shortest;
+use crate::vectors::table_text;
+use std::fmt::Write;
+
+/// What stands in a buffer before a text is printed into it.
+const UNTOUCHED: u8 = 0xa5;
+/// How many bytes behind a text are looked at.
+const BEHIND: usize = 64;
+
+/// Where in a run a difference showed, and what it is.
+#[derive(Clone, Debug)]
+pub struct Difference {
+    /// The events up to it.
+    pub events: usize,
+    pub words: String,
+}
+
+/// Runs the events from the starting table of n through the library's step, each on the table that it
+/// gave before, and compares answer and table with this program's. Demand 3 and the range are checked
+/// on each of the library's tables. The events are counted in the corners.
+pub fn run_difference(
+    library: &impl Library,
+    n: u8,
+    events: &[Event],
+    mut corners: Option<&mut Corners>,
+) -> Option<Difference> {
+    let mut checker = Checker::new(n);
+    let mut bytes = [0; TABLE_BYTES];
+    table_to_bytes(&Table::start(n), &mut bytes);
+    let (mut out, mut expected) = ([0; TABLE_BYTES], [0; TABLE_BYTES]);
+    let mut field = Vec::with_capacity(8);
+    for (k, event) in events.iter().enumerate() {
+        let fault = |words: String| Some(Difference { events: k + 1, words });
+        field.clear();
+        write_event(&mut field, event);
+        let answer = library.step(&bytes, &field, &mut out);
+        let before = Before::of(checker.history().table(), event);
+        let table = table_from_bytes(&out);
+        let entry = match checker.check(event, &table) {
+            Ok(entry) => entry,
+            Err(words) => return fault(format!("{} {words}", at(k, event))),
+        };
+        let own = checker.history().table();
+        if answer != entry.answer.err().unwrap_or(0) {
+            let own = answer_words(entry.answer.err().unwrap_or(0));
+            return fault(format!("{} {}, {own} here", at(k, event), answer_words(answer)));
+        }
+        table_to_bytes(own, &mut expected);
+        if !same_table(&out, &expected) {
+            let words = two_tables(&table, own);
+            return fault(format!("{} another table\n{words}", at(k, event)));
+        }
+        if let Some(corners) = &mut corners {
+            corners.event(Source::Run, &before, event, entry.answer, own);
+        }
+        std::mem::swap(&mut bytes, &mut out);
+    }
+    None
+}
+
+fn at(k: usize, event: &Event) -> String {
+    format!("event {}, {}:", k + 1, event_words(event))
+}
+
+fn answer_words(answer: u8) -> String {
+    match answer {
+        0 => "accepted".to_string(),
+        r => format!("refused {r}"),
+    }
+}
+
+fn two_tables(library: &Table, own: &Table) -> String {
+    format!(
+        "library's, n {}:\n{}here, n {}:\n{}",
+        library.n,
+        table_text(library),
+        own.n,
+        table_text(own)
+    )
+}
+
+/// Prints and folds a list in both, and compares.
+pub fn list_difference(library: &impl Library, list: &[u8]) -> Option<String> {
+    let text = run_list(list);
+    printed_difference(library, list, &text, text.len() + BEHIND)
+        .or_else(|| fold_difference(library, list))
+}
+
+/// Prints a list into a buffer of so many bytes and compares with the text: all of it, or refusal 15
+/// and its lines up to the first that does not fit. All else in the buffer must be as it was.
+pub fn printed_difference(
+    library: &impl Library,
+    list: &[u8],
+    text: &[u8],
+    room: usize,
+) -> Option<String> {
+    let mut out = vec![UNTOUCHED; room];
+    let length = library.print(list, &mut out);
+    let written = fitting(text, room);
+    let expected = (written == text.len()).then_some(written);
+    if length != expected {
+        return Some(format!(
+            "into {room} bytes: printed length {length:?}, here {expected:?}\n{}",
+            two_texts(&out[..length.unwrap_or(0).min(room)], text)
+        ));
+    }
+    if out[..written] != text[..written] {
+        return Some(format!("another text\n{}", two_texts(&out[..written], &text[..written])));
+    }
+    if out[written..].iter().any(|&byte| byte != UNTOUCHED) {
+        return Some(format!("into {room} bytes: a byte behind the {written} printed has changed"));
+    }
+    None
+}
+
+fn two_texts(library: &[u8], own: &[u8]) -> String {
+    format!(
+        "library's:\n{}here:\n{}",
+        String::from_utf8_lossy(library),
+        String::from_utf8_lossy(own)
+    )
+}
+
+fn fold_difference(library: &impl Library, list: &[u8]) -> Option<String> {
+    let (accepted, own) = (library.fold(list), fold(list));
+    (accepted != own).then(|| format!("folded: {accepted} accepted, here {own}"))
+}
+
+/// Events from any table, which may be out of range, through the library's step, each on the table
+/// that it gave before. The filler stands in the places that are no part of the first table.
+pub fn walk_difference(
+    library: &impl Library,
+    start: &Table,
+    events: &[Event],
+    filler: u8,
+    mut corners: Option<&mut Corners>,
+) -> Option<Difference> {
+    let mut own = start.clone();
+    let mut bytes = [0; TABLE_BYTES];
+    table_to_bytes(start, &mut bytes);
+    crate::proved::fill_unused(&mut bytes, || filler);
+    let (mut out, mut expected) = ([0; TABLE_BYTES], [0; TABLE_BYTES]);
+    let mut field = Vec::with_capacity(8);
+    for (k, event) in events.iter().enumerate() {
+        field.clear();
+        write_event(&mut field, event);
+        let answer = library.step(&bytes, &field, &mut out);
+        let before = Before::of(&own, event);
+        let expected_answer = step(&mut own, event);
+        let number = expected_answer.err().unwrap_or(0);
+        table_to_bytes(&own, &mut expected);
+        if answer != number || !same_table(&out, &expected) {
+            let words = format!(
+                "{} {}, {} here\n{}",
+                at(k, event),
+                answer_words(answer),
+                answer_words(number),
+                two_tables(&table_from_bytes(&out), &own)
+            );
+            return Some(Difference { events: k + 1, words });
+        }
+        if let Some(corners) = &mut corners {
+            corners.event(Source::Table, &before, event, expected_answer, &own);
+        }
+        std::mem::swap(&mut bytes, &mut out);
+    }
+    None
+}
+
+/// The shortest run found that still shows a difference, by its step, its text or its count.
+pub fn shortest_run(library: &impl Library, n: u8, events: &[Event]) -> (u8, Vec<Event>) {
+    let differs = |n: u8, events: &[Event]| {
+        run_difference(library, n, events, None).is_some()
+            || list_difference(library, &write_list(n, events)).is_some()
+    };
+    let mut events = events.to_vec();
+    if let Some(found) = run_difference(library, n, &events, None) {
+        events.truncate(found.events);
+    }
+    let n = (1..n).find(|&fewer| differs(fewer, &events)).unwrap_or(n);
+    let events = shortest(events, |events| differs(n, events));
+    let n = (1..n).find(|&fewer| differs(fewer, &events)).unwrap_or(n);
+    (n, events)
+}
+
+/// A run's difference, shortened, in words.
+pub fn tell_run(library: &impl Library, n: u8, events: &[Event]) -> String {
+    let (n, events) = shortest_run(library, n, events);
+    let list = write_list(n, &events);
+    let words = match run_difference(library, n, &events, None) {
+        Some(found) => found.words,
+        None => list_difference(library, &list).unwrap_or_default(),
+    };
+    format!("{}{words}\n", list_words(&list))
+}
+
+/// The shortest list of bytes found of which `difference` still has something to say, with that.
+pub fn tell_list(list: &[u8], difference: impl Fn(&[u8]) -> Option<String>) -> String {
+    let list = shortest(list.to_vec(), |list| difference(list).is_some());
+    format!("{}{}\n", list_words(&list), difference(&list).unwrap_or_default())
+}
+
+/// A list in words: its bytes, and its events.
+pub fn list_words(list: &[u8]) -> String {
+    let mut words = format!("a list of {} bytes:", list.len());
+    for byte in list.iter().take(4000) {
+        write!(words, " {byte:02x}").expect("a String takes it");
+    }
+    words.push('\n');
+    match read_list(list) {
+        Err(stop) => writeln!(words, "  stopped {} {}", stop.offset, stop.number),
+        Ok(list) => {
+            writeln!(words, "  n {}, {} events", list.n, list.events.len())
+                .expect("a String takes it");
+            for event in list.events.iter().take(1000) {
+                writeln!(words, "  {}", event_words(event)).expect("a String takes it");
+            }
+            match list.stop {
+                None => Ok(()),
+                Some(stop) => writeln!(words, "  stopped {} {}", stop.offset, stop.number),
+            }
+        }
+    }
+    .expect("a String takes it");
+    words
+}
+
+/// An event in the words of steps.txt.
+pub fn event_words(event: &Event) -> String {
+    match *event {
+        Event::Crash(i) => format!("crash {i}"),
+        Event::Recover(i) => format!("recover {i}"),
+        Event::Check(i) => format!("check {i}"),
+        Event::Timeout(i) => format!("timeout {i}"),
+        Event::Tick(i) => format!("tick {i}"),
+        Event::Expire(i) => format!("expire {i}"),
+        Event::Finish(i, task) => format!("finish {i} {task}"),
+        Event::Deliver(a, b) => format!("deliver {a} {b}"),
+        Event::Lose(a, b) => format!("lose {a} {b}"),
+    }
+}
+
+/// A walk's difference in words: the events shortened, and the table with fewer messages and nodes.
+pub fn tell_walk(library: &impl Library, start: &Table, events: &[Event], filler: u8) -> String {
+    let found =
+        |start: &Table, events: &[Event]| walk_difference(library, start, events, filler, None);
+    let events = shortest(events.to_vec(), |events| found(start, events).is_some());
+    let mut start = start.clone();
+    start.messages = shortest(start.messages.clone(), |messages| {
+        let fewer = Table { messages: messages.to_vec(), ..start.clone() };
+        found(&fewer, &events).is_some()
+    });
+    for k in 0..usize::from(start.n.min(MAX_NODES)) {
+        let mut plain = start.clone();
+        plain.nodes[k] = Node::START;
+        if found(&plain, &events).is_some() {
+            start = plain;
+        }
+    }
+    let mut words = format!("a table, n {}:\n{}", start.n, table_text(&start));
+    for event in &events {
+        writeln!(words, "event {}", event_words(event)).expect("a String takes it");
+    }
+    let difference = found(&start, &events).map(|found| found.words).unwrap_or_default();
+    format!("{words}{difference}\n")
+}

@@ -1,0 +1,345 @@
+//! Counts what the compared events met: refusals, kinds delivered, activities and transitions, so
+//! that a corner that was never met shows. What document 01 makes possible is written out here.
+
+use crate::machine::{Activity, Body, Event, Message, Node, Table};
+use crate::proved::tag;
+use std::fmt::Write;
+
+/// Where an event came from: a run from the starting table, or a table made up.
+#[derive(Clone, Copy, Debug, PartialEq, Eq)]
+pub enum Source {
+    Run = 0,
+    Table = 1,
+}
+
+pub const EVENTS: [&str; 9] =
+    ["crash", "recover", "check", "timeout", "tick", "expire", "finish", "deliver", "lose"];
+
+pub const ACTIVITIES: [&str; 9] = [
+    "idle",
+    "asking",
+    "waiting",
+    "inviting",
+    "collecting",
+    "handing",
+    "contacting",
+    "forwarding",
+    "accepting",
+];
+
+const KINDS: [&str; 6] =
+    ["AreYouCoordinator", "AreYouThere", "Invitation", "Accept", "Ready", "reply"];
+
+/// What an accepted event did, finer than its name.
+const DEEDS: [&str; 21] = [
+    "crash",
+    "recover",
+    "check",
+    "timeout",
+    "tick",
+    "expire",
+    "finish",
+    "lose",
+    "deliver 1, yes",
+    "deliver 1, no",
+    "deliver 2, yes",
+    "deliver 2, no",
+    "deliver 3, no change",
+    "deliver 3, new group",
+    "deliver 4, joins",
+    "deliver 4, no change",
+    "deliver 5, task taken",
+    "deliver 5, no change",
+    "deliver 6, yes",
+    "deliver 6, no",
+    "deliver 6, dropped",
+];
+
+const IDLE: usize = 0;
+const ASKING: usize = 1;
+const WAITING: usize = 2;
+const INVITING: usize = 3;
+const COLLECTING: usize = 4;
+const HANDING: usize = 5;
+const CONTACTING: usize = 6;
+const FORWARDING: usize = 7;
+const ACCEPTING: usize = 8;
+
+/// The activities that document 01 lets follow in each deed on each activity.
+fn possible(deed: usize, before: usize) -> &'static [usize] {
+    const SAME: [[usize; 1]; 9] = [[0], [1], [2], [3], [4], [5], [6], [7], [8]];
+    // "a forwarding or accepting cabinet isn't that owner", which here is its own coordinator
+    let own_coordinator = !matches!(before, FORWARDING | ACCEPTING);
+    match DEEDS[deed] {
+        "crash" => &[IDLE],
+        "recover" if before == IDLE => &[IDLE],
+        "check" if before == IDLE => &[IDLE, ASKING],
+        "timeout" if before == IDLE => &[IDLE, CONTACTING],
+        // With none found and no members, which no run has, nobody is invited.
+        "tick" if before == WAITING => &[WAITING, INVITING, COLLECTING],
+        "finish" if before == COLLECTING => &[HANDING, IDLE],
+        "expire" | "deliver 6, no" | "deliver 6, yes" => match before {
+            ASKING if DEEDS[deed] == "deliver 6, yes" => &[ASKING, WAITING, INVITING],
+            ASKING => &[ASKING, IDLE, WAITING, INVITING],
+            INVITING => &[INVITING, COLLECTING],
+            HANDING if DEEDS[deed] == "expire" => &[IDLE],
+            HANDING => &[HANDING, IDLE],
+            FORWARDING => &[FORWARDING, ACCEPTING],
+            CONTACTING | ACCEPTING => &[IDLE],
+            _ => &[],
+        },
+        "deliver 3, new group" if own_coordinator => &[FORWARDING, ACCEPTING],
+        "deliver 3, new group" => &[ACCEPTING],
+        "deliver 1, yes" | "deliver 2, yes" | "deliver 4, joins" if own_coordinator => {
+            &SAME[before]
+        }
+        "lose"
+        | "deliver 1, no"
+        | "deliver 2, no"
+        | "deliver 3, no change"
+        | "deliver 4, no change"
+        | "deliver 5, task taken"
+        | "deliver 5, no change"
+        | "deliver 6, dropped" => &SAME[before],
+        _ => &[],
+    }
+}
+
+/// The refusals that an event on a table can meet.
+fn refusable(event: usize, number: usize) -> bool {
+    let name = EVENTS[event];
+    match number {
+        1 | 7 => true,
+        8 => name == "finish",
+        9 => name != "lose",
+        10 => matches!(name, "check" | "timeout" | "tick" | "expire" | "finish"),
+        11 => matches!(name, "deliver" | "lose"),
+        12 => matches!(name, "recover" | "tick" | "expire" | "deliver"),
+        13 => matches!(name, "check" | "timeout" | "tick" | "expire" | "finish" | "deliver"),
+        // A delivered message is already out, so a delivery never meets it.
+        14 => matches!(name, "check" | "timeout" | "tick" | "expire" | "finish"),
+        _ => false,
+    }
+}
+
+/// What is remembered of a table for the count of the event that follows.
+pub struct Before {
+    node: Option<Node>,
+    message: Option<Message>,
+}
+
+impl Before {
+    pub fn of(table: &Table, event: &Event) -> Before {
+        let (event, i) = (*event, acting(event));
+        let message = match event {
+            Event::Deliver(a, b) => {
+                table.messages.iter().find(|m| m.sender == a && m.receiver == b).copied()
+            }
+            _ => None,
+        };
+        Before { node: (1..=table.n.min(16)).contains(&i).then(|| *table.node(i)), message }
+    }
+}
+
+/// The node whose turn it is; for deliver and lose this is the receiver.
+fn acting(event: &Event) -> u8 {
+    match *event {
+        Event::Crash(i)
+        | Event::Recover(i)
+        | Event::Check(i)
+        | Event::Timeout(i)
+        | Event::Tick(i)
+        | Event::Expire(i)
+        | Event::Finish(i, _)
+        | Event::Deliver(_, i)
+        | Event::Lose(_, i) => i,
+    }
+}
+
+fn event_place(event: &Event) -> usize {
+    match event {
+        Event::Crash(_) => 0,
+        Event::Recover(_) => 1,
+        Event::Check(_) => 2,
+        Event::Timeout(_) => 3,
+        Event::Tick(_) => 4,
+        Event::Expire(_) => 5,
+        Event::Finish(..) => 6,
+        Event::Deliver(..) => 7,
+        Event::Lose(..) => 8,
+    }
+}
+
+type Count = [u64; 2];
+
+/// The counts, each for runs and for tables.
+#[derive(Clone, Debug)]
+pub struct Corners {
+    /// Refusals of events, by event and number.
+    refused: [[Count; 16]; 9],
+    /// Refusals that are not an event's: those of lists, and 15.
+    other_refusals: [u64; 16],
+    kinds: [Count; 6],
+    activities: [Count; 9],
+    transitions: Box<[[[Count; 9]; 9]; 21]>,
+}
+
+impl Default for Corners {
+    fn default() -> Corners {
+        Corners {
+            refused: [[[0; 2]; 16]; 9],
+            other_refusals: [0; 16],
+            kinds: [[0; 2]; 6],
+            activities: [[0; 2]; 9],
+            transitions: Box::new([[[[0; 2]; 9]; 9]; 21]),
+        }
+    }
+}
+
+impl Corners {
+    /// Counts an event with what followed.
+    pub fn event(
+        &mut self,
+        source: Source,
+        before: &Before,
+        event: &Event,
+        answer: Result<(), u8>,
+        after: &Table,
+    ) {
+        let source = source as usize;
+        let place = event_place(event);
+        if let Err(number) = answer {
+            self.refused[place][usize::from(number.min(15))][source] += 1;
+            return;
+        }
+        let Some(node) = &before.node else {
+            return;
+        };
+        let i = acting(event);
+        let now = after.node(i);
+        let deed = match (place, before.message) {
+            (0..=6, _) => place,
+            (7, Some(message)) => {
+                self.kinds[usize::from(message.body.kind().clamp(1, 6)) - 1][source] += 1;
+                delivered(&message, node, now, after)
+            }
+            _ => 7,
+        };
+        let (from, to) = (activity_place(&node.activity), activity_place(&now.activity));
+        self.activities[from][source] += 1;
+        self.transitions[deed][from][to][source] += 1;
+    }
+
+    /// Counts a refusal of a list or of a line.
+    pub fn refusal(&mut self, number: u8) {
+        self.other_refusals[usize::from(number.min(15))] += 1;
+    }
+
+    /// Every corner that document 01 makes possible, with its counts.
+    fn corners(&self) -> Vec<(String, Count)> {
+        let mut corners = Vec::new();
+        for number in 1..=15 {
+            let mut count = [self.other_refusals[number], 0];
+            for event in &self.refused {
+                count = [count[0] + event[number][0], count[1] + event[number][1]];
+            }
+            corners.push((format!("refusal {number}"), count));
+        }
+        for (name, count) in KINDS.iter().zip(self.kinds) {
+            corners.push((format!("delivered {name}"), count));
+        }
+        for (name, count) in ACTIVITIES.iter().zip(self.activities) {
+            corners.push((format!("activity {name}"), count));
+        }
+        for (event, name) in EVENTS.iter().enumerate() {
+            for number in (1..=15).filter(|&number| refusable(event, number)) {
+                corners.push((format!("{name} refused {number}"), self.refused[event][number]));
+            }
+        }
+        for (deed, name) in DEEDS.iter().enumerate() {
+            for before in 0..9 {
+                for &after in possible(deed, before) {
+                    corners.push((
+                        format!("{name}: {} -> {}", ACTIVITIES[before], ACTIVITIES[after]),
+                        self.transitions[deed][before][after],
+                    ));
+                }
+            }
+        }
+        corners
+    }
+
+    /// What was met though document 01 has no place for it.
+    pub fn impossible(&self) -> Vec<String> {
+        let mut found = Vec::new();
+        let met = |count: Count| count != [0, 0];
+        for (event, name) in EVENTS.iter().enumerate() {
+            for number in 0..16 {
+                if !refusable(event, number) && met(self.refused[event][number]) {
+                    found.push(format!("{name} refused {number}"));
+                }
+            }
+        }
+        for (deed, name) in DEEDS.iter().enumerate() {
+            for before in 0..9 {
+                for after in 0..9 {
+                    if !possible(deed, before).contains(&after)
+                        && met(self.transitions[deed][before][after])
+                    {
+                        found.push(format!(
+                            "{name}: {} -> {}",
+                            ACTIVITIES[before], ACTIVITIES[after]
+                        ));
+                    }
+                }
+            }
+        }
+        found
+    }
+
+    /// The counts in lines: in runs and lists, in tables, and the corner. Last how many corners
+    /// there are, how many were met, and the least met of them.
+    pub fn text(&self) -> String {
+        let corners = self.corners();
+        let mut text = String::from("   in runs  in tables  corner\n");
+        for (name, [runs, tables]) in &corners {
+            let empty = if runs + tables == 0 { "  (not met)" } else { "" };
+            writeln!(text, "{runs:>10} {tables:>10}  {name}{empty}").expect("a String takes it");
+        }
+        let sum = |(_, [runs, tables]): &(String, Count)| runs + tables;
+        let met = corners.iter().filter(|corner| sum(corner) > 0).count();
+        let thousand = corners.iter().filter(|corner| sum(corner) >= 1000).count();
+        writeln!(
+            text,
+            "{} corners, {met} met, {thousand} met a thousand times or more",
+            corners.len()
+        )
+        .expect("a String takes it");
+        if let Some(least) = corners.iter().min_by_key(|corner| sum(corner)) {
+            writeln!(text, "least met: {}, {} times", least.0, sum(least))
+                .expect("a String takes it");
+        }
+        text
+    }
+}
+
+fn activity_place(activity: &Activity) -> usize {
+    usize::from(tag(activity))
+}
+
+/// The deed of a delivery, from the receiver before and after it.
+fn delivered(message: &Message, before: &Node, now: &Node, after: &Table) -> usize {
+    let says_yes =
+        after.messages.last().is_some_and(|reply| matches!(reply.body, Body::Reply { yes: true }));
+    let either = |first: bool, deed: usize| if first { deed } else { deed + 1 };
+    match message.body {
+        Body::AreYouCoordinator => either(says_yes, 8),
+        Body::AreYouThere { .. } => either(says_yes, 10),
+        Body::Invitation { .. } => either(now.status == before.status, 12),
+        Body::Accept { .. } => either(now.members != before.members, 14),
+        Body::Ready { .. } => either(now.status != before.status, 16),
+        Body::Reply { .. } if before.open_call() != Some(message.call) => 20,
+        Body::Reply { yes } => either(yes, 18),
+        Body::Unknown { .. } => 20,
+    }
+}

@@ -1,0 +1,230 @@
+//! Picks the events of random runs, with an eye on the table, so that the protocol gets on and its
+//! corners are met.
+
+use crate::list::MAX_LIST;
+use crate::machine::{advance, Activity, Event, Set, Status, Table, MAX_MESSAGES, MIN_TASK};
+use crate::numbers::Numbers;
+
+/// How often each thing is tried, when it can be done.
+#[derive(Clone, Copy, Debug)]
+pub struct Manner {
+    /// In the order of `Thing`.
+    weights: [u32; 10],
+    /// Messages are delivered and lost only when nearly 64 wait.
+    full: bool,
+}
+
+/// What can be tried. The last is any event at all, with any numbers.
+#[derive(Clone, Copy)]
+enum Thing {
+    Deliver,
+    Lose,
+    Crash,
+    Recover,
+    Check,
+    Timeout,
+    Tick,
+    Expire,
+    Finish,
+    Any,
+}
+
+const THINGS: [Thing; 10] = [
+    Thing::Deliver,
+    Thing::Lose,
+    Thing::Crash,
+    Thing::Recover,
+    Thing::Check,
+    Thing::Timeout,
+    Thing::Tick,
+    Thing::Expire,
+    Thing::Finish,
+    Thing::Any,
+];
+
+/// Messages arrive, few nodes crash.
+pub const QUIET: Manner = Manner { weights: [100, 1, 1, 20, 4, 2, 20, 1, 10, 1], full: false };
+/// Many crashes, many messages lost.
+pub const ROUGH: Manner = Manner { weights: [60, 20, 8, 25, 12, 6, 20, 15, 12, 2], full: false };
+/// Many nodes check at once, so that mergers cross and invitations are forwarded.
+pub const CROSSING: Manner = Manner { weights: [80, 1, 1, 20, 25, 4, 30, 5, 12, 1], full: false };
+/// Calls are given up early, so that acceptances and replies come late.
+pub const LATE: Manner = Manner { weights: [30, 2, 3, 20, 15, 10, 25, 25, 20, 1], full: false };
+/// Nearly 64 messages wait.
+pub const FULL: Manner = Manner { weights: [40, 4, 3, 12, 20, 10, 15, 20, 12, 2], full: true };
+/// Nearly every event is refused.
+pub const REFUSED: Manner = Manner { weights: [2, 0, 1, 1, 1, 1, 1, 1, 1, 150], full: false };
+
+const MANNERS: [Manner; 6] = [QUIET, ROUGH, CROSSING, LATE, FULL, REFUSED];
+
+/// Any of the manners; the last seldom.
+pub fn any_manner(numbers: &mut Numbers) -> Manner {
+    MANNERS[numbers.weighted(&[4, 5, 6, 5, 5, 1]).unwrap_or(0)]
+}
+
+/// Which nodes each thing can be tried on.
+#[derive(Clone, Copy, Default)]
+struct Ready {
+    down: Set,
+    up: Set,
+    check: Set,
+    timeout: Set,
+    tick: Set,
+    expire: Set,
+    finish: Set,
+}
+
+impl Ready {
+    fn of(table: &Table) -> Ready {
+        let mut ready = Ready::default();
+        for i in 1..=table.n.min(16) {
+            let (node, bit) = (table.node(i), 1 << (i - 1));
+            if node.status == Status::Down {
+                ready.down |= bit;
+                continue;
+            }
+            ready.up |= bit;
+            match node.activity {
+                Activity::Idle if node.coordinator != i => ready.timeout |= bit,
+                Activity::Idle if node.status == Status::Normal => ready.check |= bit,
+                Activity::Waiting { .. } => ready.tick |= bit,
+                Activity::Collecting => ready.finish |= bit,
+                _ if node.open_call().is_some() => ready.expire |= bit,
+                _ => {}
+            }
+        }
+        ready
+    }
+}
+
+/// One node of a set, which must not be empty.
+fn member(set: Set, numbers: &mut Numbers) -> u8 {
+    let mut rest = set;
+    for _ in 0..numbers.below(set.count_ones()) {
+        rest &= rest - 1;
+    }
+    rest.trailing_zeros() as u8 + 1
+}
+
+/// An event for a table.
+pub fn pick(table: &Table, manner: &Manner, numbers: &mut Numbers) -> Event {
+    let ready = Ready::of(table);
+    let mut weights = manner.weights;
+    let waiting = table.messages.len();
+    if manner.full && waiting + 3 < MAX_MESSAGES {
+        (weights[0], weights[1]) = (8, 0);
+    }
+    let sets = [ready.up, ready.down, ready.check, ready.timeout, ready.tick, ready.expire];
+    if waiting == 0 {
+        (weights[0], weights[1]) = (0, 0);
+    }
+    for (weight, set) in weights[2..].iter_mut().zip(sets.into_iter().chain([ready.finish])) {
+        if set == 0 {
+            *weight = 0;
+        }
+    }
+    let thing = numbers.weighted(&weights).map_or(Thing::Any, |place| THINGS[place]);
+    match thing {
+        Thing::Deliver => {
+            let (mut a, mut b) = waiting_pair(table, numbers);
+            // Once more if the receiver is Down.
+            if b.wrapping_sub(1) < 16 && ready.down & 1 << (b - 1) != 0 {
+                (a, b) = waiting_pair(table, numbers);
+            }
+            Event::Deliver(a, b)
+        }
+        Thing::Lose => {
+            let (a, b) = waiting_pair(table, numbers);
+            Event::Lose(a, b)
+        }
+        Thing::Crash => Event::Crash(member(ready.up, numbers)),
+        Thing::Recover => Event::Recover(member(ready.down, numbers)),
+        Thing::Check => Event::Check(member(ready.check, numbers)),
+        Thing::Timeout => Event::Timeout(member(ready.timeout, numbers)),
+        Thing::Tick => Event::Tick(member(ready.tick, numbers)),
+        Thing::Expire => Event::Expire(member(ready.expire, numbers)),
+        Thing::Finish => Event::Finish(member(ready.finish, numbers), task(numbers)),
+        Thing::Any => any_event(table.n, numbers),
+    }
+}
+
+fn waiting_pair(table: &Table, numbers: &mut Numbers) -> (u8, u8) {
+    let m = &table.messages[numbers.place(table.messages.len())];
+    (m.sender, m.receiver)
+}
+
+fn task(numbers: &mut Numbers) -> u16 {
+    match numbers.below(8) {
+        0 => MIN_TASK,
+        1 => u16::MAX,
+        2 => numbers.between(u32::from(MIN_TASK), u32::from(u16::MAX)) as u16,
+        _ => MIN_TASK + numbers.below(5) as u16,
+    }
+}
+
+/// Any event, with numbers that are mostly in range.
+pub fn any_event(n: u8, numbers: &mut Numbers) -> Event {
+    let mut node = || match numbers.below(24) {
+        0 => 0,
+        1 => n.wrapping_add(1),
+        2 => numbers.byte(),
+        _ => numbers.below(u32::from(n.max(1))) as u8 + 1,
+    };
+    let (i, j) = (node(), node());
+    match numbers.below(10) {
+        0 => Event::Crash(i),
+        1 => Event::Recover(i),
+        2 => Event::Check(i),
+        3 => Event::Timeout(i),
+        4 => Event::Tick(i),
+        5 => Event::Expire(i),
+        6 => Event::Finish(i, task(numbers)),
+        7 => {
+            let low = numbers.below(u32::from(MIN_TASK)) as u16;
+            Event::Finish(i, numbers.of(&[0, 99, 100, 65_535, low]))
+        }
+        8 => Event::Deliver(i, j),
+        _ => Event::Lose(i, j),
+    }
+}
+
+/// A run of so many events from the starting table of n; its manner changes now and then.
+pub fn run(n: u8, length: usize, numbers: &mut Numbers) -> Vec<Event> {
+    let mut table = Table::start(n);
+    let mut manner = any_manner(numbers);
+    let mut events = Vec::with_capacity(length);
+    for _ in 0..length {
+        if numbers.one_in(300) {
+            manner = any_manner(numbers);
+        }
+        let event = pick(&table, &manner, numbers);
+        let _ = advance(&mut table, &event);
+        events.push(event);
+    }
+    events
+}
+
+/// A run in one manner whose list is as long as a list may be.
+pub fn full_run(n: u8, manner: &Manner, numbers: &mut Numbers) -> Vec<Event> {
+    let mut table = Table::start(n);
+    let mut events = Vec::new();
+    let mut bytes = 4;
+    loop {
+        let event = pick(&table, manner, numbers);
+        bytes += field_bytes(&event);
+        if bytes > MAX_LIST {
+            return events;
+        }
+        let _ = advance(&mut table, &event);
+        events.push(event);
+    }
+}
+
+/// The length of an event's field.
+pub fn field_bytes(event: &Event) -> usize {
+    match event {
+        Event::Finish(..) => 6,
+        Event::Deliver(..) | Event::Lose(..) => 5,
+        _ => 4,
+    }
+}

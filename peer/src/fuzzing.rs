@@ -1,0 +1,281 @@
+//! The fuzzer: compares a library with this program's machine on random runs, damaged lists and random
+//! tables, the same ones for the same seed, and counts what they met.
+
+use crate::compare::{
+    list_difference, printed_difference, run_difference, tell_list, tell_run, tell_walk,
+    walk_difference,
+};
+use crate::corners::Corners;
+use crate::damage::{damage, no_event};
+use crate::drive::{any_event, any_manner, pick, run};
+use crate::list::{read_list, write_list, MAX_LIST};
+use crate::machine::{step, Event, Table, MAX_NODES};
+use crate::numbers::Numbers;
+use crate::print::run_list;
+use crate::proved::{one_event, table_to_bytes, Library, NO_EVENT, TABLE_BYTES};
+use crate::tables::{in_range, move_to_ends, scramble, spoil};
+use std::time::{Duration, Instant};
+
+/// After so many differences it ends.
+const ENOUGH: u64 = 5;
+
+pub struct Fuzz<L> {
+    library: L,
+    numbers: Numbers,
+    corners: Corners,
+    runs: u64,
+    run_events: u64,
+    lists: u64,
+    list_events: u64,
+    tables: u64,
+    table_events: u64,
+    fields: u64,
+    failed: u64,
+    seconds: f64,
+}
+
+impl<L: Library> Fuzz<L> {
+    pub fn new(library: L, seed: u64) -> Fuzz<L> {
+        Fuzz {
+            library,
+            numbers: Numbers::new(seed),
+            corners: Corners::default(),
+            runs: 0,
+            run_events: 0,
+            lists: 0,
+            list_events: 0,
+            tables: 0,
+            table_events: 0,
+            fields: 0,
+            failed: 0,
+            seconds: 0.0,
+        }
+    }
+
+    /// Compares for so long, or until there are enough differences, which it prints.
+    pub fn go_on(&mut self, time: Duration) {
+        let start = Instant::now();
+        let mut told = 0;
+        while start.elapsed() < time && self.failed < ENOUGH {
+            self.run();
+            for _ in 0..150 {
+                self.table();
+            }
+            for _ in 0..4 {
+                self.field();
+            }
+            let seconds = start.elapsed().as_secs();
+            if seconds / 30 > told {
+                told = seconds / 30;
+                let events = self.run_events + self.list_events + self.table_events;
+                eprintln!("{seconds} s, {events} events, {} differences", self.failed);
+            }
+        }
+        self.seconds = start.elapsed().as_secs_f64();
+    }
+
+    /// Prints the counts and gives how many comparisons failed.
+    pub fn tell(&mut self) -> u64 {
+        print!("{}", self.corners.text());
+        for words in self.corners.impossible() {
+            self.failed += 1;
+            println!("document 01 has no place for this: {words}");
+        }
+        let events = self.run_events + self.list_events + self.table_events;
+        println!("runs: {}, {} events", self.runs, self.run_events);
+        println!("lists printed and folded: {}, {} events", self.lists, self.list_events);
+        println!("tables: {}, {} events; fields: {}", self.tables, self.table_events, self.fields);
+        println!(
+            "{events} events in {:.1} s, {:.0} a second",
+            self.seconds,
+            events as f64 / self.seconds
+        );
+        let passed = self.run_events + self.lists + self.table_events + self.fields;
+        println!("{passed} passed, {} failed", self.failed);
+        self.failed
+    }
+
+    fn difference(&mut self, words: String) {
+        self.failed += 1;
+        println!("difference {}: {words}", self.failed);
+    }
+
+    /// A run, event by event; its list, printed; and lists that damage makes of it.
+    fn run(&mut self) {
+        let n = match self.numbers.below(8) {
+            0 => 2,
+            1 => 3,
+            2 => 5,
+            3 => MAX_NODES,
+            _ => self.numbers.between(1, u32::from(MAX_NODES)) as u8,
+        };
+        let length = match self.numbers.below(64) {
+            0 => 13_000,
+            1..=8 => 2000,
+            9..=32 => 500,
+            _ => self.numbers.between(1, 200) as usize,
+        };
+        let events = run(n, length, &mut self.numbers);
+        self.runs += 1;
+        self.run_events += events.len() as u64;
+        if run_difference(&self.library, n, &events, Some(&mut self.corners)).is_some() {
+            let words = tell_run(&self.library, n, &events);
+            return self.difference(words);
+        }
+        let mut list = write_list(n, &events);
+        self.list(&list);
+        let kept = list.len().min(self.numbers.between(4, 2000) as usize);
+        list.truncate(kept);
+        for _ in 0..4 {
+            let mut damaged = list.clone();
+            damage(&mut damaged, &mut self.numbers);
+            self.list(&damaged);
+        }
+        self.small_buffers(&list);
+        self.first_fields(&list);
+        if self.numbers.one_in(4) {
+            self.long_list(&list);
+        }
+    }
+
+    /// A list of any bytes, printed and folded.
+    fn list(&mut self, list: &[u8]) {
+        self.lists += 1;
+        match read_list(list) {
+            Err(stop) => self.corners.refusal(stop.number),
+            Ok(list) => {
+                self.list_events += 2 * list.events.len() as u64;
+                if let Some(stop) = list.stop {
+                    self.corners.refusal(stop.number);
+                }
+            }
+        }
+        if list_difference(&self.library, list).is_some() {
+            let words = tell_list(list, |list| list_difference(&self.library, list));
+            self.difference(words);
+        }
+    }
+
+    /// Refusal 15: buffers too small for the text of a short list, and one that is just right.
+    fn small_buffers(&mut self, list: &[u8]) {
+        let list = &list[..list.len().min(400)];
+        let text = run_list(list);
+        let rooms = [
+            text.len(),
+            text.len() - 1,
+            self.numbers.place(text.len()),
+            self.numbers.place(text.len().min(24)),
+        ];
+        for room in rooms {
+            self.lists += 1;
+            if room < text.len() {
+                self.corners.refusal(15);
+            }
+            if printed_difference(&self.library, list, &text, room).is_some() {
+                let words = tell_list(list, |list| {
+                    printed_difference(&self.library, list, &run_list(list), room)
+                });
+                self.difference(words);
+            }
+        }
+    }
+
+    /// Every number in the first field, now and then with nothing behind it.
+    fn first_fields(&mut self, list: &[u8]) {
+        if list.len() < 4 {
+            return;
+        }
+        let mut list = list[..list.len().min(100)].to_vec();
+        list[3] = self.numbers.of(&[0, 1, 16, 17, 255]);
+        self.list(&list);
+        list.truncate(4);
+        list[3] = self.numbers.byte();
+        self.list(&list);
+    }
+
+    /// A list about as long as a list may be: 65,535 to 65,537 bytes, or longer by far.
+    fn long_list(&mut self, list: &[u8]) {
+        let length = match self.numbers.below(8) {
+            0 => MAX_LIST - 1,
+            1 => MAX_LIST,
+            2 => self.numbers.between(65_536, 200_000) as usize,
+            _ => MAX_LIST + 1,
+        };
+        let mut long = list.to_vec();
+        // A field that is no event stops the list, so that the length is all there is to it.
+        long.extend([0xff, 0, 0]);
+        long.resize(length, 0);
+        self.list(&long);
+    }
+
+    /// Events on a random table.
+    fn table(&mut self) {
+        let kind = self.numbers.below(16);
+        let mut table = match kind {
+            0 => {
+                let (n, length) =
+                    (self.numbers.between(1, 16) as u8, self.numbers.between(1, 300) as usize);
+                let mut table = Table::start(n);
+                for event in run(n, length, &mut self.numbers) {
+                    let _ = step(&mut table, &event);
+                }
+                move_to_ends(&mut table, &mut self.numbers);
+                table
+            }
+            _ => in_range(&mut self.numbers),
+        };
+        match kind {
+            1 | 2 => spoil(&mut table, &mut self.numbers),
+            3 => table = scramble(&table, &mut self.numbers),
+            _ => {}
+        }
+        let most = if table.in_range() { 12 } else { 2 };
+        let events = self.events(&table, most);
+        let filler = self.numbers.byte();
+        self.tables += 1;
+        self.table_events += events.len() as u64;
+        let found =
+            walk_difference(&self.library, &table, &events, filler, Some(&mut self.corners));
+        if found.is_some() {
+            let words = tell_walk(&self.library, &table, &events, filler);
+            self.difference(words);
+        }
+    }
+
+    fn events(&mut self, table: &Table, most: u32) -> Vec<Event> {
+        let numbers = &mut self.numbers;
+        let manner = any_manner(numbers);
+        let mut table = table.clone();
+        (0..numbers.between(1, most))
+            .map(|_| {
+                let event = if numbers.one_in(8) {
+                    any_event(table.n, numbers)
+                } else {
+                    pick(&table, &manner, numbers)
+                };
+                let _ = step(&mut table, &event);
+                event
+            })
+            .collect()
+    }
+
+    /// A field that is no event, or too little room for the table.
+    fn field(&mut self) {
+        self.fields += 1;
+        let table = in_range(&mut self.numbers);
+        let mut bytes = [0; TABLE_BYTES];
+        table_to_bytes(&table, &mut bytes);
+        let field = no_event(&mut self.numbers);
+        let mut out = [0; TABLE_BYTES];
+        let room = match self.numbers.below(4) {
+            0 => self.numbers.place(TABLE_BYTES),
+            1 => TABLE_BYTES - 1,
+            _ => TABLE_BYTES,
+        };
+        let answer = self.library.step(&bytes, &field, &mut out[..room]);
+        let none = one_event(&field).is_none() || room < TABLE_BYTES;
+        if none != (answer == NO_EVENT) {
+            self.difference(format!("field {field:02x?} into {room} bytes: answer {answer}"));
+        }
+    }
+}

@@ -1,0 +1,383 @@
+//! The boundary of the proved library: a table in bytes, and the library's functions behind safe
+//! ones. `Own` is this program's own machine behind the same boundary.
+
+use crate::list::read_list;
+use crate::machine::{
+    self, Activity, Body, Event, Message, Node, Status, Table, MAX_MESSAGES, MAX_NODES,
+};
+use crate::print::run_list;
+
+const NODE_BYTES: usize = 29;
+const MESSAGE_BYTES: usize = 14;
+const NODES_AT: usize = 1;
+const MESSAGES_AT: usize = NODES_AT + MAX_NODES as usize * NODE_BYTES;
+const WAITING_AT: usize = MESSAGES_AT + MAX_MESSAGES * MESSAGE_BYTES;
+pub const TABLE_BYTES: usize = WAITING_AT + 1;
+
+/// A table in bytes, numbers high byte first: n, 16 nodes, 64 messages, how many of them wait.
+pub type TableBytes = [u8; TABLE_BYTES];
+
+/// The answer when the field is no event or there is no room for the table.
+pub const NO_EVENT: u8 = 255;
+
+/// What the library does: the proved one, this program's own, or a wrong one in the tests.
+pub trait Library {
+    /// Prints a list's text at the start of out and gives its length; None when it does not fit.
+    fn print(&self, list: &[u8], out: &mut [u8]) -> Option<usize>;
+
+    /// One event, as a field of a list, on a table: 0 accepted, or the refusal's number, or
+    /// NO_EVENT. The table after it is written to out.
+    fn step(&self, table: &TableBytes, field: &[u8], out: &mut [u8]) -> u8;
+
+    /// Every event of a list by the step with the range check: how many were accepted.
+    fn fold(&self, list: &[u8]) -> u32;
+}
+
+/// The proved library.
+pub struct Proved(());
+
+#[cfg(proved)]
+mod linked {
+    extern "C" {
+        pub fn nevraspu_print(
+            list: *const u8,
+            list_len: usize,
+            out: *mut u8,
+            out_len: usize,
+        ) -> u64;
+        pub fn nevraspu_step(
+            table: *const u8,
+            table_len: usize,
+            field: *const u8,
+            field_len: usize,
+            out: *mut u8,
+            out_len: usize,
+        ) -> u8;
+        pub fn nevraspu_fold(list: *const u8, list_len: usize) -> u32;
+    }
+}
+
+/// What stands for the library in a build without it. Nothing comes here, since Proved cannot be
+/// had then.
+#[cfg(not(proved))]
+mod linked {
+    pub unsafe fn nevraspu_print(_: *const u8, _: usize, _: *mut u8, _: usize) -> u64 {
+        unreachable!()
+    }
+    pub unsafe fn nevraspu_step(
+        _: *const u8,
+        _: usize,
+        _: *const u8,
+        _: usize,
+        _: *mut u8,
+        _: usize,
+    ) -> u8 {
+        unreachable!()
+    }
+    pub unsafe fn nevraspu_fold(_: *const u8, _: usize) -> u32 {
+        unreachable!()
+    }
+}
+
+impl Proved {
+    /// The library, if it was there when this crate was built.
+    pub fn linked() -> Result<Proved, String> {
+        if cfg!(proved) {
+            Ok(Proved(()))
+        } else {
+            Err("built without the proved library: run `rt staticlib exports` at the root of the \
+                 repository, or set PROVED_LIBRARY to the archive's path, and build again"
+                .to_string())
+        }
+    }
+}
+
+impl Library for Proved {
+    fn print(&self, list: &[u8], out: &mut [u8]) -> Option<usize> {
+        // Safety: the library reads the one slice and writes the other, each within its length.
+        let length = unsafe {
+            linked::nevraspu_print(list.as_ptr(), list.len(), out.as_mut_ptr(), out.len())
+        };
+        if length == u64::MAX {
+            None
+        } else {
+            Some(length as usize)
+        }
+    }
+
+    fn step(&self, table: &TableBytes, field: &[u8], out: &mut [u8]) -> u8 {
+        // Safety: as above.
+        unsafe {
+            linked::nevraspu_step(
+                table.as_ptr(),
+                table.len(),
+                field.as_ptr(),
+                field.len(),
+                out.as_mut_ptr(),
+                out.len(),
+            )
+        }
+    }
+
+    fn fold(&self, list: &[u8]) -> u32 {
+        // Safety: as above.
+        unsafe { linked::nevraspu_fold(list.as_ptr(), list.len()) }
+    }
+}
+
+/// This program's own machine behind the same boundary.
+pub struct Own;
+
+impl Library for Own {
+    fn print(&self, list: &[u8], out: &mut [u8]) -> Option<usize> {
+        let text = run_list(list);
+        let length = fitting(&text, out.len());
+        out[..length].copy_from_slice(&text[..length]);
+        (length == text.len()).then_some(length)
+    }
+
+    fn step(&self, table: &TableBytes, field: &[u8], out: &mut [u8]) -> u8 {
+        let Some(out) = out.first_chunk_mut::<TABLE_BYTES>() else {
+            return NO_EVENT;
+        };
+        let Some(event) = one_event(field) else {
+            return NO_EVENT;
+        };
+        let mut table = table_from_bytes(table);
+        let answer = machine::step(&mut table, &event);
+        table_to_bytes(&table, out);
+        answer.err().unwrap_or(0)
+    }
+
+    fn fold(&self, list: &[u8]) -> u32 {
+        fold(list)
+    }
+}
+
+/// The event of a field, if it is one.
+pub fn one_event(field: &[u8]) -> Option<Event> {
+    let list = read_list(&[&[0x01, 0, 1, MAX_NODES], field].concat()).ok()?;
+    match (list.events.as_slice(), list.stop) {
+        (&[event], None) => Some(event),
+        _ => None,
+    }
+}
+
+/// Every event of a list by the step with the range check: how many were accepted.
+pub fn fold(list: &[u8]) -> u32 {
+    let Ok(list) = read_list(list) else {
+        return 0;
+    };
+    let mut table = Table::start(list.n);
+    list.events.iter().map(|event| u32::from(machine::step(&mut table, event).is_ok())).sum()
+}
+
+/// Refusal 15: how many bytes of a text are written where so many are free. Its lines are written
+/// one after another up to the first that does not fit.
+pub fn fitting(text: &[u8], free: usize) -> usize {
+    if text.len() <= free {
+        return text.len();
+    }
+    text[..free].iter().rposition(|&byte| byte == b'\n').map_or(0, |place| place + 1)
+}
+
+/// Writes a table. The places that are no part of it get 0. Of more than 64 messages the first 64
+/// have places, and of more than 255 the number does not fit either.
+pub fn table_to_bytes(table: &Table, bytes: &mut TableBytes) {
+    bytes.fill(0);
+    bytes[0] = table.n;
+    let n = usize::from(table.n.min(MAX_NODES));
+    let nodes = bytes[NODES_AT..MESSAGES_AT].chunks_exact_mut(NODE_BYTES);
+    for (node, place) in table.nodes[..n].iter().zip(nodes) {
+        node_to_bytes(node, place.try_into().expect("a node's place"));
+    }
+    let places = bytes[MESSAGES_AT..WAITING_AT].chunks_exact_mut(MESSAGE_BYTES);
+    for (message, place) in table.messages.iter().zip(places) {
+        message_to_bytes(message, place.try_into().expect("a message's place"));
+    }
+    bytes[WAITING_AT] = table.messages.len().try_into().expect("at most 255 messages");
+}
+
+/// Reads a table. Nodes above n are as in the starting table. A waiting number over 64 gives so many
+/// messages, of which those without a place have kind 0.
+pub fn table_from_bytes(bytes: &TableBytes) -> Table {
+    let mut table = Table::start(bytes[0]);
+    let n = usize::from(table.n.min(MAX_NODES));
+    let nodes = bytes[NODES_AT..MESSAGES_AT].chunks_exact(NODE_BYTES);
+    for (node, place) in table.nodes[..n].iter_mut().zip(nodes) {
+        *node = node_from_bytes(place.try_into().expect("a node's place"));
+    }
+    let waiting = usize::from(bytes[WAITING_AT]);
+    let places = bytes[MESSAGES_AT..WAITING_AT].chunks_exact(MESSAGE_BYTES).take(waiting);
+    table.messages.extend(
+        places.map(|place| message_from_bytes(place.try_into().expect("a message's place"))),
+    );
+    let none = Message { sender: 0, receiver: 0, call: 0, body: Body::Unknown { kind: 0 } };
+    table.messages.resize(waiting, none);
+    table
+}
+
+/// Whether the bytes are the same in all that is part of the table.
+pub fn same_table(a: &TableBytes, b: &TableBytes) -> bool {
+    let (nodes, messages) = parts(a);
+    a[0] == b[0]
+        && a[WAITING_AT] == b[WAITING_AT]
+        && a[NODES_AT..nodes] == b[NODES_AT..nodes]
+        && a[MESSAGES_AT..messages] == b[MESSAGES_AT..messages]
+}
+
+/// Puts something into every place that is no part of the table.
+pub fn fill_unused(bytes: &mut TableBytes, mut filler: impl FnMut() -> u8) {
+    let (nodes, messages) = parts(bytes);
+    bytes[nodes..MESSAGES_AT].fill_with(&mut filler);
+    bytes[messages..WAITING_AT].fill_with(&mut filler);
+}
+
+/// Where the nodes and the messages of a table end.
+fn parts(bytes: &TableBytes) -> (usize, usize) {
+    let n = usize::from(bytes[0].min(MAX_NODES));
+    let waiting = usize::from(bytes[WAITING_AT]).min(MAX_MESSAGES);
+    (NODES_AT + n * NODE_BYTES, MESSAGES_AT + waiting * MESSAGE_BYTES)
+}
+
+/// status 1, counter 4, group 4, coordinator 1, task 2, members 2, last call 4, activity 11
+fn node_to_bytes(node: &Node, bytes: &mut [u8; NODE_BYTES]) {
+    bytes[0] = node.status as u8;
+    bytes[1..5].copy_from_slice(&node.counter.to_be_bytes());
+    bytes[5..9].copy_from_slice(&node.group.to_be_bytes());
+    bytes[9] = node.coordinator;
+    bytes[10..12].copy_from_slice(&node.task.to_be_bytes());
+    bytes[12..14].copy_from_slice(&node.members.to_be_bytes());
+    bytes[14..18].copy_from_slice(&node.last_call.to_be_bytes());
+    let a = flat(node.activity);
+    bytes[18] = a.tag;
+    bytes[19..21].copy_from_slice(&a.set.to_be_bytes());
+    bytes[21..23].copy_from_slice(&a.former.to_be_bytes());
+    bytes[23] = a.node;
+    bytes[24] = a.caller;
+    bytes[25..29].copy_from_slice(&a.call.to_be_bytes());
+}
+
+fn node_from_bytes(bytes: &[u8; NODE_BYTES]) -> Node {
+    Node {
+        status: match bytes[0] % 4 {
+            0 => Status::Down,
+            1 => Status::Election,
+            2 => Status::Reorganization,
+            _ => Status::Normal,
+        },
+        counter: four(&bytes[1..5]),
+        group: four(&bytes[5..9]),
+        coordinator: bytes[9],
+        task: two(&bytes[10..12]),
+        members: two(&bytes[12..14]),
+        last_call: four(&bytes[14..18]),
+        activity: unflat(Flat {
+            tag: bytes[18] % 9,
+            set: two(&bytes[19..21]),
+            former: two(&bytes[21..23]),
+            node: bytes[23],
+            caller: bytes[24],
+            call: four(&bytes[25..29]),
+        }),
+    }
+}
+
+/// sender 1, receiver 1, kind 1, call 4, group 4, task 2, yes 1
+fn message_to_bytes(message: &Message, bytes: &mut [u8; MESSAGE_BYTES]) {
+    bytes[0] = message.sender;
+    bytes[1] = message.receiver;
+    bytes[2] = message.body.kind();
+    bytes[3..7].copy_from_slice(&message.call.to_be_bytes());
+    bytes[7..11].copy_from_slice(&message.body.group().unwrap_or(0).to_be_bytes());
+    let (task, yes) = match message.body {
+        Body::Ready { task, .. } => (task, false),
+        Body::Reply { yes } => (0, yes),
+        _ => (0, false),
+    };
+    bytes[11..13].copy_from_slice(&task.to_be_bytes());
+    bytes[13] = u8::from(yes);
+}
+
+/// What the message's kind does not carry is read past.
+fn message_from_bytes(bytes: &[u8; MESSAGE_BYTES]) -> Message {
+    let group = four(&bytes[7..11]);
+    Message {
+        sender: bytes[0],
+        receiver: bytes[1],
+        call: four(&bytes[3..7]),
+        body: match bytes[2] {
+            1 => Body::AreYouCoordinator,
+            2 => Body::AreYouThere { group },
+            3 => Body::Invitation { group },
+            4 => Body::Accept { group },
+            5 => Body::Ready { group, task: two(&bytes[11..13]) },
+            6 => Body::Reply { yes: bytes[13] != 0 },
+            kind => Body::Unknown { kind },
+        },
+    }
+}
+
+/// An activity as in bytes: what it does not have is 0.
+#[derive(Clone, Copy, Default)]
+struct Flat {
+    tag: u8,
+    set: u16,
+    former: u16,
+    node: u8,
+    caller: u8,
+    call: u32,
+}
+
+fn flat(activity: Activity) -> Flat {
+    let none = Flat { tag: tag(&activity), ..Flat::default() };
+    match activity {
+        Activity::Idle | Activity::Collecting | Activity::Contacting => none,
+        Activity::Asking { asked, found } => Flat { set: found, node: asked, ..none },
+        Activity::Waiting { ticks, found } => Flat { set: found, node: ticks, ..none },
+        Activity::Inviting { found, former, now } => Flat { set: found, former, node: now, ..none },
+        Activity::Handing { rest, now } => Flat { set: rest, node: now, ..none },
+        Activity::Forwarding { rest, now, caller, call } => {
+            Flat { set: rest, node: now, caller, call, ..none }
+        }
+        Activity::Accepting { caller, call } => Flat { caller, call, ..none },
+    }
+}
+
+fn unflat(flat: Flat) -> Activity {
+    let Flat { tag, set, former, node, caller, call } = flat;
+    match tag {
+        0 => Activity::Idle,
+        1 => Activity::Asking { asked: node, found: set },
+        2 => Activity::Waiting { ticks: node, found: set },
+        3 => Activity::Inviting { found: set, former, now: node },
+        4 => Activity::Collecting,
+        5 => Activity::Handing { rest: set, now: node },
+        6 => Activity::Contacting,
+        7 => Activity::Forwarding { rest: set, now: node, caller, call },
+        _ => Activity::Accepting { caller, call },
+    }
+}
+
+/// The activity's number in bytes, 0 to 8.
+pub fn tag(activity: &Activity) -> u8 {
+    match activity {
+        Activity::Idle => 0,
+        Activity::Asking { .. } => 1,
+        Activity::Waiting { .. } => 2,
+        Activity::Inviting { .. } => 3,
+        Activity::Collecting => 4,
+        Activity::Handing { .. } => 5,
+        Activity::Contacting => 6,
+        Activity::Forwarding { .. } => 7,
+        Activity::Accepting { .. } => 8,
+    }
+}
+
+fn two(bytes: &[u8]) -> u16 {
+    u16::from_be_bytes(bytes.try_into().expect("two bytes"))
+}
+
+fn four(bytes: &[u8]) -> u32 {
+    u32::from_be_bytes(bytes.try_into().expect("four bytes"))
+}

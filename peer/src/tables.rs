@@ -1,0 +1,323 @@
+//! Random tables: in range, near the ends of the ranges, and with a number out of range.
+
+use crate::machine::{
+    group_number, only, owner, Activity, Body, Message, Node, Set, Status, Table, MAX_CALL,
+    MAX_COUNTER, MAX_MESSAGES, MAX_NODES, MAX_TICKS, MIN_TASK,
+};
+use crate::numbers::Numbers;
+use crate::proved::{table_from_bytes, table_to_bytes, TABLE_BYTES};
+
+/// A table in range.
+pub fn in_range(numbers: &mut Numbers) -> Table {
+    let n = match numbers.below(16) {
+        0 => 1,
+        1..=3 => 2,
+        4..=6 => 3,
+        7 => MAX_NODES,
+        _ => numbers.between(2, u32::from(MAX_NODES)) as u8,
+    };
+    let mut table = Table::start(n);
+    for i in 1..=n {
+        table.nodes[usize::from(i) - 1] = node(i, n, numbers);
+    }
+    if n > 1 {
+        let waiting = match numbers.below(8) {
+            0 => 0,
+            1 | 2 => numbers.below(5),
+            3 => 63,
+            4 | 5 => 64,
+            _ => numbers.below(65),
+        };
+        for _ in 0..waiting {
+            let m = message(&table, numbers);
+            table.messages.push(m);
+        }
+    }
+    table
+}
+
+/// A number from low to high, often at an end.
+fn near_ends(low: u32, high: u32, numbers: &mut Numbers) -> u32 {
+    match numbers.below(8) {
+        0 | 1 => low,
+        2 => low + numbers.below(4),
+        3 => high - 1,
+        4 | 5 => high,
+        6 => high - numbers.below(4),
+        _ => numbers.between(low, high),
+    }
+}
+
+fn group(n: u8, numbers: &mut Numbers) -> u32 {
+    let owner = numbers.between(1, u32::from(n)) as u8;
+    group_number(near_ends(1, MAX_COUNTER, numbers), owner)
+}
+
+fn any_task(numbers: &mut Numbers) -> u16 {
+    near_ends(u32::from(MIN_TASK), 65_535, numbers) as u16
+}
+
+/// A part of a set: often none of it or all of it.
+fn part(set: Set, numbers: &mut Numbers) -> Set {
+    let bits = numbers.next();
+    match numbers.below(6) {
+        0 | 1 => 0,
+        2 => set,
+        3 => set & bits as Set & (bits >> 16) as Set,
+        _ => set & bits as Set,
+    }
+}
+
+/// A node of n other than i; n must be at least 2.
+fn other(i: u8, n: u8, numbers: &mut Numbers) -> u8 {
+    let j = numbers.between(1, u32::from(n) - 1) as u8;
+    if j < i {
+        j
+    } else {
+        j + 1
+    }
+}
+
+fn node(i: u8, n: u8, numbers: &mut Numbers) -> Node {
+    let others = (u16::MAX >> (MAX_NODES - n)) & !only(i);
+    let mut node = Node {
+        status: numbers.of(&[
+            Status::Down,
+            Status::Election,
+            Status::Election,
+            Status::Reorganization,
+            Status::Reorganization,
+            Status::Normal,
+            Status::Normal,
+            Status::Normal,
+        ]),
+        counter: near_ends(0, MAX_COUNTER, numbers),
+        group: group(n, numbers),
+        coordinator: 0,
+        task: match numbers.below(4) {
+            0 => 0,
+            1 => u16::from(i),
+            2 => numbers.next() as u16,
+            _ => any_task(numbers),
+        },
+        members: part(others, numbers),
+        last_call: near_ends(0, MAX_CALL, numbers),
+        activity: Activity::Idle,
+    };
+    if node.status == Status::Down {
+        node.group = numbers.of(&[0, node.group]);
+        node.coordinator = numbers.below(u32::from(n) + 1) as u8;
+        return node;
+    }
+    if numbers.one_in(2) {
+        node.group = group_number(node.group / 16, i);
+    }
+    let found = part(others, numbers);
+    let activity = if n == 1 { numbers.of(&[0, 2, 4, 6]) } else { numbers.below(9) };
+    node.activity = match activity {
+        0 => Activity::Idle,
+        1 => {
+            // Often the last, so that what comes after the last is met.
+            let last = if i == n { n - 1 } else { n };
+            let asked = if numbers.one_in(2) { last } else { other(i, n, numbers) };
+            Activity::Asking { asked, found }
+        }
+        2 => {
+            let ticks = numbers.of(&[1, 1, 2, MAX_TICKS]);
+            Activity::Waiting { ticks, found }
+        }
+        3 => {
+            let former = part(others, numbers);
+            Activity::Inviting { found, former, now: other(i, n, numbers) }
+        }
+        4 => Activity::Collecting,
+        5 => {
+            node.task = any_task(numbers);
+            Activity::Handing { rest: found, now: other(i, n, numbers) }
+        }
+        6 => Activity::Contacting,
+        k => {
+            node.group = group_number(node.group / 16, other(i, n, numbers));
+            let caller = other(i, n, numbers);
+            let call = near_ends(1, MAX_CALL, numbers);
+            if k == 7 {
+                Activity::Forwarding { rest: found, now: other(i, n, numbers), caller, call }
+            } else {
+                Activity::Accepting { caller, call }
+            }
+        }
+    };
+    node.coordinator = owner(node.group);
+    node
+}
+
+/// A message that often fits its receiver: in its group, or with the number of its open call.
+fn message(table: &Table, numbers: &mut Numbers) -> Message {
+    let n = table.n;
+    let sender = numbers.between(1, u32::from(n)) as u8;
+    let receiver = other(sender, n, numbers);
+    let to = table.node(receiver);
+    let group = match numbers.below(3) {
+        0 if to.group != 0 => to.group,
+        1 => group_number(near_ends(1, MAX_COUNTER, numbers), receiver),
+        _ => group(n, numbers),
+    };
+    let body = match numbers.below(8) {
+        0 => Body::AreYouCoordinator,
+        1 => Body::AreYouThere { group },
+        2 => Body::Invitation { group },
+        3 => Body::Accept { group },
+        4 => Body::Ready { group, task: any_task(numbers) },
+        _ => Body::Reply { yes: numbers.one_in(2) },
+    };
+    let call = match body {
+        Body::Reply { .. } if to.last_call > 0 && !numbers.one_in(3) => to.last_call,
+        _ => near_ends(1, MAX_CALL, numbers),
+    };
+    Message { sender, receiver, call, body }
+}
+
+/// Moves some of the counters and call numbers of a table to their ends, or just before them.
+pub fn move_to_ends(table: &mut Table, numbers: &mut Numbers) {
+    for node in &mut table.nodes[..usize::from(table.n)] {
+        if numbers.one_in(2) {
+            node.counter = MAX_COUNTER - numbers.below(3);
+        }
+        if numbers.one_in(2) {
+            node.last_call = MAX_CALL - numbers.below(4);
+        }
+    }
+}
+
+/// Changes a number of a table, mostly so that it is just out of range.
+pub fn spoil(table: &mut Table, numbers: &mut Numbers) {
+    let n = table.n;
+    let i = numbers.between(1, u32::from(n)) as u8;
+    let k = usize::from(i) - 1;
+    let above = numbers.of(&[n.wrapping_add(1), 17, 255]);
+    let wrong_node = numbers.of(&[0, i, above]);
+    let wrong_set = if n == MAX_NODES || numbers.one_in(2) { only(i) } else { only(n + 1) };
+    let wrong_call = numbers.of(&[0, MAX_CALL + 1, u32::MAX]);
+    let wrong_group = numbers.of(&[
+        0,
+        u32::from(i) - 1,
+        15,
+        16 + u32::from(n % 16),
+        (MAX_COUNTER + 1) * 16,
+        u32::MAX,
+        u32::MAX - 15,
+    ]);
+    let node = &mut table.nodes[k];
+    match numbers.below(24) {
+        0 => node.counter = numbers.of(&[MAX_COUNTER + 1, u32::MAX]),
+        1 | 2 => node.group = wrong_group,
+        3 => node.coordinator = numbers.of(&[0, i, above, n]),
+        4 => node.members |= wrong_set,
+        5 => node.last_call = numbers.of(&[MAX_CALL + 1, u32::MAX]),
+        6 => node.status = Status::Down,
+        7 => node.task = numbers.of(&[0, 99, 100, 65_535]),
+        8..=13 => spoil_activity(&mut node.activity, numbers, wrong_node, wrong_set, wrong_call),
+        14 => {
+            // A forwarding or accepting node that is its own coordinator, or another activity.
+            node.group = group_number(1, i);
+            node.coordinator = i;
+        }
+        15 | 16 => table.n = numbers.of(&[0, 17, 18, 32, 255]),
+        17 => {
+            let waiting = numbers.of(&[65, 66, 128, 255]);
+            let none = Message { sender: 1, receiver: 2, call: 1, body: Body::AreYouCoordinator };
+            table.messages.resize(waiting, none);
+        }
+        _ if table.messages.is_empty() => node.members |= wrong_set,
+        what => {
+            let place = numbers.place(table.messages.len());
+            spoil_message(
+                &mut table.messages[place],
+                what,
+                numbers,
+                above,
+                wrong_call,
+                wrong_group,
+            );
+        }
+    }
+}
+
+fn spoil_activity(
+    activity: &mut Activity,
+    numbers: &mut Numbers,
+    wrong_node: u8,
+    wrong_set: Set,
+    wrong_call: u32,
+) {
+    let first = numbers.one_in(2);
+    match activity {
+        Activity::Idle | Activity::Collecting | Activity::Contacting => {
+            *activity = Activity::Asking { asked: wrong_node, found: 0 };
+        }
+        Activity::Asking { asked, .. } if first => *asked = wrong_node,
+        Activity::Asking { found, .. } => *found |= wrong_set,
+        Activity::Waiting { ticks, .. } if first => *ticks = numbers.of(&[0, MAX_TICKS + 1, 255]),
+        Activity::Waiting { found, .. } => *found |= wrong_set,
+        Activity::Inviting { now, .. } if first => *now = wrong_node,
+        Activity::Inviting { found, former, .. } => {
+            *if numbers.one_in(2) { found } else { former } |= wrong_set;
+        }
+        Activity::Handing { now, .. } if first => *now = wrong_node,
+        Activity::Handing { rest, .. } => *rest |= wrong_set,
+        Activity::Forwarding { rest, now, caller, call } => match numbers.below(4) {
+            0 => *rest |= wrong_set,
+            1 => *now = wrong_node,
+            2 => *caller = wrong_node,
+            _ => *call = wrong_call,
+        },
+        Activity::Accepting { caller, .. } if first => *caller = wrong_node,
+        Activity::Accepting { call, .. } => *call = wrong_call,
+    }
+}
+
+fn spoil_message(
+    m: &mut Message,
+    what: u32,
+    numbers: &mut Numbers,
+    above: u8,
+    wrong_call: u32,
+    wrong_group: u32,
+) {
+    match what {
+        18 => m.sender = numbers.of(&[0, m.receiver, above]),
+        19 => m.receiver = numbers.of(&[0, m.sender, above]),
+        20 => m.call = wrong_call,
+        21 => m.body = Body::Unknown { kind: numbers.of(&[0, 7, 8, 255]) },
+        _ => match &mut m.body {
+            Body::Ready { task, .. } if numbers.one_in(2) => *task = numbers.of(&[0, 99]),
+            Body::AreYouThere { group }
+            | Body::Invitation { group }
+            | Body::Accept { group }
+            | Body::Ready { group, .. } => *group = wrong_group,
+            _ => m.call = wrong_call,
+        },
+    }
+}
+
+/// Changes a few bytes of the table's bytes, and gives what they then mean.
+pub fn scramble(table: &Table, numbers: &mut Numbers) -> Table {
+    let mut bytes = [0; TABLE_BYTES];
+    table_to_bytes(table, &mut bytes);
+    for _ in 0..numbers.between(1, 4) {
+        // Half of them in the nodes and messages that are part of the table.
+        let place = match numbers.below(4) {
+            0 => 1 + numbers.place(29 * usize::from(table.n)),
+            1 if !table.messages.is_empty() => {
+                465 + numbers.place(14 * table.messages.len().min(MAX_MESSAGES))
+            }
+            _ => numbers.place(TABLE_BYTES),
+        };
+        bytes[place] = match numbers.below(3) {
+            0 => bytes[place] ^ 1 << numbers.below(8),
+            1 => bytes[place].wrapping_add(1),
+            _ => numbers.byte(),
+        };
+    }
+    table_from_bytes(&bytes)
+}

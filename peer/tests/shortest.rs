@@ -1,0 +1,232 @@
+//! The comparison finds machines that are wrong on purpose, and the search shortens what they show.
+
+use peer::compare::{
+    list_difference, run_difference, shortest_run, tell_list, tell_walk, walk_difference,
+};
+use peer::drive::run;
+use peer::fuzzing::Fuzz;
+use peer::list::{read_list, write_list};
+use peer::machine::*;
+use peer::numbers::Numbers;
+use peer::print::print_table;
+use peer::proved::*;
+use peer::shortest::shortest;
+use std::time::Duration;
+use Event::*;
+
+/// A machine that may be wrong, behind the boundary of the library.
+struct Machine(fn(&mut Table, &Event) -> Result<(), u8>);
+
+impl Library for Machine {
+    fn print(&self, list: &[u8], out: &mut [u8]) -> Option<usize> {
+        let Ok(read) = read_list(list) else {
+            return Own.print(list, out);
+        };
+        let mut table = Table::start(read.n);
+        let mut text = format!("cabinets {}\n", read.n);
+        for (k, event) in read.events.iter().enumerate() {
+            if let Err(r) = (self.0)(&mut table, event) {
+                text += &format!("refused {} {r}\n", k + 1);
+            }
+        }
+        if let Some(stop) = read.stop {
+            text += &format!("stopped {} {}\n", stop.offset, stop.number);
+        }
+        print_table(&mut text, &table);
+        let length = fitting(text.as_bytes(), out.len());
+        out[..length].copy_from_slice(&text.as_bytes()[..length]);
+        (length == text.len()).then_some(length)
+    }
+
+    fn step(&self, table: &TableBytes, field: &[u8], out: &mut [u8]) -> u8 {
+        let Some(event) = one_event(field) else {
+            return NO_EVENT;
+        };
+        let Some(out) = out.first_chunk_mut() else {
+            return NO_EVENT;
+        };
+        let mut table = table_from_bytes(table);
+        let answer = if table.in_range() { (self.0)(&mut table, &event) } else { Err(1) };
+        table_to_bytes(&table, out);
+        answer.err().unwrap_or(0)
+    }
+
+    fn fold(&self, list: &[u8]) -> u32 {
+        let Ok(list) = read_list(list) else {
+            return 0;
+        };
+        let mut table = Table::start(list.n);
+        list.events.iter().filter(|event| (self.0)(&mut table, event).is_ok()).count() as u32
+    }
+}
+
+/// "Clearing the counter at a crash: an old group number returns."
+fn clears_counter(table: &mut Table, event: &Event) -> Result<(), u8> {
+    step(table, event)?;
+    if let Crash(i) = *event {
+        table.nodes[usize::from(i) - 1].counter = 0;
+    }
+    Ok(())
+}
+
+/// "Matching a reply by its sender instead of its call number": here any reply matches.
+fn takes_any_reply(table: &mut Table, event: &Event) -> Result<(), u8> {
+    if let Deliver(a, b) = *event {
+        let open = (1..=table.n).contains(&b).then(|| table.node(b).open_call()).flatten();
+        let oldest = table.messages.iter_mut().find(|m| m.sender == a && m.receiver == b);
+        if let (Some(call), Some(m)) = (open, oldest) {
+            if let Body::Reply { .. } = m.body {
+                m.call = call;
+            }
+        }
+    }
+    step(table, event)
+}
+
+/// Refuses a check with 14 when 63 wait already.
+fn full_too_early(table: &mut Table, event: &Event) -> Result<(), u8> {
+    let mut after = table.clone();
+    step(&mut after, event)?;
+    if let (Check(_), 64) = (event, after.messages.len()) {
+        return Err(14);
+    }
+    *table = after;
+    Ok(())
+}
+
+/// The first run of a row of random ones that shows a difference.
+fn first_difference(library: &impl Library) -> (u8, Vec<Event>) {
+    let mut numbers = Numbers::new(5);
+    for _ in 0..2000 {
+        let n = numbers.between(1, 16) as u8;
+        let events = run(n, 1000, &mut numbers);
+        if run_difference(library, n, &events, None).is_some() {
+            return (n, events);
+        }
+    }
+    panic!("no difference");
+}
+
+/// No event of the result can be taken out.
+fn assert_least(library: &impl Library, n: u8, events: &[Event]) {
+    let differs = |events: &[Event]| {
+        run_difference(library, n, events, None).is_some()
+            || list_difference(library, &write_list(n, events)).is_some()
+    };
+    assert!(differs(events));
+    for k in 0..events.len() {
+        let fewer = [&events[..k], &events[k + 1..]].concat();
+        assert!(!differs(&fewer), "event {k} of {events:?} is not needed");
+    }
+}
+
+#[test]
+fn shortest_takes_out_what_is_not_needed() {
+    let items: Vec<u32> = (0..1000).collect();
+    let mut asked = 0;
+    let found = shortest(items, |items| {
+        asked += 1;
+        [17, 18, 400, 999].iter().all(|k| items.contains(k))
+    });
+    assert_eq!(found, [17, 18, 400, 999]);
+    assert!(asked < 500, "{asked}");
+    assert_eq!(shortest(vec![1, 2, 3], |_| true), []);
+    assert_eq!(shortest(vec![1, 2, 3], |items| items.len() == 3), [1, 2, 3]);
+}
+
+#[test]
+fn right_machine_shows_no_difference() {
+    let mut numbers = Numbers::new(4);
+    for _ in 0..50 {
+        let n = numbers.between(1, 16) as u8;
+        let events = run(n, 500, &mut numbers);
+        for library in [Machine(step), Machine(advance)] {
+            assert!(run_difference(&library, n, &events, None).is_none());
+            assert_eq!(list_difference(&library, &write_list(n, &events)), None);
+        }
+    }
+}
+
+#[test]
+fn cleared_counter_needs_two_events() {
+    let library = Machine(clears_counter);
+    let (n, events) = first_difference(&library);
+    let (n, events) = shortest_run(&library, n, &events);
+    assert_eq!((n, events), (1, vec![Recover(1), Crash(1)]));
+}
+
+/// A call is given up, the next is open, and the reply to the first arrives.
+#[test]
+fn late_reply_needs_six_events() {
+    let library = Machine(takes_any_reply);
+    let (n, events) = first_difference(&library);
+    assert!(events.len() > 100);
+    let (n, events) = shortest_run(&library, n, &events);
+    assert_least(&library, n, &events);
+    assert!(events.len() <= 8, "{events:?}");
+    assert!(matches!(events.last(), Some(Deliver(..))));
+}
+
+#[test]
+fn full_too_early_needs_a_long_run() {
+    let library = Machine(full_too_early);
+    let (n, events) = first_difference(&library);
+    let (n, events) = shortest_run(&library, n, &events);
+    assert_least(&library, n, &events);
+    // 63 messages must wait, each sent by an event of its own.
+    assert!(events.len() > 63, "{}", events.len());
+    assert!(matches!(events.last(), Some(Check(_))));
+}
+
+/// A library that reads the list wrongly: a difference in bytes.
+#[test]
+fn bytes_are_shortened() {
+    struct Reads;
+    impl Library for Reads {
+        fn print(&self, list: &[u8], out: &mut [u8]) -> Option<usize> {
+            // Forgets that 0x01 must be first.
+            let at = list.windows(4).rposition(|w| w == [1, 0, 1, 2]).unwrap_or(0);
+            Own.print(&list[at..], out)
+        }
+        fn step(&self, table: &TableBytes, field: &[u8], out: &mut [u8]) -> u8 {
+            Own.step(table, field, out)
+        }
+        fn fold(&self, list: &[u8]) -> u32 {
+            Own.fold(list)
+        }
+    }
+    let mut list = write_list(2, &[Recover(1), Recover(2), Check(2)]);
+    list.extend([1, 0, 1, 2]);
+    list.extend([0x11, 0, 1, 2]);
+    let words = tell_list(&list, |list| list_difference(&Reads, list));
+    assert!(words.starts_with("a list of 5 bytes:"), "{words}");
+}
+
+#[test]
+fn tables_are_shortened() {
+    let library = Machine(full_too_early);
+    let mut table = Table::start(3);
+    for i in 1..=3 {
+        step(&mut table, &Recover(i)).unwrap();
+    }
+    let m = Message { sender: 1, receiver: 2, call: 1, body: Body::AreYouCoordinator };
+    table.messages = vec![m; 63];
+    let events = [Crash(1), Check(3), Tick(1), Check(2)];
+    assert!(walk_difference(&library, &table, &events, 7, None).is_some());
+    let words = tell_walk(&library, &table, &events, 7);
+    assert_eq!(words.matches("\nevent ").count(), 2, "{words}");
+    let words = tell_walk(&Machine(clears_counter), &table, &events, 7);
+    assert!(!words.contains("message "), "{words}");
+    assert!(words.contains("cabinet 2 0 0 0 0 0 0 0 idle"), "{words}");
+}
+
+/// The fuzzer itself, for a moment: no difference in the right machine, and some in a wrong one.
+#[test]
+fn fuzzer_tells_right_from_wrong() {
+    let mut fuzz = Fuzz::new(Own, 1);
+    fuzz.go_on(Duration::from_millis(1500));
+    assert_eq!(fuzz.tell(), 0);
+    let mut fuzz = Fuzz::new(Machine(takes_any_reply), 1);
+    fuzz.go_on(Duration::from_secs(60));
+    assert!(fuzz.tell() > 0);
+}
