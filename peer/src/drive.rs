@@ -48,6 +48,8 @@ pub const QUIET: Manner = Manner { weights: [100, 1, 1, 20, 4, 2, 20, 1, 10, 1],
 pub const ROUGH: Manner = Manner { weights: [60, 20, 8, 25, 12, 6, 20, 15, 12, 2], full: false };
 /// Many nodes check at once, so that mergers cross and invitations are forwarded.
 pub const CROSSING: Manner = Manner { weights: [80, 1, 1, 20, 25, 4, 30, 5, 12, 1], full: false };
+/// Groups form in parts, grow and meet again: no crashes, some calls of asking nodes given up.
+pub const GROUPS: Manner = Manner { weights: [100, 0, 0, 20, 9, 2, 30, 6, 20, 0], full: false };
 /// Calls are given up early, so that acceptances and replies come late.
 pub const LATE: Manner = Manner { weights: [30, 2, 3, 20, 15, 10, 25, 25, 20, 1], full: false };
 /// Nearly 64 messages wait.
@@ -55,11 +57,11 @@ pub const FULL: Manner = Manner { weights: [40, 4, 3, 12, 20, 10, 15, 20, 12, 2]
 /// Nearly every event is refused.
 pub const REFUSED: Manner = Manner { weights: [2, 0, 1, 1, 1, 1, 1, 1, 1, 150], full: false };
 
-const MANNERS: [Manner; 6] = [QUIET, ROUGH, CROSSING, LATE, FULL, REFUSED];
+const MANNERS: [Manner; 7] = [QUIET, ROUGH, CROSSING, GROUPS, LATE, FULL, REFUSED];
 
 /// Any of the manners; the last seldom.
 pub fn any_manner(numbers: &mut Numbers) -> Manner {
-    MANNERS[numbers.weighted(&[4, 5, 6, 5, 5, 1]).unwrap_or(0)]
+    MANNERS[numbers.weighted(&[4, 5, 5, 6, 5, 5, 1]).unwrap_or(0)]
 }
 
 /// Which nodes each thing can be tried on.

@@ -102,11 +102,10 @@ impl<L: Library> Fuzz<L> {
 
     /// A run, event by event; its list, printed; and lists that damage makes of it.
     fn run(&mut self) {
+        // Half of them small, where groups form and meet sooner.
         let n = match self.numbers.below(8) {
-            0 => 2,
-            1 => 3,
-            2 => 5,
-            3 => MAX_NODES,
+            0 => MAX_NODES,
+            1..=4 => self.numbers.between(2, 6) as u8,
             _ => self.numbers.between(1, u32::from(MAX_NODES)) as u8,
         };
         let length = match self.numbers.below(64) {
@@ -229,7 +228,11 @@ impl<L: Library> Fuzz<L> {
             3 => table = scramble(&table, &mut self.numbers),
             _ => {}
         }
-        let most = if table.in_range() { 12 } else { 2 };
+        let most = match kind {
+            _ if !table.in_range() => 2,
+            0 => 60,
+            _ => 12,
+        };
         let events = self.events(&table, most);
         let filler = self.numbers.byte();
         self.tables += 1;
