@@ -190,8 +190,43 @@ pub fn shortest_run(library: &impl Library, n: u8, events: &[Event]) -> (u8, Vec
     }
     let n = (1..n).find(|&fewer| differs(fewer, &events)).unwrap_or(n);
     let events = shortest(events, |events| differs(n, events));
+    let (fewer, renamed) = renumbered(n, &events);
+    if differs(fewer, &renamed) {
+        return (fewer, renamed);
+    }
     let n = (1..n).find(|&fewer| differs(fewer, &events)).unwrap_or(n);
     (n, events)
+}
+
+/// The same events with the nodes that they name numbered from 1 in their order, and how many they are.
+fn renumbered(n: u8, events: &[Event]) -> (u8, Vec<Event>) {
+    let mut named = Vec::new();
+    for event in events {
+        map_nodes(event, |i| {
+            named.push(i);
+            i
+        });
+    }
+    named.retain(|i| (1..=n).contains(i));
+    named.sort();
+    named.dedup();
+    let rename = |i: u8| named.binary_search(&i).map_or(i, |place| place as u8 + 1);
+    let renamed = events.iter().map(|event| map_nodes(event, rename)).collect();
+    (named.len().max(1) as u8, renamed)
+}
+
+fn map_nodes(event: &Event, mut to: impl FnMut(u8) -> u8) -> Event {
+    match *event {
+        Event::Crash(i) => Event::Crash(to(i)),
+        Event::Recover(i) => Event::Recover(to(i)),
+        Event::Check(i) => Event::Check(to(i)),
+        Event::Timeout(i) => Event::Timeout(to(i)),
+        Event::Tick(i) => Event::Tick(to(i)),
+        Event::Expire(i) => Event::Expire(to(i)),
+        Event::Finish(i, task) => Event::Finish(to(i), task),
+        Event::Deliver(a, b) => Event::Deliver(to(a), to(b)),
+        Event::Lose(a, b) => Event::Lose(to(a), to(b)),
+    }
 }
 
 /// A run's difference, shortened, in words.

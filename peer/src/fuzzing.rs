@@ -30,6 +30,7 @@ pub struct Fuzz<L> {
     tables: u64,
     table_events: u64,
     fields: u64,
+    passed: u64,
     failed: u64,
     seconds: f64,
 }
@@ -47,6 +48,7 @@ impl<L: Library> Fuzz<L> {
             tables: 0,
             table_events: 0,
             fields: 0,
+            passed: 0,
             failed: 0,
             seconds: 0.0,
         }
@@ -59,7 +61,9 @@ impl<L: Library> Fuzz<L> {
         while start.elapsed() < time && self.failed < ENOUGH {
             self.run();
             for _ in 0..150 {
-                self.table();
+                if self.failed < ENOUGH {
+                    self.table();
+                }
             }
             for _ in 0..4 {
                 self.field();
@@ -90,8 +94,7 @@ impl<L: Library> Fuzz<L> {
             self.seconds,
             events as f64 / self.seconds
         );
-        let passed = self.run_events + self.lists + self.table_events + self.fields;
-        println!("{passed} passed, {} failed", self.failed);
+        println!("{} passed, {} failed", self.passed, self.failed);
         self.failed
     }
 
@@ -117,10 +120,13 @@ impl<L: Library> Fuzz<L> {
         let events = run(n, length, &mut self.numbers);
         self.runs += 1;
         self.run_events += events.len() as u64;
-        if run_difference(&self.library, n, &events, Some(&mut self.corners)).is_some() {
+        let found = run_difference(&self.library, n, &events, Some(&mut self.corners));
+        if let Some(found) = found {
+            self.passed += found.events as u64 - 1;
             let words = tell_run(&self.library, n, &events);
             return self.difference(words);
         }
+        self.passed += events.len() as u64;
         let mut list = write_list(n, &events);
         self.list(&list);
         let kept = list.len().min(self.numbers.between(4, 2000) as usize);
@@ -151,8 +157,9 @@ impl<L: Library> Fuzz<L> {
         }
         if list_difference(&self.library, list).is_some() {
             let words = tell_list(list, |list| list_difference(&self.library, list));
-            self.difference(words);
+            return self.difference(words);
         }
+        self.passed += 1;
     }
 
     /// Refusal 15: buffers too small for the text of a short list, and one that is just right.
@@ -174,8 +181,9 @@ impl<L: Library> Fuzz<L> {
                 let words = tell_list(list, |list| {
                     printed_difference(&self.library, list, &run_list(list), room)
                 });
-                self.difference(words);
+                return self.difference(words);
             }
+            self.passed += 1;
         }
     }
 
@@ -239,10 +247,12 @@ impl<L: Library> Fuzz<L> {
         self.table_events += events.len() as u64;
         let found =
             walk_difference(&self.library, &table, &events, filler, Some(&mut self.corners));
-        if found.is_some() {
+        if let Some(found) = found {
+            self.passed += found.events as u64 - 1;
             let words = tell_walk(&self.library, &table, &events, filler);
-            self.difference(words);
+            return self.difference(words);
         }
+        self.passed += events.len() as u64;
     }
 
     fn events(&mut self, table: &Table, most: u32) -> Vec<Event> {
@@ -278,7 +288,9 @@ impl<L: Library> Fuzz<L> {
         let answer = self.library.step(&bytes, &field, &mut out[..room]);
         let none = one_event(&field).is_none() || room < TABLE_BYTES;
         if none != (answer == NO_EVENT) {
-            self.difference(format!("field {field:02x?} into {room} bytes: answer {answer}"));
+            let words = format!("field {field:02x?} into {room} bytes: answer {answer}");
+            return self.difference(words);
         }
+        self.passed += 1;
     }
 }

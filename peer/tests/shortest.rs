@@ -1,7 +1,7 @@
 //! The comparison finds machines that are wrong on purpose, and the search shortens what they show.
 
 use peer::compare::{
-    list_difference, run_difference, shortest_run, tell_list, tell_walk, walk_difference,
+    list_difference, run_difference, shortest_run, tell_list, tell_run, tell_walk, walk_difference,
 };
 use peer::drive::run;
 use peer::fuzzing::Fuzz;
@@ -152,7 +152,7 @@ fn cleared_counter_needs_two_events() {
     let library = Machine(clears_counter);
     let (n, events) = first_difference(&library);
     let (n, events) = shortest_run(&library, n, &events);
-    assert_eq!(events, [Recover(n), Crash(n)]);
+    assert_eq!((n, events), (1, vec![Recover(1), Crash(1)]));
 }
 
 /// A call is given up, the next is open, and the reply to the first arrives.
@@ -165,6 +165,7 @@ fn late_reply_needs_six_events() {
     assert_least(&library, n, &events);
     assert!(events.len() <= 8, "{events:?}");
     assert!(matches!(events.last(), Some(Deliver(..))));
+    println!("{}", tell_run(&library, n, &events));
 }
 
 #[test]
