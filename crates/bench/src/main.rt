@@ -20,7 +20,7 @@ fn text_space() -> [u8; TEXT_LIMIT]
     [0; TEXT_LIMIT]
 }
 
-// Whether the input has ended. `read_full` also stops at a read that fails: then this one fails too, or brings more.
+// Whether the input has ended. Only a read that brings nothing says so; `read_full` also stops at one that fails.
 fn at_end() -> bool {
     let mut space = io::buffer();
     libc::read(STDIN_FILENO, &mut space) == 0
