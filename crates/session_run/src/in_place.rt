@@ -18,29 +18,11 @@ ghost use Rattle.listing.specs.Lines.{stoppedLine, tableLines};
 ghost use Rattle.listing.specs.Printing.{shown, printed};
 ghost use Rattle.run_list.specs.Text.{noteLines, runLines, linesOf, Whole};
 
-// The number of an answer; 0 where the event is accepted.
-fn answer_number(a: Answer) -> u8
-    ensures { λ r. ⌜ r ≡ answerNumber a ⌝ }
-{
-    match a {
-        Answer::Accepted => 0,
-        Answer::NotInRange => 1,
-        Answer::WrongNumber => 7,
-        Answer::WrongTask => 8,
-        Answer::WrongStatus => 9,
-        Answer::WrongActivity => 10,
-        Answer::NoMessage => 11,
-        Answer::CounterAtEnd => 12,
-        Answer::CallsAtEnd => 13,
-        Answer::QueueFull => 14,
-    }
-}
-
 // The line of event e, where it is refused.
 fn note(out: &mut [u8], at: usize, e: u32, answer: Answer) -> Put
     ensures { λ a. ⌜ shown a (now (out .exit)) ≡ printed (now (out .entry)) at (noteLines e (answerNumber answer)) ⌝ }
 {
-    let r = answer_number(answer);
+    let r = run_list::answer_number(answer);
     if r == 0 {
         return Put::Next(at);
     }

@@ -28,8 +28,6 @@ use denote.Ref.{RefT, MutRef, ptr-vals, mut-tells}
 use denote.Signature.{plain}
 use denote.Steps.{only, opens, closes, owned, peeks, heard, nothing}
 use denote.Struct.Steps.{spelt}
-use denote.Struct.Laws as LL
-use denote.Enum.Laws as EL
 use denote.Triple.Statement.{Contract, Triple}
 use denote.Triple.Call.{calls-at}
 use denote.Triple.Clauses.{ensured, lasts}
@@ -43,18 +41,15 @@ use Rattle.model.specs.declared.Table.{Table}
 use Rattle.model.specs.declared.Outcome.{Outcome}
 use Rattle.model.specs.declared.Event.{Event}
 use Rattle.model.proofs.Table as T
-use Rattle.model.proofs.Table.Laws as T′
 use Rattle.model.proofs.Outcome as O
 use Rattle.model.proofs.Outcome.Laws as O′
 use Rattle.model.proofs.Event as E
-use Rattle.model.proofs.Event.Laws as E′
 use Rattle.model.proofs.Answer as N
-use Rattle.model.proofs.Answer.Laws as N′
 use Rattle.machine.proofs.step as step
 use Rattle.machine.proofs.step.Symbol as step-def
 use Rattle.machine.proofs.step.Symbol.{name as #machine·step}
 use Rattle.machine.proofs.step.Met as step-thm
-use Rattle.session.proofs.Values.{table-val, event-val, answer-val, IsEvent, IsAnswer, answer-is, table-is}
+use Rattle.session.proofs.Values.{table-val, event-val, answer-val, IsEvent, IsAnswer, table-tells, event-tells, outcome-tells, table-fits, event-fits, answer-fits, outcome-fits, table-makes, event-makes, answer-makes, answer-is, table-is}
 use Rattle.session.proofs.apply.Key.{name as #session·apply}
 use Rattle.session.proofs.apply as apply
 use Rattle.session.proofs.apply.Statement as stated
@@ -89,8 +84,8 @@ module _ {M : Type 1} (𝓤 : URA M) (H : Heap 𝓤) (A : Atoms 𝓤) (W : Given
       qed W (‵ (fobs γ (T.the-row .coded .code (r .table))) ∷ ‵ (fbor κ (Body (mem T.the-row) b o γ)) ∷ ‵ (flft κ q) ∷ []) ∵
       suffices ! _ (ends-at 𝓤 H A apply.ended stayed (apply.clauses 𝓤 H A at-mem run) W (((κ, tt), (q, tt), tt, x, at), tt) (answer-val (r .answer)) (r .answer) (r .table, (tt, tt)) (tt, (tt, tt))) $ says ! e $
       nothing ! $ move ! (3 ∷ 0 ∷ []) $ join ! $ frame ! $ feqI ! (List Val) (vptr b o ∷ []) (vptr b o ∷ []) refl $ fjoin3 ! $
-      nothing ! $ owned ! E.the-row (Is E.the-row) (EL.makes E.the-type E′.the-plain 𝓤 H A) ev _ ev-is $ fjoin ! $ move ! (1 ∷ 0 ∷ []) $ fjoin ! $
-      owned ! N.the-row (Is N.the-row) (EL.makes N.the-type N′.the-plain 𝓤 H A) (r .answer) _ r-is $ move ! (1 ∷ 0 ∷ []) $ done !
+      nothing ! $ owned ! E.the-row (Is E.the-row) (event-makes 𝓤 H A) ev _ ev-is $ fjoin ! $ move ! (1 ∷ 0 ∷ []) $ fjoin ! $
+      owned ! N.the-row (Is N.the-row) (answer-makes 𝓤 H A) (r .answer) _ r-is $ move ! (1 ∷ 0 ∷ []) $ done !
 
   -- what `step`'s triple binds outside, and what it asks
   abbrev to-step : Step 𝓤 H A at-mem run .Ghost
@@ -99,7 +94,7 @@ module _ {M : Type 1} (𝓤 : URA M) (H : Heap 𝓤) (A : Atoms 𝓤) (W : Given
   goes-step : ent 𝓤 (sem 𝓤 H A (T.the-row .own h (table-val h ∷ []))) (Step 𝓤 H A at-mem run .pre to-step)
   goes-step =
       qed W (‵ (T.the-row .own h (table-val h ∷ [])) ∷ []) ∵
-      nothing ! $ owned ! E.the-row (Is E.the-row) (EL.makes E.the-type E′.the-plain 𝓤 H A) ev _ ev-is $ fjoin ! $ move ! (1 ∷ 0 ∷ []) $ fjoin ! $
+      nothing ! $ owned ! E.the-row (Is E.the-row) (event-makes 𝓤 H A) ev _ ev-is $ fjoin ! $ move ! (1 ∷ 0 ∷ []) $ fjoin ! $
       nothing ! $ join ! $ nothing ! $ move ! (1 ∷ 0 ∷ []) $ join ! $ done !
 
   module _ (C : Calls 𝓤 H) (Λ : Loops 𝓤 H) (fm : FmC 𝓤 H (W .laws) C) (known : Triple 𝓤 (C #machine·step) (Step 𝓤 H A at-mem run)) where
@@ -109,12 +104,12 @@ module _ {M : Type 1} (𝓤 : URA M) (H : Heap 𝓤) (A : Atoms 𝓤) (W : Given
         -- [obs; the borrow; the token; …]
         enter ! C Λ code.function (vptr b o ∷ event-val ev ∷ []) _ $
         alloc1 ! (λ l₀. alloc1 ! (λ l₁. alloc1 ! (λ l₂. alloc1 ! (λ l₃. alloc1 ! (λ l₄. alloc0 ! $ params1 ! $
-        pass1 ! (init ! 6 refl (tt, tt)) $ pass1 ! (init ! 4 refl (EL.lawful E.the-type E′.the-laws 𝓤 H A W tt .typed ev _ ev-is .0)) $ pass0 ! $
-        move ! (10 ∷ 11 ∷ 12 ∷ []) $ opens ! tt T.the-row {h = h} b o (λ vs. spelt ! T.the-row (Is T.the-row) (shows 𝓤 H A T.the-row) (LL.vals T.the-type T′.the-laws) (LL.tells T.the-type T′.the-laws) fullShare h vs b o $
+        pass1 ! (init ! 6 refl (tt, tt)) $ pass1 ! (init ! 4 refl (event-fits W ev _ ev-is)) $ pass0 ! $
+        move ! (10 ∷ 11 ∷ 12 ∷ []) $ opens ! tt T.the-row {h = h} b o (λ vs. spelt ! T.the-row (Is T.the-row) (shows 𝓤 H A T.the-row) (λ t. table-val t ∷ []) table-tells fullShare h vs b o $
         move ! (1 ∷ []) $ peeks ! T.the-row (Is T.the-row) (shows 𝓤 H A T.the-row) h (table-val h ∷ []) (λ g. move ! (1 ∷ 0 ∷ []) $
         -- [the table's cell; what it owns; the open borrow; obs; auth; _4; …; _3; …; _2; …; _1; …; room for _0; …]
         -- _4 = *_1
-        assigns ! (of-opd ! (load ! (from ! (hop ! (look ! 11 refl) (stop !))) (look-raw ! 0 refl))) (from ! (stop !)) (init ! 5 refl (LL.lawful T.the-type T′.the-laws 𝓤 H A W .typed h _ g .0)) $
+        assigns ! (of-opd ! (load ! (from ! (hop ! (look ! 11 refl) (stop !))) (look-raw ! 0 refl))) (from ! (stop !)) (init ! 5 refl (table-fits W h _ g)) $
         move ! (1 ∷ []) $ use1 W (raw (Step 𝓤 H A at-mem run .pre to-step)) goes-step $
         -- [what `step` asks; the table's cell; the open borrow; obs; auth; _4; …; _3; …; _2; …; _1; …; room for _0; …]
         -- _3 = step(_4, _2)
@@ -123,12 +118,12 @@ module _ {M : Type 1} (𝓤 : URA M) (H : Heap 𝓤) (A : Atoms 𝓤) (W : Given
         split ! $ move ! (1 ∷ []) $ use1 W (raw (fact 𝓤 (Stepped h ev r))) (stepped-of 𝓤 H A at-mem run h ev r) $ heard ! (Stepped h ev r) (λ e. split ! $ drop ! $
         peeks ! O.the-row (Is O.the-row) (shows 𝓤 H A O.the-row) r (v ∷ []) (λ is. drop ! $
         -- [the table's cell; the open borrow; obs; auth; _4; …; _3; …; _2; …; _1; …; room for _0; …]
-        land ! (from ! (stop !)) (init ! 6 refl (LL.lawful O.the-type O′.the-laws 𝓤 H A W .typed r _ is .0)) $ rewrite ! 6 (λ (u : Val). ‵ (fat fullShare O′.mir l₃ 0 u)) (ap only (LL.tells O.the-type O′.the-laws r _ is)) refl $
+        land ! (from ! (stop !)) (init ! 6 refl (outcome-fits W r _ is)) $ rewrite ! 6 (λ (u : Val). ‵ (fat fullShare O′.mir l₃ 0 u)) (ap only (outcome-tells r _ is)) refl $
         -- *_1 = _3.table
-        assigns ! (of-opd ! (load ! (from ! (fld ! refl (stop !))) (look-in ! 6 (sub ! 1 refl (whole !))))) (from ! (hop ! (look ! 10 refl) (stop !))) (store-raw ! 0 refl (LL.lawful T.the-type T′.the-laws 𝓤 H A W .typed (r .table) _ (table-is r _ is) .0)) $
+        assigns ! (of-opd ! (load ! (from ! (fld ! refl (stop !))) (look-in ! 6 (sub ! 1 refl (whole !))))) (from ! (hop ! (look ! 10 refl) (stop !))) (store-raw ! 0 refl (table-fits W (r .table) _ (table-is r _ is))) $
         -- _0 = _3.answer
-        assigns ! (of-opd ! (load ! (from ! (fld ! refl (stop !))) (look-in ! 6 (sub ! 0 refl (whole !))))) (from ! (stop !)) (init ! 12 refl (EL.lawful N.the-type N′.the-laws 𝓤 H A W tt .typed (r .answer) _ (answer-is r _ is) .0)) $
-        owned ! T.the-row (Is T.the-row) (LL.makes T.the-type T′.the-plain 𝓤 H A) (r .table) _ (table-is r _ is) $ move ! (1 ∷ 0 ∷ []) $ closes ! tt T.the-row (r .table) (table-val (r .table) ∷ []) b o $
+        assigns ! (of-opd ! (load ! (from ! (fld ! refl (stop !))) (look-in ! 6 (sub ! 0 refl (whole !))))) (from ! (stop !)) (init ! 12 refl (answer-fits W (r .answer) _ (answer-is r _ is))) $
+        owned ! T.the-row (Is T.the-row) (table-makes 𝓤 H A) (r .table) _ (table-is r _ is) $ move ! (1 ∷ 0 ∷ []) $ closes ! tt T.the-row (r .table) (table-val (r .table) ∷ []) b o $
         -- [obs; the borrow; the token; _4; …; _3; …; _2; …; _1; …; _0; …]
         returns ! (look ! 11 refl) $ forget ! 3 refl $ forget ! 5 refl $ forget ! 7 refl $ forget ! 9 refl $ forget ! 11 refl $
         move ! (11 ∷ 12 ∷ []) $ free1 ! $ move ! (9 ∷ 10 ∷ []) $ free1 ! $ move ! (7 ∷ 8 ∷ []) $ free1 ! $ move ! (5 ∷ 6 ∷ []) $ free1 ! $ move ! (3 ∷ 4 ∷ []) $ free1 ! $ free0 ! $
@@ -136,7 +131,7 @@ module _ {M : Type 1} (𝓤 : URA M) (H : Heap 𝓤) (A : Atoms 𝓤) (W : Given
 
 module _ {M : Type 1} (𝓤 : URA M) (H : Heap 𝓤) (A : Atoms 𝓤) (W : Given 𝓤 H A) (at-mem : Memory → SProp 𝓤) (run : Routine → Fun 𝓤) where
   apply-walks : (C : Calls 𝓤 H) (Λ : Loops 𝓤 H) → FmC 𝓤 H (W .laws) C → Triple 𝓤 (C #machine·step) (Step 𝓤 H A at-mem run) → Walks 𝓤 H A apply.ended stayed (WpFn 𝓤 H C Λ code.function) (apply.clauses 𝓤 H A at-mem run)
-  apply-walks C Λ fm known = walked 𝓤 H A apply.ended stayed (apply.clauses 𝓤 H A at-mem run) (WpFn 𝓤 H C Λ code.function) (λ κs. (ptr-vals, (EL.vals E.the-type E′.the-laws, tt))) (λ κs. (mut-tells (named 0) (κs .0) T.the-row, (EL.tells E.the-type E′.the-laws, tt)))
+  apply-walks C Λ fm known = walked 𝓤 H A apply.ended stayed (apply.clauses 𝓤 H A at-mem run) (WpFn 𝓤 H C Λ code.function) (λ κs. (ptr-vals, ((λ e. event-val e ∷ []), tt))) (λ κs. (mut-tells (named 0) (κs .0) T.the-row, (event-tells, tt)))
       (λ κs qs bounds a _ are. via 𝓤 _ (fst∗ 𝓤 _ (emp 𝓤)) (walk 𝓤 H A W at-mem run (κs .0) (qs .0) (a .0 .ptr .0) (a .0 .ptr .1) (a .0 .name) (a .0 .now) (a .1 .0) (are .1 .0) C Λ fm known))
 
 apply-meets : {M : Type 1} (𝓤 : URA M) (H : Heap 𝓤) (A : Atoms 𝓤) (W : Given 𝓤 H A) (at-mem : Memory → SProp 𝓤) (run : Routine → Fun 𝓤) (𝓣 : Tables 𝓤 H)

@@ -29,8 +29,6 @@ use denote.Ref.{RefT, MutRef}
 use denote.Lend.{lends-ref, ref-back}
 use denote.Steps.{only, owned, peeks, heard, nothing}
 use denote.Struct.Steps.{spelt}
-use denote.Struct.Laws as LL
-use denote.Enum.Laws as EL
 use denote.Triple.Statement.{Contract, Triple}
 use denote.Triple.Call.{calls-at}
 use denote.Triple.Clauses.{ensured, lasts}
@@ -46,12 +44,10 @@ use Rattle.model.specs.declared.Answer.{Answer}
 use Rattle.model.proofs.Table as T
 use Rattle.model.proofs.Table.Laws as T′
 use Rattle.model.proofs.Outcome as O
-use Rattle.model.proofs.Outcome.Laws as O′
 use Rattle.model.proofs.Event as E
-use Rattle.model.proofs.Event.Laws as E′
 use Rattle.model.proofs.Answer as N
 use Rattle.model.proofs.Answer.Laws as N′
-use Rattle.session.proofs.Values.{table-val, event-val, outcome-val, IsTable, IsEvent, IsOutcome, both, both-is, told}
+use Rattle.session.proofs.Values.{table-val, event-val, outcome-val, IsTable, IsEvent, IsOutcome, table-tells, event-tells, answer-tells, table-fits, event-fits, answer-fits, outcome-fits, table-makes, event-makes, outcome-makes, told, both, both-is}
 use Rattle.session.proofs.apply as apply
 use Rattle.session.proofs.apply.Symbol as apply-def
 use Rattle.session.proofs.apply.Symbol.{name as #session·apply}
@@ -70,12 +66,12 @@ module _ {M : Type 1} (𝓤 : URA M) (H : Heap 𝓤) (A : Atoms 𝓤) (W : Given
   unfolding partOf
   laid l z is =
       qed W (‵ (fat fullShare T′.mir l 0 (table-val z)) ∷ []) ∵ use1 W (‵ (cellAt fullShare (T.the-row .mir) (table-val z ∷ []) l 0)) (W .laws .at-raw fullShare T′.mir l 0 (table-val z)) $
-      owned ! T.the-row (Is T.the-row) (LL.makes T.the-type T′.the-plain 𝓤 H A) z _ is $ move ! (1 ∷ 0 ∷ []) $ fjoin ! $ fpack ! (List Val) (λ vs. fsep (cellAt fullShare (T.the-row .mir) vs l 0) (T.the-row .own z vs)) (table-val z ∷ []) $ done !
+      owned ! T.the-row (Is T.the-row) (table-makes 𝓤 H A) z _ is $ move ! (1 ∷ 0 ∷ []) $ fjoin ! $ fpack ! (List Val) (λ vs. fsep (cellAt fullShare (T.the-row .mir) vs l 0) (T.the-row .own z vs)) (table-val z ∷ []) $ done !
 
   taken : (l : ℕ) (z : Table) → ent 𝓤 (sem 𝓤 H A (mem T.the-row .lies z l 0)) (sep 𝓤 (sem 𝓤 H A (fat fullShare T′.mir l 0 (table-val z))) (sem 𝓤 H A (T.the-row .own z (table-val z ∷ []))))
   unfolding partOf
   taken l z =
-      qed W (‵ (mem T.the-row .lies z l 0) ∷ []) ∵ fpick ! (λ vs. fsplit ! $ spelt ! T.the-row (Is T.the-row) (shows 𝓤 H A T.the-row) (LL.vals T.the-type T′.the-laws) (LL.tells T.the-type T′.the-laws) fullShare z vs l 0 $
+      qed W (‵ (mem T.the-row .lies z l 0) ∷ []) ∵ fpick ! (λ vs. fsplit ! $ spelt ! T.the-row (Is T.the-row) (shows 𝓤 H A T.the-row) (λ t. table-val t ∷ []) table-tells fullShare z vs l 0 $
       use1 W (‵ (fat fullShare T′.mir l 0 (table-val z))) (W .laws .raw-at fullShare T′.mir l 0 (table-val z)) $ done !)
 
 module _ {M : Type 1} (𝓤 : URA M) (H : Heap 𝓤) (A : Atoms 𝓤) (at-mem : Memory → SProp 𝓤) (run : Routine → Fun 𝓤) where
@@ -97,8 +93,8 @@ module _ {M : Type 1} (𝓤 : URA M) (H : Heap 𝓤) (A : Atoms 𝓤) (W : Given
   exits : (r : Answer) (z : Table) → Stepped h ev (both r z) → IsOutcome (both r z) → ent 𝓤 (sem 𝓤 H A ftrue) (Post (outcome-val (both r z)))
   exits r z e is =
       qed W (‵ ftrue ∷ []) ∵ suffices ! _ (ends-at 𝓤 H A self.ended stayed (self.clauses 𝓤 H A at-mem run) W ((tt, tt, tt, x, at), tt) (outcome-val (both r z)) (both r z) (tt, (tt, tt)) (tt, (tt, tt))) $ says ! e $
-      owned ! E.the-row (Is E.the-row) (EL.makes E.the-type E′.the-plain 𝓤 H A) ev _ ev-is $ fjoin ! $ owned ! T.the-row (Is T.the-row) (LL.makes T.the-type T′.the-plain 𝓤 H A) h _ h-is $ fjoin ! $
-      owned ! O.the-row (Is O.the-row) (LL.makes O.the-type O′.the-plain 𝓤 H A) (both r z) _ is $ move ! (1 ∷ 0 ∷ []) $ nothing ! $ done !
+      owned ! E.the-row (Is E.the-row) (event-makes 𝓤 H A) ev _ ev-is $ fjoin ! $ owned ! T.the-row (Is T.the-row) (table-makes 𝓤 H A) h _ h-is $ fjoin ! $
+      owned ! O.the-row (Is O.the-row) (outcome-makes 𝓤 H A) (both r z) _ is $ move ! (1 ∷ 0 ∷ []) $ nothing ! $ done !
 
   -- what `apply`'s triple binds outside: the local at l, lent for the lifetime ν under the name γ; and what it asks
   abbrev ref : ℕ → GName → RefT Table
@@ -113,17 +109,17 @@ module _ {M : Type 1} (𝓤 : URA M) (H : Heap 𝓤) (A : Atoms 𝓤) (W : Given
   goes-apply : (l ν : ℕ) (γ : GName) → ent 𝓤 (sep 𝓤 (A .lft (ν ∷ []) fullShare) (sem 𝓤 H A (lent l ν γ))) (Apply 𝓤 H A at-mem run .pre (to-apply l ν γ))
   goes-apply l ν γ =
       qed W (‵ (flft (ν ∷ []) fullShare) ∷ ‵ (lent l ν γ) ∷ []) ∵ nothing ! $ move ! (1 ∷ 0 ∷ []) $ join ! $
-      move ! (1 ∷ []) $ nothing ! $ owned ! E.the-row (Is E.the-row) (EL.makes E.the-type E′.the-plain 𝓤 H A) ev _ ev-is $ fjoin ! $ move ! (1 ∷ 0 ∷ []) $ fjoin ! $ move ! (1 ∷ 0 ∷ []) $ join ! $ nothing ! $ move ! (1 ∷ 0 ∷ []) $ join ! $ done !
+      move ! (1 ∷ []) $ nothing ! $ owned ! E.the-row (Is E.the-row) (event-makes 𝓤 H A) ev _ ev-is $ fjoin ! $ move ! (1 ∷ 0 ∷ []) $ fjoin ! $ move ! (1 ∷ 0 ∷ []) $ join ! $ nothing ! $ move ! (1 ∷ 0 ∷ []) $ join ! $ done !
 
   module _ (C : Calls 𝓤 H) (Λ : Loops 𝓤 H) (fm : FmC 𝓤 H (W .laws) C) (known : Triple 𝓤 (C #session·apply) (Apply 𝓤 H A at-mem run)) where
     walk : ent 𝓤 (onEntry 𝓤 H A self.signature tt tt x at) (WpFn 𝓤 H C Λ code.function (table-val h ∷ event-val ev ∷ []) Post)
     walk =
         qed W (‵ ftrue ∷ ‵ (owns (T.the-row ∷ E.the-row ∷ []) x at) ∷ []) ∵ enter ! C Λ code.function (table-val h ∷ event-val ev ∷ []) _ $
         alloc1 ! (λ l₀. alloc1 ! (λ l₁. alloc1 ! (λ l₂. alloc1 ! (λ l₃. alloc1 ! (λ l₄. alloc1 ! (λ l₅. alloc1 ! (λ l₆. alloc0 ! $ params1 ! $
-        pass1 ! (init ! 10 refl (LL.lawful T.the-type T′.the-laws 𝓤 H A W .typed h _ h-is .0)) $ pass1 ! (init ! 8 refl (EL.lawful E.the-type E′.the-laws 𝓤 H A W tt .typed ev _ ev-is .0)) $ pass0 ! $
+        pass1 ! (init ! 10 refl (table-fits W h _ h-is)) $ pass1 ! (init ! 8 refl (event-fits W ev _ ev-is)) $ pass0 ! $
         -- [_6; …; _5; …; _4; …; _3; …; _2; …; _1; …; room for _0; …]
         -- _3 = _1, and _5 = &mut _3
-        assigns ! (of-opd ! (load ! (from ! (stop !)) (look ! 10 refl))) (from ! (stop !)) (init ! 6 refl (LL.lawful T.the-type T′.the-laws 𝓤 H A W .typed h _ h-is .0)) $
+        assigns ! (of-opd ! (load ! (from ! (stop !)) (look ! 10 refl))) (from ! (stop !)) (init ! 6 refl (table-fits W h _ h-is)) $
         assigns ! (addr ! (from ! (stop !))) (from ! (stop !)) (init ! 2 refl (tt, tt)) $
         -- the local is lent for a lifetime ν of the call
         lft-new ! tt (λ ν. move ! (7 ∷ []) $ use1 W (‵ (mem T.the-row .lies h l₃ 0)) (laid 𝓤 H A W l₃ h h-is) $
@@ -137,22 +133,22 @@ module _ {M : Type 1} (𝓤 : URA M) (H : Heap 𝓤) (A : Atoms 𝓤) (W : Given
         split ! $ move ! (1 ∷ []) $ use1 W (some (λ (zs : Table × (Unit {0} × Unit {0})). ‵ (lasts apply.ended (ν ∷ [], tt) (ref l₃ γ, (ev, tt)) zs) ⊛ raw (fact 𝓤 (Stepped h ev (both r (zs .0)))))) (id⊢ 𝓤 _) $ pick ! (λ zs.
         split ! $ move ! (1 ∷ []) $ heard ! (Stepped h ev (both r (zs .0))) (λ e. fsplit ! $ move ! (2 ∷ []) $ split ! $ move ! (1 ∷ []) $ peeks ! N.the-row (Is N.the-row) (shows 𝓤 H A N.the-row) r (v ∷ []) (λ is.
         -- [what r owns; the token; the last value; …; the lender's part; _6; …; _5; …; _4; …; (_3's end); _2; …; _1; …; room for _0; …]
-        land ! (from ! (stop !)) (init ! 9 refl (EL.lawful N.the-type N′.the-laws 𝓤 H A W tt .typed r _ is .0)) $ rewrite ! 9 (λ (u : Val). ‵ (fat fullShare N′.mir l₄ 0 u)) (ap only (EL.tells N.the-type N′.the-laws r _ is)) refl $
+        land ! (from ! (stop !)) (init ! 9 refl (answer-fits W r _ is)) $ rewrite ! 9 (λ (u : Val). ‵ (fat fullShare N′.mir l₄ 0 u)) (ap only (answer-tells r _ is)) refl $
         -- the lifetime is ended, and the local comes back at the last table
         drop ! $ split ! $ lft-end ! tt $ move ! (0 ∷ 4 ∷ 2 ∷ []) $ use3 W (later (‵ (mem T.the-row .lies (zs .0) l₃ 0))) (ref-back 𝓤 H A W T.the-row (ν ∷ []) γ (zs .0) l₃ 0) $ await ! tt $
         use1 W (‵ (fat fullShare T′.mir l₃ 0 (table-val (zs .0))) ⊛ ‵ (T.the-row .own (zs .0) (table-val (zs .0) ∷ []))) (taken 𝓤 H A W l₃ (zs .0)) $ split ! $
         move ! (1 ∷ []) $ peeks ! T.the-row (Is T.the-row) (shows 𝓤 H A T.the-row) (zs .0) (table-val (zs .0) ∷ []) (λ g. move ! (1 ∷ 0 ∷ []) $
         -- [_3; what it owns; true; …; _6; …; _5; …; _4; …; (_3's end); _2; …; _1; …; room for _0; …]
         -- _6 = _3, and _0 = Outcome { answer: _4, table: _6 }
-        assigns ! (of-opd ! (load ! (from ! (stop !)) (look ! 0 refl))) (from ! (stop !)) (init ! 4 refl (LL.lawful T.the-type T′.the-laws 𝓤 H A W .typed (zs .0) _ g .0)) $
-        assigns ! (agg ! (and-then ! (load ! (from ! (stop !)) (look ! 8 refl)) (and-then ! (load ! (from ! (stop !)) (look ! 4 refl)) (no-more !)))) (from ! (stop !)) (init ! 15 refl (LL.lawful O.the-type O′.the-laws 𝓤 H A W .typed (both r (zs .0)) _ (both-is r (zs .0) (told r _ is) g) .0)) $
+        assigns ! (of-opd ! (load ! (from ! (stop !)) (look ! 0 refl))) (from ! (stop !)) (init ! 4 refl (table-fits W (zs .0) _ g)) $
+        assigns ! (agg ! (and-then ! (load ! (from ! (stop !)) (look ! 8 refl)) (and-then ! (load ! (from ! (stop !)) (look ! 4 refl)) (no-more !)))) (from ! (stop !)) (init ! 15 refl (outcome-fits W (both r (zs .0)) _ (both-is r (zs .0) (told r _ is) g))) $
         returns ! (look ! 15 refl) $ forget ! 0 refl $ forget ! 4 refl $ forget ! 6 refl $ forget ! 8 refl $ forget ! 11 refl $ forget ! 13 refl $ forget ! 15 refl $
         move ! (15 ∷ 16 ∷ []) $ free1 ! $ move ! (13 ∷ 14 ∷ []) $ free1 ! $ move ! (11 ∷ 12 ∷ []) $ free1 ! $ move ! (0 ∷ 10 ∷ []) $ free1 ! $ move ! (7 ∷ 8 ∷ []) $ free1 ! $ move ! (5 ∷ 6 ∷ []) $ free1 ! $ move ! (3 ∷ 4 ∷ []) $ free1 ! $ free0 ! $
         keep ! (1 ∷ []) $ by ! (exits r (zs .0) e (both-is r (zs .0) (told r _ is) g)))))))))))))))))
 
 module _ {M : Type 1} (𝓤 : URA M) (H : Heap 𝓤) (A : Atoms 𝓤) (W : Given 𝓤 H A) (at-mem : Memory → SProp 𝓤) (run : Routine → Fun 𝓤) where
   self-walks : (C : Calls 𝓤 H) (Λ : Loops 𝓤 H) → FmC 𝓤 H (W .laws) C → Triple 𝓤 (C #session·apply) (Apply 𝓤 H A at-mem run) → Walks 𝓤 H A self.ended stayed (WpFn 𝓤 H C Λ code.function) (self.clauses 𝓤 H A at-mem run)
-  self-walks C Λ fm known = walked 𝓤 H A self.ended stayed (self.clauses 𝓤 H A at-mem run) (WpFn 𝓤 H C Λ code.function) (λ κs. (LL.vals T.the-type T′.the-laws, (EL.vals E.the-type E′.the-laws, tt))) (λ κs. (LL.tells T.the-type T′.the-laws, (EL.tells E.the-type E′.the-laws, tt)))
+  self-walks C Λ fm known = walked 𝓤 H A self.ended stayed (self.clauses 𝓤 H A at-mem run) (WpFn 𝓤 H C Λ code.function) (λ κs. ((λ t. table-val t ∷ []), ((λ e. event-val e ∷ []), tt))) (λ κs. (table-tells, (event-tells, tt)))
       (λ κs qs bounds a _ are. via 𝓤 _ (fst∗ 𝓤 _ (emp 𝓤)) (walk 𝓤 H A W at-mem run (a .0) (are .0) (a .1 .0) (are .1 .0) C Λ fm known))
 
 self-meets : {M : Type 1} (𝓤 : URA M) (H : Heap 𝓤) (A : Atoms 𝓤) (W : Given 𝓤 H A) (at-mem : Memory → SProp 𝓤) (run : Routine → Fun 𝓤) (𝓣 : Tables 𝓤 H)
