@@ -215,6 +215,6 @@ pub fn reacts_to(n: u8, c: Node, m: Message, e: Event) -> Reaction
         Event::Expire(i) => node_step::react(n, i, c, Input::Expire),
         Event::Finish(i, t) => node_step::react(n, i, c, Input::Finish(t)),
         Event::Deliver(_, b) => node_step::react(n, b, c, Input::Receive(m)),
-        Event::Lose(_, _) => node_step::procedures::stays(c),
+        Event::Lose(_, _) => node_step::stays(c),
     }
 }

@@ -1,7 +1,7 @@
 // The machine over a table, by value: the starting table, and the step for any table and any event.
-pub mod grounds;
-pub mod queue;
-pub mod range;
+mod grounds;
+mod queue;
+mod range;
 
 ghost use mathlib.Core.Path.{_≡_};
 ghost use mathlib.Core.Bool.{true};

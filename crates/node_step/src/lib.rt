@@ -1,9 +1,9 @@
 // The local step of one node: the definitions of model's specs/React as functions.
 // Each other file has those of the file of model's specs that it is named after.
-pub mod node;
-pub mod procedures;
-pub mod range;
-pub mod step;
+mod node;
+mod procedures;
+mod range;
+mod step;
 
 ghost use mathlib.Core.Path.{_≡_};
 ghost use Prim.Native.Nat.{_≤_};
@@ -31,6 +31,7 @@ pub use node::is_idle;
 pub use node::is_normal;
 pub use node::is_reorganization;
 pub use node::is_waiting;
+pub use procedures::stays;
 pub use range::is_given_task;
 pub use range::is_node;
 pub use range::is_other;
