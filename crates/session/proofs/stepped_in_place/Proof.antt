@@ -16,7 +16,7 @@ use prog.Wp.{Heap, Calls, Loops, WpFn, Tables}
 use ghost.Atoms.{Atoms, sem}
 use contract.Monad.{Fun, fact}
 use contract.Running.{givenOf, tables, tablesOf}
-use types.Kit.{Given, ‵, raw, some, later, _⊛_, _$_, _∵_, !, qed, by, move, keep, drop, use1, use2, use3, split, join, pick, rewrite, fsplit, fjoin, fpick, fpack, suffices, frame, await, done}
+use types.Kit.{Given, ‵, raw, some, later, _⊛_, _$_, _∵_, !, qed, by, move, keep, drop, use1, use2, use3, split, join, pick, rewrite, fsplit, fjoin, fpick, fpack, suffices, await, done}
 use types.Run.{look, init, forget, stop, from, load, addr, of-opd, and-then, no-more, assigns, land, returns, enter, alloc1, alloc0, params1, pass1, pass0, free1, free0}
 use types.Part.{agg}
 use types.SemTy.{Body}
@@ -114,34 +114,42 @@ module _ {M : Type 1} (𝓤 : URA M) (H : Heap 𝓤) (A : Atoms 𝓤) (W : Given
   module _ (C : Calls 𝓤 H) (Λ : Loops 𝓤 H) (fm : FmC 𝓤 H (W .laws) C) (known : Triple 𝓤 (C #session·apply) (Apply 𝓤 H A at-mem run)) where
     walk : ent 𝓤 (onEntry 𝓤 H A self.signature tt tt x at) (WpFn 𝓤 H C Λ code.function (table-val h ∷ event-val ev ∷ []) Post)
     walk =
+        -- the locals, and the arguments in _1 and _2
         qed W (‵ ftrue ∷ ‵ (owns (T.the-row ∷ E.the-row ∷ []) x at) ∷ []) ∵ enter ! C Λ code.function (table-val h ∷ event-val ev ∷ []) _ $
         alloc1 ! (λ l₀. alloc1 ! (λ l₁. alloc1 ! (λ l₂. alloc1 ! (λ l₃. alloc1 ! (λ l₄. alloc1 ! (λ l₅. alloc1 ! (λ l₆. alloc0 ! $ params1 ! $
         pass1 ! (init ! 10 refl (table-fits W h _ h-is)) $ pass1 ! (init ! 8 refl (event-fits W ev _ ev-is)) $ pass0 ! $
         -- [_6; …; _5; …; _4; …; _3; …; _2; …; _1; …; room for _0; …]
-        -- _3 = _1, and _5 = &mut _3
+        -- _3 = _1
         assigns ! (of-opd ! (load ! (from ! (stop !)) (look ! 10 refl))) (from ! (stop !)) (init ! 6 refl (table-fits W h _ h-is)) $
+        -- _5 = &mut _3
         assigns ! (addr ! (from ! (stop !))) (from ! (stop !)) (init ! 2 refl (tt, tt)) $
-        -- the local is lent for a lifetime ν of the call
+        -- _3 is lent for a lifetime ν that is made for the call
         lft-new ! tt (λ ν. move ! (7 ∷ []) $ use1 W (‵ (mem T.the-row .lies h l₃ 0)) (laid 𝓤 H A W l₃ h h-is) $
-        use1 W (later (some (λ (γ : GName). ‵ (lent l₃ ν γ) ⊛ ‵ (flent (ν ∷ []) (Body (mem T.the-row) l₃ 0 γ))))) (lends-ref 𝓤 H A W T.the-row (named 0) (ν ∷ []) h l₃ 0) $ await ! tt $ pick ! (λ γ. split ! $
+        use1 W (later (some (λ (γ : GName). ‵ (lent l₃ ν γ) ⊛ ‵ (flent (ν ∷ []) (Body (mem T.the-row) l₃ 0 γ))))) (lends-ref 𝓤 H A W T.the-row (named 0) (ν ∷ []) h l₃ 0) $
+        await ! tt $ pick ! (λ γ. split ! $
         move ! (2 ∷ 0 ∷ []) $ use2 W (raw (Apply 𝓤 H A at-mem run .pre (to-apply l₃ ν γ))) (goes-apply l₃ ν γ) $
         -- [what `apply` asks; the lender's part; _6; …; _5; …; _4; …; (_3's end); _2; …; _1; …; room for _0; …]
-        -- _4 = apply(_5, _2)
+        -- _4 = apply(_5, _2): some answer r and some last table, of which e says what `apply` ensures
         calls-at ! fm (Apply 𝓤 H A at-mem run) known (to-apply l₃ ν γ) (and-then ! (load ! (from ! (stop !)) (look ! 4 refl)) (and-then ! (load ! (from ! (stop !)) (look ! 9 refl)) (no-more !))) (λ v.
-        use1 W (later (some (λ (r : Answer). ((‵ (flft (ν ∷ []) fullShare) ⊛ ‵ ftrue) ⊛ ‵ (N.the-row .own r (v ∷ []))) ⊛ raw (ensured 𝓤 H A apply.ended (apply.clauses 𝓤 H A at-mem run) (ν ∷ [], tt) (ref l₃ γ, (ev, tt)) tt r)))) (id⊢ 𝓤 _) $ await ! tt $ pick ! (λ r.
-        -- what `apply` ensures, at some last table
-        split ! $ move ! (1 ∷ []) $ use1 W (some (λ (zs : Table × (Unit {0} × Unit {0})). ‵ (lasts apply.ended (ν ∷ [], tt) (ref l₃ γ, (ev, tt)) zs) ⊛ raw (fact 𝓤 (Stepped h ev (both r (zs .0)))))) (id⊢ 𝓤 _) $ pick ! (λ zs.
-        split ! $ move ! (1 ∷ []) $ heard ! (Stepped h ev (both r (zs .0))) (λ e. fsplit ! $ move ! (2 ∷ []) $ split ! $ move ! (1 ∷ []) $ peeks ! N.the-row (Is N.the-row) (shows 𝓤 H A N.the-row) r (v ∷ []) (λ is.
+        use1 W (later (some (λ (r : Answer). ((‵ (flft (ν ∷ []) fullShare) ⊛ ‵ ftrue) ⊛ ‵ (N.the-row .own r (v ∷ []))) ⊛ raw (ensured 𝓤 H A apply.ended (apply.clauses 𝓤 H A at-mem run) (ν ∷ [], tt) (ref l₃ γ, (ev, tt)) tt r)))) (id⊢ 𝓤 _) $
+        await ! tt $ pick ! (λ r. split ! $ move ! (1 ∷ []) $
+        use1 W (some (λ (zs : Table × (Unit {0} × Unit {0})). ‵ (lasts apply.ended (ν ∷ [], tt) (ref l₃ γ, (ev, tt)) zs) ⊛ raw (fact 𝓤 (Stepped h ev (both r (zs .0)))))) (id⊢ 𝓤 _) $
+        pick ! (λ zs. split ! $ move ! (1 ∷ []) $ heard ! (Stepped h ev (both r (zs .0))) (λ e.
+        fsplit ! $ move ! (2 ∷ []) $ split ! $ move ! (1 ∷ []) $ peeks ! N.the-row (Is N.the-row) (shows 𝓤 H A N.the-row) r (v ∷ []) (λ is.
         -- [what r owns; the token; the last value; …; the lender's part; _6; …; _5; …; _4; …; (_3's end); _2; …; _1; …; room for _0; …]
         land ! (from ! (stop !)) (init ! 9 refl (answer-fits W r _ is)) $ rewrite ! 9 (λ (u : Val). ‵ (fat fullShare N′.mir l₄ 0 u)) (ap only (answer-tells r _ is)) refl $
-        -- the lifetime is ended, and the local comes back at the last table
-        drop ! $ split ! $ lft-end ! tt $ move ! (0 ∷ 4 ∷ 2 ∷ []) $ use3 W (later (‵ (mem T.the-row .lies (zs .0) l₃ 0))) (ref-back 𝓤 H A W T.the-row (ν ∷ []) γ (zs .0) l₃ 0) $ await ! tt $
+        -- the lifetime is ended, and _3 comes back at the last table
+        drop ! $ split ! $ lft-end ! tt $ move ! (0 ∷ 4 ∷ 2 ∷ []) $
+        use3 W (later (‵ (mem T.the-row .lies (zs .0) l₃ 0))) (ref-back 𝓤 H A W T.the-row (ν ∷ []) γ (zs .0) l₃ 0) $ await ! tt $
         use1 W (‵ (fat fullShare T′.mir l₃ 0 (table-val (zs .0))) ⊛ ‵ (T.the-row .own (zs .0) (table-val (zs .0) ∷ []))) (taken 𝓤 H A W l₃ (zs .0)) $ split ! $
         move ! (1 ∷ []) $ peeks ! T.the-row (Is T.the-row) (shows 𝓤 H A T.the-row) (zs .0) (table-val (zs .0) ∷ []) (λ g. move ! (1 ∷ 0 ∷ []) $
         -- [_3; what it owns; true; …; _6; …; _5; …; _4; …; (_3's end); _2; …; _1; …; room for _0; …]
-        -- _6 = _3, and _0 = Outcome { answer: _4, table: _6 }
+        -- _6 = _3
         assigns ! (of-opd ! (load ! (from ! (stop !)) (look ! 0 refl))) (from ! (stop !)) (init ! 4 refl (table-fits W (zs .0) _ g)) $
-        assigns ! (agg ! (and-then ! (load ! (from ! (stop !)) (look ! 8 refl)) (and-then ! (load ! (from ! (stop !)) (look ! 4 refl)) (no-more !)))) (from ! (stop !)) (init ! 15 refl (outcome-fits W (both r (zs .0)) _ (both-is r (zs .0) (told r _ is) g))) $
+        -- _0 = Outcome { answer: _4, table: _6 }
+        assigns ! (agg ! (and-then ! (load ! (from ! (stop !)) (look ! 8 refl)) (and-then ! (load ! (from ! (stop !)) (look ! 4 refl)) (no-more !)))) (from ! (stop !))
+        (init ! 15 refl (outcome-fits W (both r (zs .0)) _ (both-is r (zs .0) (told r _ is) g))) $
+        -- return: the locals are given up, from _0 to _6
         returns ! (look ! 15 refl) $ forget ! 0 refl $ forget ! 4 refl $ forget ! 6 refl $ forget ! 8 refl $ forget ! 11 refl $ forget ! 13 refl $ forget ! 15 refl $
         move ! (15 ∷ 16 ∷ []) $ free1 ! $ move ! (13 ∷ 14 ∷ []) $ free1 ! $ move ! (11 ∷ 12 ∷ []) $ free1 ! $ move ! (0 ∷ 10 ∷ []) $ free1 ! $ move ! (7 ∷ 8 ∷ []) $ free1 ! $ move ! (5 ∷ 6 ∷ []) $ free1 ! $ move ! (3 ∷ 4 ∷ []) $ free1 ! $ free0 ! $
         keep ! (1 ∷ []) $ by ! (exits r (zs .0) e (both-is r (zs .0) (told r _ is) g)))))))))))))))))
