@@ -1,3 +1,5 @@
+-- Laws of the byte form, from the bottom up.
 pub mod Numbers
 pub mod Records
+pub mod Widths
 pub mod RoundTrip

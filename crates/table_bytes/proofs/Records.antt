@@ -1,19 +1,15 @@
 -- Records of one size, one after another: a turn of a loop that reads them, and one of a loop that writes them.
 use Prim.Native.Nat.{ℕ, zero, suc, _+_, _*_, _≤_, _<_}
-use native.Mathlib.Nat.{suc-mul, zero-mul, add-assoc}
+use native.Mathlib.Nat.{suc-mul, zero-mul}
 use native.Mathlib.Numerals.{add-one}
 use native.Mathlib.Omega.{arith}
 use mathlib.Core.Path.{_≡_, refl, sym, _∙_, ap}
 use mathlib.Core.List.{List, [], _∷_, _++_}
-use lib.ListN.{length, getD, take, drop, set, length-append, length-map, drop-of-length-le}
+use lib.ListN.{length, getD, take, drop, set, length-append, drop-of-length-le}
 use lib.Seq.{drop-cons, drop-drop, take-suc-set, take-all}
-use mir.Val.{Val}
-use denote.Laws.{Is}
-use denote.Struct.Declared as declared
 use Rattle.model.specs.declared.Node.{Node}
 use Rattle.model.specs.declared.Message.{Message}
 use Rattle.model.specs.declared.Table.{Table}
-use Rattle.model.proofs.Table as table
 use Rattle.table_bytes.specs.Bytes.{bytes, many, all, partsBytes, nodeBytes, messageBytes, written}
 use Rattle.table_bytes.proofs.Numbers.{length-bytes, written-append}
 
@@ -61,21 +57,10 @@ pub message-long : (m : Message) → length (messageBytes m) ≡ 14
 unfolding bytes messageBytes
 message-long m = refl
 
--- What owning a table tells of its arrays: their lengths.
-pub record Sized (t : Table) : Type 0 where
-  pub nodes : length (t .nodes) ≡ 16
-  pub messages : length (t .messages) ≡ 64
-
-pub sized : (t : Table) {vs : List Val} → Is (declared.row table.the-type) t vs → Sized t
-sized t g = record {
-  nodes = sym (length-map (t .nodes) _) ∙ g .1 .1 .1 .0 .1 .0 .1;
-  messages = sym (length-map (t .messages) _) ∙ g .1 .1 .1 .1 .0 .1 .0 .1;
-}
-
 -- where the messages start, and where they end
-module _ (t : Table) (s : Sized t) where
+module _ (t : Table) (nodes : length (t .nodes) ≡ 16) where
   pub nodes-end : length (bytes 1 (t .n) ++ all nodeBytes (t .nodes)) ≡ 465
-  nodes-end = rw (length-append, length-bytes, all-long nodeBytes 29 node-long, s .nodes)
+  nodes-end = rw (length-append, length-bytes, all-long nodeBytes 29 node-long, nodes)
 
-  pub messages-end : length (bytes 1 (t .n) ++ all nodeBytes (t .nodes) ++ all messageBytes (t .messages)) ≡ 1361
-  messages-end = rw (length-append, nodes-end, all-long messageBytes 14 message-long, s .messages)
+  pub messages-end : length (t .messages) ≡ 64 → length (bytes 1 (t .n) ++ all nodeBytes (t .nodes) ++ all messageBytes (t .messages)) ≡ 1361
+  messages-end messages = rw (length-append, nodes-end, all-long messageBytes 14 message-long, messages)

@@ -18,7 +18,7 @@ use Rattle.model.specs.declared.Message.{Message}
 use Rattle.model.specs.declared.Table.{Table}
 use Rattle.table_bytes.specs.Bytes.{number, bytes, many, all, partsOf, activityOf, statusOf, nodeOf, messageOf, decoded, yesNumber, partsBytes, nodeBytes, messageBytes, encoded, written, NodeFits, MessageFits, Each, Fits}
 use Rattle.table_bytes.proofs.Numbers.{read, number-at, length-bytes, written-over}
-use Rattle.table_bytes.proofs.Records.{Sized, node-long, message-long, nodes-end, messages-end}
+use Rattle.table_bytes.proofs.Records.{node-long, message-long, nodes-end, messages-end}
 
 -- ── records of one size ──
 module _ {A : Type 0} (f : List ℕ → A) (g : A → List ℕ) (size : ℕ) (long : (x : A) → length (g x) ≡ size) (P : A → Type 0) (back : (x : A) → P x → (l : List ℕ) → f (g x ++ l) ≡ x) where
@@ -86,9 +86,6 @@ one-back x h l = read 1 x h
 table-is : {n m w v : ℕ} {xs ys : List Node} {qs rs : List Message} → n ≡ m → xs ≡ ys → qs ≡ rs → w ≡ v → _≡_ {A = Table} (record { n = n; nodes = xs; messages = qs; waiting = w }) (record { n = m; nodes = ys; messages = rs; waiting = v })
 table-is a b c d = cc
 
-sized-of : (t : Table) → Fits t → Sized t
-sized-of t h = record { nodes = h .nodes .0; messages = h .messages .0 }
-
 module _ (t : Table) (h : Fits t) (l : List ℕ) where
   n-back : number 1 (encoded t ++ l) 0 ≡ t .n
   unfolding number bytes encoded
@@ -101,13 +98,13 @@ module _ (t : Table) (h : Fits t) (l : List ℕ) where
   messages-back : many messageOf 14 64 (drop 465 (encoded t ++ l)) ≡ t .messages
   unfolding encoded
   messages-back =
-      rw (append-assoc, append-assoc, drop-at (bytes 1 (t .n) ++ all nodeBytes (t .nodes)) _ 465 (nodes-end t (sized-of t h)))
+      rw (append-assoc, append-assoc, drop-at (bytes 1 (t .n) ++ all nodeBytes (t .nodes)) _ 465 (nodes-end t (h .nodes .0)))
       (many-back messageOf messageBytes 14 message-long MessageFits message-back 64 (t .messages) (h .messages .0) (h .messages .1) _)
 
   waiting-back : number 1 (encoded t ++ l) 1361 ≡ t .waiting
   unfolding encoded
   waiting-back =
-      rw (append-assoc, number-at 1 (bytes 1 (t .n) ++ all nodeBytes (t .nodes) ++ all messageBytes (t .messages)) _ 1361 (messages-end t (sized-of t h)))
+      rw (append-assoc, number-at 1 (bytes 1 (t .n) ++ all nodeBytes (t .nodes) ++ all messageBytes (t .messages)) _ 1361 (messages-end t (h .nodes .0) (h .messages .0)))
       (one-back (t .waiting) (h .waiting) l)
 
   -- also where more bytes come after them
@@ -120,7 +117,7 @@ decode-encode t h = rw (← append-nil (encoded t)) (decode-more t h [])
 
 pub encoded-long : (t : Table) → Fits t → length (encoded t) ≡ 1362
 unfolding encoded
-encoded-long t h = rw (length-append, messages-end t (sized-of t h), length-bytes)
+encoded-long t h = rw (length-append, messages-end t (h .nodes .0) (h .messages .0), length-bytes)
 
 -- what `encode` leaves in a buffer with room, `decode` reads back
 pub round-trip : (t : Table) → Fits t → (out : List ℕ) → 1362 ≤ length out → decoded (written out 0 (encoded t)) ≡ t

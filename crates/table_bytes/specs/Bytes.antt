@@ -4,6 +4,7 @@
 --   activity  tag 1, set 2, former 2, node 1, caller 1, call 4; what an activity does not have is 0
 --             set is found or rest; node is asked, ticks or now
 --   message   sender 1, receiver 1, kind 1, call 4, group 4, task 2, yes 1
+-- That a table is read back from its bytes is `decode-encode` of proofs/RoundTrip.
 use Prim.Native.Nat.{ℕ, zero, suc, _+_, _*_, _/_, _%_, _^_, _<_}
 use mathlib.Core.Path.{_≡_}
 use mathlib.Core.Bool.{Bool, true, false}
@@ -47,6 +48,7 @@ all g (x ∷ xs) = g x ++ all g xs
 
 -- ── activities ──
 
+-- a place for each thing that an activity can hold
 abbrev pub parts : ℕ → ℕ → ℕ → ℕ → ℕ → ℕ → Parts
 parts tag set former node caller call = record { tag = tag; set = set; former = former; node = node; caller = caller; call = call }
 
@@ -136,6 +138,7 @@ messageBytes m =
     bytes 1 (m .sender) ++ bytes 1 (m .receiver) ++ bytes 1 (m .kind) ++ bytes 4 (m .call .number) ++ bytes 4 (m .group .number)
     ++ bytes 2 (m .task .number) ++ bytes 1 (yesNumber (m .yes))
 
+-- 1,362 bytes
 unfoldable pub encoded : Table → List ℕ
 encoded t = bytes 1 (t .n) ++ all nodeBytes (t .nodes) ++ all messageBytes (t .messages) ++ bytes 1 (t .waiting)
 
@@ -144,7 +147,7 @@ unfoldable pub written : List ℕ → ℕ → List ℕ → List ℕ
 written out at [] = out
 written out at (b ∷ l) = written (set out at b) (at + 1) l
 
--- ── what the types of a table's fields hold: every table of the code fits ──
+-- ── what the types of a table's fields hold: every table of the code fits, `table-fits` of proofs/Widths ──
 
 pub record PartsFit (p : Parts) : Type 0 where
   pub tag : p .tag < 256

@@ -5,6 +5,7 @@
 //   activity  tag 1, set 2, former 2, node 1, caller 1, call 4; what an activity does not have is 0
 //             set is found or rest; node is asked, ticks or now
 //   message   sender 1, receiver 1, kind 1, call 4, group 4, task 2, yes 1
+// Reading takes status modulo 4, tag modulo 9 (0 Idle .. 8 Accepting) and yes modulo 2; every other number as it stands, in range or not.
 // What is read and written is in specs/Bytes.
 use model::Activity;
 use model::CallNo;
@@ -15,7 +16,7 @@ use model::Status;
 use model::Table;
 use model::TaskNo;
 ghost use mathlib.Core.Path.{_≡_};
-ghost use Prim.Native.Nat.{_+_, _*_, _%_, _≤_, _<_};
+ghost use Prim.Native.Nat.{_≤_};
 ghost use lib.ListN.{length, getD, drop, set};
 ghost use Rattle.model.specs.Answers.{statusNumber};
 ghost use Rattle.table_bytes.specs.Bytes as spec;
@@ -55,6 +56,7 @@ fn byte(s: &[u8], k: usize) -> u8
     if k < s.len() { s[k] } else { 0 }
 }
 
+// The number of one byte, of two, of four.
 fn one(s: &[u8], k: usize) -> u8
     ensures { λ r. ⌜ r ≡ spec.number 1 (now (s .entry)) k ⌝ }
 {
@@ -235,6 +237,7 @@ fn put(out: &mut [u8], at: usize, b: u8)
     }
 }
 
+// A number of one byte, of two, of four.
 fn put_one(out: &mut [u8], at: usize, x: u8)
     ensures { λ _. ⌜ now (out .exit) ≡ spec.written (now (out .entry)) at (spec.bytes 1 x) ⌝ }
 {
@@ -375,4 +378,20 @@ pub fn encode(t: Table, out: &mut [u8])
     put_nodes(out, t);
     put_messages(out, t);
     put_one(out, 1361, t.waiting)
+}
+
+// Room for a table's bytes.
+fn zeros() -> [u8; SIZE]
+    ensures { λ r. ⌜ length r ≡ 1362 ⌝ }
+{
+    [0u8; SIZE]
+}
+
+// A table through its bytes and back is the same table.
+pub fn round_trip(t: Table) -> Table
+    ensures { λ r. ⌜ r ≡ t ⌝ }
+{
+    let mut bytes = zeros();
+    encode(t, &mut bytes);
+    decode(&bytes)
 }

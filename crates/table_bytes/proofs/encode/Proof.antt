@@ -1,7 +1,8 @@
 -- Each part is written where the one before it ends.
 use Rattle.table_bytes.specs.Bytes.{encoded}
 use Rattle.table_bytes.proofs.Numbers.{length-bytes, then}
-use Rattle.table_bytes.proofs.Records.{sized, nodes-end, messages-end}
+use Rattle.table_bytes.proofs.Records.{nodes-end, messages-end}
+use Rattle.table_bytes.proofs.Widths.{table-fits}
 use borrow.Author.Needs.{needs}
 use Rattle.table_bytes.proofs.encode.Statement.{statement}
 use Rattle.table_bytes.proofs.encode.Tie as tie
@@ -15,13 +16,13 @@ returns c =
     let p1 = p2 .before .before .before .before in
     let s = p1 .before .before .before in
     let t = s .args .t in
-    let n = sized t (s .good .0) in
+    let h = table-fits t (s .good .0) in
     then _ _ _ _ 1361
     (then _ _ _ _ 465
     (then _ _ _ _ 1 (p1 .put-one .ensures) (length-bytes 1 _) (p2 .put-nodes .ensures))
-    (nodes-end t n)
+    (nodes-end t (h .nodes .0))
     (p3 .put-messages .ensures))
-    (messages-end t n)
+    (messages-end t (h .nodes .0) (h .messages .0))
     (p4 .put-one2 .ensures)
 
 pub encode-spec : {M : Type 1} → statement M

@@ -1,10 +1,10 @@
 -- Past the end nothing is left.
 use Prim.Native.Nat.{_-_, _≤_}
-use mathlib.Core.Path.{_≡_, sym, _∙_}
+use mathlib.Core.Path.{_≡_}
 use native.Mathlib.Omega.{arith}
 use denote.Ref.{now}
-use lib.ListN.{length, take, drop, length-drop, drop-of-length-le}
-use lib.Seq.{take-all, drop-length}
+use lib.ListN.{length, drop, length-drop, drop-of-length-le}
+use lib.Seq.{take-all}
 use borrow.Author.Needs.{needs}
 use Rattle.table_bytes.proofs.from.Statement.{statement}
 use Rattle.table_bytes.proofs.from.Tie as tie

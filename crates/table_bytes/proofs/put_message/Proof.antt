@@ -1,6 +1,5 @@
 -- Each field is written where the one before it ends.
-use mathlib.Core.Path.{refl, _∙_}
-use native.Mathlib.Omega.{arith}
+use mathlib.Core.Path.{refl}
 use Rattle.table_bytes.specs.Bytes.{bytes, messageBytes}
 use Rattle.table_bytes.proofs.Numbers.{then}
 use borrow.Author.Needs.{needs}

@@ -1,5 +1,5 @@
 -- Each field is written where the one before it ends.
-use mathlib.Core.Path.{refl, _∙_}
+use mathlib.Core.Path.{refl}
 use native.Mathlib.Omega.{arith}
 use Rattle.table_bytes.specs.Bytes.{bytes, nodeBytes, partsBytes}
 use Rattle.table_bytes.proofs.Numbers.{then}

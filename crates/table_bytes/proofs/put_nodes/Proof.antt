@@ -5,7 +5,8 @@ use mathlib.Core.Path.{_≡_, refl, sym, _∙_}
 use native.Mathlib.Omega.{arith}
 use lib.ListN.{length, drop}
 use Rattle.table_bytes.specs.Bytes.{written, all, nodeBytes}
-use Rattle.table_bytes.proofs.Records.{all-turn, all-end, node-long, sized}
+use Rattle.table_bytes.proofs.Records.{all-turn, all-end, node-long}
+use Rattle.table_bytes.proofs.Widths.{table-fits}
 use Rattle.table_bytes.proofs.put_nodes.Statement.{statement}
 use Rattle.table_bytes.proofs.put_nodes.Tie as tie
 
@@ -21,14 +22,14 @@ loop-again c =
     let k = p .before .before .before in
     let l = k .before in
     let s = l .before .before in
-    let n = sized (s .args .t2) (s .good .1 .0) .nodes in
+    let n = table-fits (s .args .t2) (s .good .1 .0) .nodes .0 in
     (omega arith, search needs, sym (all-turn nodeBytes 29 node-long (s .args .t2 .nodes) (l .loop .i) (omega arith) 1 _ (l .loop .out) _ (p .put-node .ensures)) ∙ l .loop .inv .2)
 
 returns : tie.Need-returns Inv-loop μ-loop
 returns c =
     let l = c .before in
     let s = l .before .before in
-    let n = sized (s .args .t2) (s .good .1 .0) .nodes in
+    let n = table-fits (s .args .t2) (s .good .1 .0) .nodes .0 in
     sym (all-end nodeBytes 29 node-long (s .args .t2 .nodes) (l .loop .i) (omega arith) _ _) ∙ l .loop .inv .2
 
 pub put-nodes-spec : {M : Type 1} → statement M

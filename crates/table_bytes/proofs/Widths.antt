@@ -1,0 +1,92 @@
+-- What owning a table tells of it: its arrays' lengths, and that each number fits its width. The paths below follow the order of the fields in crate model.
+use mathlib.Core.Path.{sym, _∙_}
+use mathlib.Core.List.{List, [], _∷_, map}
+use native.Mathlib.Omega.{arith}
+use lib.ListN.{length-map}
+use mir.Val.{Val}
+use denote.Laws.{Is}
+use denote.Shadow.{shadow}
+use denote.Array.{each}
+use denote.Struct.Field.{Field}
+use denote.Struct.Declared as struct
+use denote.Enum.Declared as enum
+use Rattle.model.specs.declared.Activity.{Activity}
+use Rattle.model.specs.declared.Activity.the-variants.{Idle, Asking, Waiting, Inviting, Collecting, Handing, Contacting, Forwarding, Accepting}
+use Rattle.model.specs.declared.Node.{Node}
+use Rattle.model.specs.declared.Message.{Message}
+use Rattle.model.specs.declared.Table.{Table}
+use Rattle.model.proofs.Activity as activity
+use Rattle.model.proofs.Node as node
+use Rattle.model.proofs.Message as message
+use Rattle.model.proofs.Table as table
+use Rattle.table_bytes.specs.Bytes.{partsOf, PartsFit, NodeFits, MessageFits, Each, Fits}
+
+parts-fit : (a : Activity) {vs : List Val} → Is (enum.row activity.the-type) a vs → PartsFit (partsOf a)
+parts-fit Idle g = record { tag = omega arith; set = omega arith; former = omega arith; node = omega arith; caller = omega arith; call = omega arith }
+parts-fit (Asking asked found) g =
+    let f = g .1 .1 .1 .1 in
+    record { tag = omega arith; set = f .1 .0 .1; former = omega arith; node = f .0 .1; caller = omega arith; call = omega arith }
+parts-fit (Waiting ticks found) g =
+    let f = g .1 .1 .1 .1 in
+    record { tag = omega arith; set = f .1 .0 .1; former = omega arith; node = f .0 .1; caller = omega arith; call = omega arith }
+parts-fit (Inviting found former now) g =
+    let f = g .1 .1 .1 .1 in
+    record { tag = omega arith; set = f .0 .1; former = f .1 .0 .1; node = f .1 .1 .0 .1; caller = omega arith; call = omega arith }
+parts-fit Collecting g = record { tag = omega arith; set = omega arith; former = omega arith; node = omega arith; caller = omega arith; call = omega arith }
+parts-fit (Handing rest now) g =
+    let f = g .1 .1 .1 .1 in
+    record { tag = omega arith; set = f .0 .1; former = omega arith; node = f .1 .0 .1; caller = omega arith; call = omega arith }
+parts-fit Contacting g = record { tag = omega arith; set = omega arith; former = omega arith; node = omega arith; caller = omega arith; call = omega arith }
+parts-fit (Forwarding rest now caller call) g =
+    let f = g .1 .1 .1 .1 in
+    record { tag = omega arith; set = f .0 .1; former = omega arith; node = f .1 .0 .1; caller = f .1 .1 .0 .1; call = f .1 .1 .1 .0 .1 .1 .0 .1 }
+parts-fit (Accepting caller call) g =
+    let f = g .1 .1 .1 .1 in
+    record { tag = omega arith; set = omega arith; former = omega arith; node = omega arith; caller = f .0 .1; call = f .1 .0 .1 .1 .0 .1 }
+
+node-fits : (c : Node) {vs : List Val} → Is (struct.row node.the-type) c vs → NodeFits c
+node-fits c g =
+    let f = g .1 .1 in
+    let h = f .1 .1 .1 .1 in
+    record {
+      counter = f .1 .0 .1;
+      group = f .1 .1 .0 .1 .1 .0 .1;
+      coordinator = f .1 .1 .1 .0 .1;
+      task = h .0 .1 .1 .0 .1;
+      members = h .1 .0 .1;
+      last = h .1 .1 .0 .1 .1 .0 .1;
+      activity = parts-fit (c .activity) (h .1 .1 .1 .0);
+    }
+
+message-fits : (m : Message) {vs : List Val} → Is (struct.row message.the-type) m vs → MessageFits m
+message-fits m g =
+    let f = g .1 .1 in
+    let h = f .1 .1 .1 in
+    record {
+      sender = f .0 .1;
+      receiver = f .1 .0 .1;
+      kind = f .1 .1 .0 .1;
+      call = h .0 .1 .1 .0 .1;
+      group = h .1 .0 .1 .1 .0 .1;
+      task = h .1 .1 .0 .1 .1 .0 .1;
+    }
+
+-- of each element of an array
+module _ (F : Field) (P : F .Value → Type 0) (fits : (x : F .Value) (vs : List Val) → Is (F .row) (F .into x) vs → P x) where
+  each-fits : (xs : List (F .Value)) (us : List Val) → shadow (each (F .row .Denot) (F .row .own) (map (F .into) xs) us) → Each P xs
+  unfolding Each
+  each-fits [] us s = tt
+  each-fits (x ∷ xs) [] s = absurd s
+  each-fits (x ∷ xs) (u ∷ us) s = (fits x (u ∷ []) (s .0), each-fits xs us (s .1))
+
+pub table-fits : (t : Table) {vs : List Val} → Is (struct.row table.the-type) t vs → Fits t
+table-fits t g =
+    let f = g .1 .1 in
+    let a = f .1 .0 in
+    let b = f .1 .1 .0 in
+    record {
+      n = f .0 .1;
+      nodes = (sym (length-map (t .nodes) _) ∙ a .1 .0 .1, each-fits node.the-field NodeFits (λ c vs h. node-fits c {vs = vs} h) (t .nodes) (a .0) (a .1 .1));
+      messages = (sym (length-map (t .messages) _) ∙ b .1 .0 .1, each-fits message.the-field MessageFits (λ m vs h. message-fits m {vs = vs} h) (t .messages) (b .0) (b .1 .1));
+      waiting = f .1 .1 .1 .0 .1;
+    }
