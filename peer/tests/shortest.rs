@@ -221,13 +221,109 @@ fn tables_are_shortened() {
     assert!(words.contains("cabinet 2 0 0 0 0 0 0 0 idle"), "{words}");
 }
 
-/// The fuzzer itself, for a moment: no difference in the right machine, and some in a wrong one.
+/// The fuzzer itself, for a moment: no difference in the right machine.
 #[test]
-fn fuzzer_tells_right_from_wrong() {
+fn fuzzer_finds_nothing_in_the_right_machine() {
     let mut fuzz = Fuzz::new(Own, 1);
     fuzz.go_on(Duration::from_millis(1500));
     assert_eq!(fuzz.tell(), 0);
-    let mut fuzz = Fuzz::new(Machine(takes_any_reply), 1);
+}
+
+/// "Emptying members before they are set aside: old members get no invitation."
+fn forgets_members(table: &mut Table, event: &Event) -> Result<(), u8> {
+    let before = table.clone();
+    step(table, event)?;
+    for (node, before) in table.nodes.iter_mut().zip(&before.nodes) {
+        if let (Activity::Inviting { former, .. }, true) =
+            (&mut node.activity, node.group != before.group)
+        {
+            *former = 0;
+        }
+    }
+    Ok(())
+}
+
+/// "Taking the task with the invitation": here it is 100.
+fn takes_task_early(table: &mut Table, event: &Event) -> Result<(), u8> {
+    let before = table.clone();
+    step(table, event)?;
+    for (node, before) in table.nodes.iter_mut().zip(&before.nodes) {
+        if node.coordinator != before.coordinator && node.status == Status::Election {
+            node.task = 100;
+        }
+    }
+    Ok(())
+}
+
+/// "Sending Ready on after a recovery, under the new group."
+fn hands_on_after_recovery(table: &mut Table, event: &Event) -> Result<(), u8> {
+    let before = table.clone();
+    step(table, event)?;
+    if let Expire(i) = *event {
+        let was = before.node(i).activity;
+        let node = &mut table.nodes[usize::from(i) - 1];
+        if let (Activity::Handing { rest, .. }, true) = (was, node.last_call < MAX_CALL) {
+            if rest != 0 && table.messages.len() < MAX_MESSAGES {
+                node.last_call += 1;
+                let receiver = rest.trailing_zeros() as u8 + 1;
+                let body = Body::Ready { group: node.group, task: before.node(i).task };
+                table.messages.push(Message { sender: i, receiver, call: node.last_call, body });
+            }
+        }
+    }
+    Ok(())
+}
+
+/// The wrong turnings and the impostors that document 01 names.
+#[test]
+fn fuzzer_finds_wrong_turnings_and_impostors() {
+    let machines: [(&str, fn(&mut Table, &Event) -> Result<(), u8>); 12] = [
+        ("clears the counter at a crash", clears_counter),
+        ("forgets the members", forgets_members),
+        ("takes the task early", takes_task_early),
+        ("hands on after a recovery", hands_on_after_recovery),
+        ("takes any reply", takes_any_reply),
+        ("turns every event away", |_, _| Err(9)),
+        ("returns the same table always", |table, event| step(&mut table.clone(), event)),
+        ("answers accepted and moves nothing", |_, _| Ok(())),
+        ("works on the first event and then idles", |table, event| {
+            if table.nodes.iter().all(|node| *node == Node::START) {
+                step(table, event)
+            } else {
+                Ok(())
+            }
+        }),
+        ("cries 12", |_, _| Err(12)),
+        ("cries 13", |_, _| Err(13)),
+        ("cries 14", |_, _| Err(14)),
+    ];
+    for (name, machine) in machines {
+        let mut fuzz = Fuzz::new(Machine(machine), 1);
+        fuzz.go_on(Duration::from_secs(60));
+        assert!(fuzz.tell() > 0, "{name}");
+    }
+}
+
+/// "one that prints a member count out of thin air"
+#[test]
+fn fuzzer_finds_wrong_count() {
+    struct Prints;
+    impl Library for Prints {
+        fn print(&self, list: &[u8], out: &mut [u8]) -> Option<usize> {
+            let length = Own.print(list, out)?;
+            if let Some(place) = length.checked_sub(14).filter(|&place| out[place] == b' ') {
+                out[place + 1] = b'7';
+            }
+            Some(length)
+        }
+        fn step(&self, table: &TableBytes, field: &[u8], out: &mut [u8]) -> u8 {
+            Own.step(table, field, out)
+        }
+        fn fold(&self, list: &[u8]) -> u32 {
+            Own.fold(list)
+        }
+    }
+    let mut fuzz = Fuzz::new(Prints, 1);
     fuzz.go_on(Duration::from_secs(60));
     assert!(fuzz.tell() > 0);
 }

@@ -15,8 +15,11 @@ use std::process::ExitCode;
 use std::time::{Duration, Instant};
 
 const ROUNDS: usize = 9;
-/// A round times each side for about this long.
-const SLICE: Duration = Duration::from_millis(60);
+/// How long a round takes.
+const ROUND: Duration = Duration::from_millis(120);
+
+/// The lists of the second part are as long as this, or a few bytes shorter.
+const LENGTHS: [usize; 7] = [1024, 2048, 4096, 8192, 16_384, 32_768, MAX_LIST];
 
 const MANNERS: [(&str, &Manner); 3] = [("quiet", &QUIET), ("busy", &FULL), ("refused", &REFUSED)];
 
@@ -81,24 +84,35 @@ fn bench(library: &impl Library, rounds: usize) -> (u32, u32) {
         "{:<6} {:<3} {:<8} {:>6} {:>6} {:>8} {:>8}  ratio",
         "", "n", "list", "bytes", "events", "proved", "peer"
     );
-    for (n, name, events) in long.iter().filter(|(n, name, _)| *n == 5 || *name == "busy") {
+    // In the refused lists more messages wait as the list goes on, so they tell less here.
+    let even = |n: u8, name: &str| name == "busy" || (name == "quiet" && n == 5);
+    for (n, name, events) in long.iter().filter(|(n, name, _)| even(*n, name)) {
         for what in ["print", "fold"] {
-            for limit in [1024, 2048, 4096, 8192, 16_384, 32_768, MAX_LIST] {
-                let list = cut(*n, events, limit);
-                if agree(library, &list, &mut out) {
+            let lists: Vec<Vec<u8>> = LENGTHS.iter().map(|&limit| cut(*n, events, limit)).collect();
+            for list in &lists {
+                if agree(library, list, &mut out) {
                     passed += 1;
                 } else {
                     failed += 1;
                     println!("n {n}, {name}, {} bytes: the answers differ", list.len());
                 }
-                let count = read_list(&list).map_or(0, |list| list.events.len());
-                let pair = rival(library, what, &list, &mut out, rounds.div_ceil(3));
+            }
+            // The lengths take turns, so that a slow moment of the machine meets them all.
+            let mut least = vec![(f64::INFINITY, f64::INFINITY); lists.len()];
+            for _ in 0..3 * rounds {
+                for (list, (proved, peer)) in lists.iter().zip(&mut least) {
+                    let pass = both(library, what, list, &mut out);
+                    (*proved, *peer) = (proved.min(pass.0), peer.min(pass.1));
+                }
+            }
+            for (list, (proved, peer)) in lists.iter().zip(&least) {
+                let count = read_list(list).map_or(0, |list| list.events.len());
                 println!(
-                    "{what:<6} {n:<3} {name:<8} {:>6} {count:>6} {:>8.1} {:>8.1}  {}",
+                    "{what:<6} {n:<3} {name:<8} {:>6} {count:>6} {:>8.1} {:>8.1}  {:.2}",
                     list.len(),
-                    pair.proved() / count as f64 * 1e9,
-                    pair.peer() / count as f64 * 1e9,
-                    pair.ratio_words()
+                    proved / count as f64 * 1e9,
+                    peer / count as f64 * 1e9,
+                    peer / proved
                 );
             }
         }
@@ -123,7 +137,7 @@ fn agree(library: &impl Library, list: &[u8], out: &mut [u8]) -> bool {
         && library.fold(list) == fold(list)
 }
 
-/// Seconds for one pass over a list, one for each round.
+/// Seconds for one pass over a list, the least of each round.
 struct Pair {
     proved: Vec<f64>,
     peer: Vec<f64>,
@@ -152,42 +166,55 @@ fn median(values: &[f64]) -> f64 {
     sorted[sorted.len() / 2]
 }
 
-/// Times both sides in turn; each goes first in every other round.
+/// Times both sides, one pass of each in turn, and takes the least time of each in a round.
 fn rival(library: &impl Library, what: &str, list: &[u8], out: &mut [u8], rounds: usize) -> Pair {
-    let mut proved = || {
-        if what == "print" {
-            black_box(library.print(black_box(list), out));
-        } else {
-            black_box(library.fold(black_box(list)));
-        }
-    };
-    let peer = || {
-        if what == "print" {
-            black_box(run_list(black_box(list)));
-        } else {
-            black_box(fold(black_box(list)));
-        }
-    };
     let mut pair = Pair { proved: Vec::new(), peer: Vec::new() };
-    for round in 0..rounds {
-        if round % 2 == 0 {
-            pair.proved.push(time(&mut proved));
-            pair.peer.push(time(peer));
-        } else {
-            pair.peer.push(time(peer));
-            pair.proved.push(time(&mut proved));
+    for _ in 0..rounds {
+        let (mut proved, mut peer) = (f64::INFINITY, f64::INFINITY);
+        let start = Instant::now();
+        while start.elapsed() < ROUND || proved == f64::INFINITY {
+            let pass = both(library, what, list, out);
+            (proved, peer) = (proved.min(pass.0), peer.min(pass.1));
         }
+        pair.proved.push(proved);
+        pair.peer.push(peer);
     }
     pair
 }
 
-/// Seconds for one pass, from as many as fill the slice.
-fn time(mut pass: impl FnMut()) -> f64 {
-    let start = Instant::now();
-    let mut passes = 0;
-    while start.elapsed() < SLICE || passes == 0 {
-        pass();
-        passes += 1;
+/// Seconds for one pass of each side.
+fn both(library: &impl Library, what: &str, list: &[u8], out: &mut [u8]) -> (f64, f64) {
+    if what == "print" {
+        (time(|| library.print(black_box(list), out)), time(|| run_list(black_box(list))))
+    } else {
+        (time(|| library.fold(black_box(list))), time(|| fold(black_box(list))))
     }
-    start.elapsed().as_secs_f64() / f64::from(passes)
+}
+
+/// Seconds of the processor's time for one pass.
+fn time<T>(pass: impl FnOnce() -> T) -> f64 {
+    let start = processor_time();
+    let answer = black_box(pass());
+    let seconds = processor_time() - start;
+    drop(answer);
+    seconds
+}
+
+/// How long this thread has run, in seconds. What other programs take is not in it.
+fn processor_time() -> f64 {
+    /// As Linux has it on x86-64, which the library is made for.
+    #[repr(C)]
+    struct Time {
+        seconds: i64,
+        nanoseconds: i64,
+    }
+    extern "C" {
+        fn clock_gettime(clock: i32, time: *mut Time) -> i32;
+    }
+    const THREAD: i32 = 3;
+    let mut time = Time { seconds: 0, nanoseconds: 0 };
+    // Safety: the system writes the time where it is told to.
+    let ended = unsafe { clock_gettime(THREAD, &mut time) };
+    assert_eq!(ended, 0, "the system tells no processor time");
+    time.seconds as f64 + time.nanoseconds as f64 * 1e-9
 }
