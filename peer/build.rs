@@ -25,6 +25,8 @@ fn main() {
     } else if named.is_some() {
         panic!("{VARIABLE} names no file: {}", archive.display());
     } else {
+        // Looks again in the next build, however old the archive is that it finds then.
+        println!("cargo:rerun-if-changed=no-such-file");
         println!(
             "cargo:warning=target/staticlib/libexports.a is missing: run `rt staticlib exports` \
              at the root of the repository, or set {VARIABLE} to the archive's path, and build again"

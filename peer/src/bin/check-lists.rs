@@ -17,8 +17,13 @@ fn main() -> ExitCode {
         eprintln!("check-lists DIR");
         return ExitCode::from(2);
     };
-    let read =
-        Proved::linked().and_then(|library| Ok((library, read_lists(Path::new(directory))?)));
+    let read = Proved::linked().and_then(|library| {
+        let cases = read_lists(Path::new(directory))?;
+        if cases.is_empty() {
+            return Err(format!("{directory}: no lists"));
+        }
+        Ok((library, cases))
+    });
     match read {
         Ok((library, cases)) => {
             let mut failed = 0;

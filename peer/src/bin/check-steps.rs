@@ -17,7 +17,11 @@ fn main() -> ExitCode {
     };
     let read = Proved::linked().and_then(|library| {
         let text = std::fs::read_to_string(file).map_err(|e| format!("{file}: {e}"))?;
-        Ok((library, read_steps(&text)?))
+        let cases = read_steps(&text)?;
+        if cases.is_empty() {
+            return Err(format!("{file}: no cases"));
+        }
+        Ok((library, cases))
     });
     match read {
         Ok((library, cases)) => {
