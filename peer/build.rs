@@ -21,6 +21,12 @@ fn main() {
         let name = archive.file_name().expect("a file has a name").to_string_lossy();
         println!("cargo:rustc-link-search=native={}", folder.display());
         println!("cargo:rustc-link-lib=static:+verbatim={name}");
+        // printing is a library of its own, beside it
+        let print = folder.join("libexports_print.a");
+        println!("cargo:rerun-if-changed={}", print.display());
+        if print.is_file() {
+            println!("cargo:rustc-link-lib=static:+verbatim=libexports_print.a");
+        }
         println!("cargo:rustc-cfg=proved");
     } else if named.is_some() {
         panic!("{VARIABLE} names no file: {}", archive.display());

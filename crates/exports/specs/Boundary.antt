@@ -15,20 +15,7 @@ use Rattle.machine.specs.Stepped.{Stepped}
 use Rattle.event_list.specs.Format.{Reading, Listed, failed, begun, reading}
 use Rattle.event_list.specs.declared.Next.{Next}
 use Rattle.event_list.specs.declared.Next.the-variants.{Done, Stopped, Got}
-use Rattle.listing.specs.declared.Put.{Put}
-use Rattle.listing.specs.declared.Put.the-variants as Put
-use Rattle.run_list.specs.Text.{Printed}
 use Rattle.table_bytes.specs.Bytes.{decoded, encoded, written}
-
--- the answer of printing as one number
-abbrev pub putExported : Put → ℕ
-putExported (Put.Next n) = n
-putExported Put.NoRoom = 18446744073709551615
-
-pub record PrintExported (l b o : List ℕ) (r : ℕ) : Type 0 where
-  pub put : Put
-  pub printed : Printed l b o put
-  pub number : r ≡ putExported put
 
 -- one event on the table of the bytes t: the outcome of the step, its answer as 01's number, and its table in bytes at the start of the buffer
 pub record EventExported (t : List ℕ) (e : Event) (b o : List ℕ) (r : ℕ) : Type 0 where

@@ -1,25 +1,13 @@
 // The functions that Rust or C can link, on numbers and byte slices. A slice crosses as a pointer and a length.
 use event_list::First;
 use event_list::Next;
-use listing::Put;
 use model::Table;
 ghost use mathlib.Core.Path.{_≡_};
 ghost use Prim.Native.Nat.{_≤_};
 ghost use lib.ListN.{length};
 ghost use Rattle.model.specs.State.{view};
 ghost use Rattle.event_list.specs.Format.{nextAt, rest};
-ghost use Rattle.exports.specs.Boundary.{PrintExported, StepExported, plusAccepted, acceptedFrom, acceptedIn};
-
-// The text of a list at the start of out, and its length; or the largest number where it does not fit (refusal 15).
-#[no_mangle]
-pub extern "C" fn nevraspu_print(list: &[u8], out: &mut [u8]) -> u64
-    ensures { λ r. ⌜ PrintExported (now (list .entry)) (now (out .entry)) (now (out .exit)) r ⌝ }
-{
-    match run_list::print(list, out) {
-        Put::Next(n) => n as u64,
-        Put::NoRoom => 18446744073709551615,
-    }
-}
+ghost use Rattle.exports.specs.Boundary.{StepExported, plusAccepted, acceptedFrom, acceptedIn};
 
 // One event, as a field of a list, on a table in bytes: 0 where it is accepted, or the number of its refusal; out gets the table after it.
 // 255 where the field is no event, or out has not the room of a table; out is then left as it is.

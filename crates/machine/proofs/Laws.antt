@@ -143,10 +143,10 @@ left-queue w k left l x = ⊎-elim (λ y. rw (← y .1) (without-last l left)) (
 pub left-few : (w k left : ℕ) → Left w k left → w ≤ 64 → left ≤ 64
 left-few w k left x h = ⊎-elim (λ y. omega arith) (λ y. omega arith) x
 
-nodes-set : (n at : ℕ) (l : List Node) (c : Node) → at < n → n ≤ length l → firstOf n startingNode (set l at c) ≡ set (firstOf n startingNode l) at c
+pub nodes-set : (n at : ℕ) (l : List Node) (c : Node) → at < n → n ≤ length l → firstOf n startingNode (set l at c) ≡ set (firstOf n startingNode l) at c
 nodes-set n at l c h k = rw (first-take n startingNode (set l at c) (simp length-set k), first-take n startingNode l k) (take-set-lt n l at c h)
 
-state-is : (n : ℕ) {xs ys : List Node} {q r : List Message} → xs ≡ ys → q ≡ r → _≡_ {A = State} (record { n = n; nodes = xs; queue = q }) (record { n = n; nodes = ys; queue = r })
+pub state-is : (n : ℕ) {xs ys : List Node} {q r : List Message} → xs ≡ ys → q ≡ r → _≡_ {A = State} (record { n = n; nodes = xs; queue = q }) (record { n = n; nodes = ys; queue = r })
 state-is n p q = cc
 
 -- ms: the messages once the one at k was taken out; c the node's new record

@@ -122,12 +122,12 @@ reaction-place s (Lose a b) m h = refl
 -- ── the first ground that applies ──
 
 -- the grounds' numbers are not 0
-abbrev Numbered : List Ground → Type 0
+abbrev pub Numbered : List Ground → Type 0
 Numbered [] = Unit {0}
 Numbered (g ∷ gs) = (1 ≤ g .number) × Numbered gs
 
 -- none applies in front
-first-clear : (xs ys : List Ground) → Numbered xs → first xs ≡ 0 → first (xs ++ ys) ≡ first ys
+pub first-clear : (xs ys : List Ground) → Numbered xs → first xs ≡ 0 → first (xs ++ ys) ≡ first ys
 unfolding first
 first-clear [] ys n h = refl
 first-clear (g ∷ gs) ys n h = by-applies (g .applies) refl (first-clear gs ys (n .1))
@@ -140,7 +140,7 @@ first-clear (g ∷ gs) ys n h = by-applies (g .applies) refl (first-clear gs ys 
     by-applies false a r = rw (a, pick-false) (r (rw (a, pick-false) at h))
 
 -- one applies in front
-first-met : (xs ys : List Ground) → 1 ≤ first xs → first (xs ++ ys) ≡ first xs
+pub first-met : (xs ys : List Ground) → 1 ≤ first xs → first (xs ++ ys) ≡ first xs
 unfolding first
 first-met [] ys h = absurd (none h)
   where

@@ -1,17 +1,18 @@
 -- What the inner functions compute: parts of the model's step, over one node, one message and numbers, or over the table's arrays.
-use Prim.Native.Nat.{ℕ, suc, _+_, _≤_, _<_}
+use Prim.Native.Nat.{ℕ, suc, _+_, _-_, _≤_, _<_}
 use mathlib.Core.Path.{_≡_}
 use mathlib.Core.Logic.{_⊎_}
 use mathlib.Core.Bool.{Bool, true, false, not, _&&_}
 use mathlib.Core.List.{List, [], _∷_, _++_}
-use lib.Dec.{eqb}
+use lib.Dec.{eqb, ltb}
 use lib.ListN.{length, take, drop, set}
 use Rattle.model.specs.Pick.{pick}
 use Rattle.model.specs.Limits.{nodeLimit, queueLimit, counterEnd, callEnd}
 use Rattle.model.specs.Procedures.{stays}
 use Rattle.model.specs.React.{react}
 use Rattle.model.specs.State.{State, goes}
-use Rattle.model.specs.Step.{wrongNumber, wrongTask, wrongStatus, wrongActivity, forms, isCalling, isSending, sent, Ground, ground}
+use Rattle.model.specs.Answers.{answerNumber}
+use Rattle.model.specs.Step.{actor, wrongNumber, wrongTask, wrongStatus, wrongActivity, forms, isCalling, isSending, sent, Ground, ground}
 use Rattle.model.specs.declared.Node.{Node}
 use Rattle.model.specs.declared.Message.{Message}
 use Rattle.model.specs.declared.Outgoing.{Outgoing}
@@ -19,7 +20,10 @@ use Rattle.model.specs.declared.Outgoing.the-variants.{Nothing, Send}
 use Rattle.model.specs.declared.Reaction.{Reaction}
 use Rattle.model.specs.declared.Answer.{Answer}
 use Rattle.model.specs.declared.Answer.the-variants.{Accepted, NotInRange, WrongNumber, WrongTask, WrongStatus, WrongActivity, NoMessage, CounterAtEnd, CallsAtEnd, QueueFull}
+use Rattle.model.specs.declared.Input.{Input}
 use Rattle.model.specs.declared.Input.the-variants as Input
+use Rattle.node_step.specs.Fits.{Fits}
+use Rattle.machine.specs.declared.Verdict.{Verdict}
 use Rattle.model.specs.declared.Event.{Event}
 use Rattle.model.specs.declared.Event.the-variants.{Crash, Recover, Check, Timeout, Tick, Expire, Finish, Deliver, Lose}
 
@@ -130,6 +134,29 @@ reactsTo n c m (Finish i t) = react n i c (Input.Finish t)
 reactsTo n c m (Deliver a b) = react n b c (Input.Receive m)
 reactsTo n c m (Lose a b) = stays c
 
+-- the same in two parts: what the node is told, and whether it is told nothing
+abbrev pub inputOf : Message → Event → Input
+inputOf m (Crash i) = Input.Crash
+inputOf m (Recover i) = Input.Recover
+inputOf m (Check i) = Input.Check
+inputOf m (Timeout i) = Input.Timeout
+inputOf m (Tick i) = Input.Tick
+inputOf m (Expire i) = Input.Expire
+inputOf m (Finish i t) = Input.Finish t
+inputOf m (Deliver a b) = Input.Receive m
+inputOf m (Lose a b) = Input.Receive m
+
+abbrev pub loses : Event → Bool
+loses (Crash i) = false
+loses (Recover i) = false
+loses (Check i) = false
+loses (Timeout i) = false
+loses (Tick i) = false
+loses (Expire i) = false
+loses (Finish i t) = false
+loses (Deliver a b) = false
+loses (Lose a b) = true
+
 -- the message's sender can be put into a set, where the event acts on the message
 abbrev pub FitsMessage : Message → Event → Type 0
 FitsMessage m (Crash i) = Unit {0}
@@ -141,3 +168,23 @@ FitsMessage m (Expire i) = Unit {0}
 FitsMessage m (Finish i t) = Unit {0}
 FitsMessage m (Deliver a b) = (1 ≤ m .sender) × (m .sender ≤ nodeLimit)
 FitsMessage m (Lose a b) = Unit {0}
+
+-- ── the judgement of an event, by the node's record c, the message m at place k, and how many wait ──
+
+-- how many wait once the event's own message is out
+abbrev pub leftOf : ℕ → ℕ → ℕ
+leftOf waiting k = pick (ltb k waiting) (waiting - 1) waiting
+
+abbrev pub allGrounds : ℕ → ℕ → ℕ → Node → Message → Event → List Ground
+allGrounds n waiting k c m e = numberGrounds n e ++ (stateGrounds c e (ltb k waiting) ++ endGrounds c (reactsTo n c m e) (leftOf waiting k))
+
+-- what the judgement needs where the grounds before it are clear
+pub record Judging (n waiting k : ℕ) (c : Node) (m : Message) (e : Event) : Type 0 where
+  pub node : first (numberGrounds n e) ≡ 0 → Fits (actor e) c
+  pub message : first (numberGrounds n e) ≡ 0 → first (stateGrounds c e (ltb k waiting)) ≡ 0 → FitsMessage m e
+
+pub record Judged (n waiting k : ℕ) (c : Node) (m : Message) (e : Event) (v : Verdict) : Type 0 where
+  -- the first ground's number, or 0
+  pub answer : answerNumber (v .answer) ≡ first (allGrounds n waiting k c m e)
+  -- what the node does, where none applies
+  pub reaction : answerNumber (v .answer) ≡ 0 → v .reaction ≡ reactsTo n c m e

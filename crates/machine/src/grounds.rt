@@ -1,12 +1,14 @@
 // The grounds of an event, and what its node does: functions over one node, one message and numbers.
 ghost use mathlib.Core.Path.{_≡_};
-ghost use mathlib.Core.Bool.{Bool, not, _&&_};
-ghost use Prim.Native.Nat.{ℕ, _≤_};
+ghost use mathlib.Core.Bool.{Bool, true, not, _&&_};
+ghost use Prim.Native.Nat.{ℕ, _-_, _≤_};
+ghost use Rattle.model.specs.Pick.{pick};
 ghost use Rattle.model.specs.Range.{isNode, isOther};
 ghost use Rattle.model.specs.Answers.{answerNumber};
 ghost use Rattle.model.specs.Step as spec;
 ghost use Rattle.machine.specs.Parts as parts;
 ghost use Rattle.node_step.specs.Fits.{Fits};
+use crate::Verdict;
 use model::Activity;
 use model::Answer;
 use model::Event;
@@ -201,20 +203,85 @@ pub fn is_accepted(a: Answer) -> bool
     }
 }
 
+// What the event's node is told; m is the message that a delivery acts on. A lose tells it nothing: `reacts_to` does not ask.
+fn input_of(m: Message, e: Event) -> Input
+    ensures { λ r. ⌜ r ≡ parts.inputOf m e ⌝ }
+{
+    match e {
+        Event::Crash(_) => Input::Crash,
+        Event::Recover(_) => Input::Recover,
+        Event::Check(_) => Input::Check,
+        Event::Timeout(_) => Input::Timeout,
+        Event::Tick(_) => Input::Tick,
+        Event::Expire(_) => Input::Expire,
+        Event::Finish(_, t) => Input::Finish(t),
+        Event::Deliver(_, _) => Input::Receive(m),
+        Event::Lose(_, _) => Input::Receive(m),
+    }
+}
+
+fn loses(e: Event) -> bool
+    ensures { λ r. ⌜ r ≡ parts.loses e ⌝ }
+{
+    match e {
+        Event::Crash(_) => false,
+        Event::Recover(_) => false,
+        Event::Check(_) => false,
+        Event::Timeout(_) => false,
+        Event::Tick(_) => false,
+        Event::Expire(_) => false,
+        Event::Finish(_, _) => false,
+        Event::Deliver(_, _) => false,
+        Event::Lose(_, _) => true,
+    }
+}
+
 // What the event's node does; c is its record, and m the message that a delivery acts on.
 pub fn reacts_to(n: u8, c: Node, m: Message, e: Event) -> Reaction
     requires { ⌜ Fits (spec.actor e) c × parts.FitsMessage m e ⌝ }
     ensures { λ r. ⌜ r ≡ parts.reactsTo n c m e ⌝ }
 {
-    match e {
-        Event::Crash(i) => node_step::react(n, i, c, Input::Crash),
-        Event::Recover(i) => node_step::react(n, i, c, Input::Recover),
-        Event::Check(i) => node_step::react(n, i, c, Input::Check),
-        Event::Timeout(i) => node_step::react(n, i, c, Input::Timeout),
-        Event::Tick(i) => node_step::react(n, i, c, Input::Tick),
-        Event::Expire(i) => node_step::react(n, i, c, Input::Expire),
-        Event::Finish(i, t) => node_step::react(n, i, c, Input::Finish(t)),
-        Event::Deliver(_, b) => node_step::react(n, b, c, Input::Receive(m)),
-        Event::Lose(_, _) => node_step::stays(c),
+    if loses(e) {
+        return node_step::stays(c);
+    }
+    node_step::react(n, actor(e), c, input_of(m, e))
+}
+
+// How many messages wait once the event's own, if it is found, is out.
+pub fn left_of(waiting: u8, found: bool) -> u8
+    requires { ⌜ (found ≡ true → 1 ≤ waiting) ⌝ }
+    ensures { λ r. ⌜ r ≡ pick found (waiting - 1) waiting ⌝ }
+{
+    if found {
+        return waiting - 1;
+    }
+    waiting
+}
+
+// The whole judgement of an event: c is its node's record, m the message at place k of the waiting ones.
+pub fn judge(n: u8, waiting: u8, k: usize, c: Node, m: Message, e: Event) -> Verdict
+    requires { ⌜ parts.Judging n waiting k c m e ⌝ }
+    ensures { λ v. ⌜ parts.Judged n waiting k c m e v ⌝ }
+{
+    let found = k < waiting as usize;
+    let numbers = number_answer(n, e);
+    if !is_accepted(numbers) {
+        return Verdict {
+            answer: numbers,
+            reaction: node_step::stays(c),
+        };
+    }
+    let state = state_answer(c, e, found);
+    if !is_accepted(state) {
+        return Verdict {
+            answer: state,
+            reaction: node_step::stays(c),
+        };
+    }
+    let r = reacts_to(n, c, m, e);
+    let ends = end_answer(c, r, left_of(waiting, found));
+    Verdict {
+        answer: ends,
+        reaction: r,
     }
 }

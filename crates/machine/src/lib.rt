@@ -5,12 +5,15 @@ mod range;
 
 ghost use mathlib.Core.Path.{_≡_};
 ghost use mathlib.Core.Bool.{true};
-ghost use Prim.Native.Nat.{ℕ, _-_, _≤_, _<_};
-ghost use lib.Dec.{ltb};
+ghost use Prim.Native.Nat.{ℕ, _≤_, _<_};
 ghost use lib.ListN.{replicate};
-ghost use Rattle.model.specs.Pick.{pick};
 ghost use Rattle.model.specs.State.{startingNode, view, inRange};
 ghost use Rattle.machine.specs.Stepped.{Stepped, Begun};
+pub use grounds::actor;
+pub use grounds::is_accepted;
+pub use grounds::judge;
+pub use grounds::sender;
+pub use grounds::takes;
 use model::Activity;
 use model::Answer;
 use model::CallNo;
@@ -19,6 +22,7 @@ use model::GroupNo;
 use model::Message;
 use model::Node;
 use model::Outcome;
+use model::Reaction;
 use model::Status;
 use model::Table;
 use model::TaskNo;
@@ -33,6 +37,12 @@ pub enum StartAnswer {
 pub struct Start {
     pub answer: StartAnswer,
     pub table: Table,
+}
+
+// What is answered to an event, and what its node does where it is accepted.
+pub struct Verdict {
+    pub answer: Answer,
+    pub reaction: Reaction,
 }
 
 fn blank(n: u8) -> Table
@@ -88,53 +98,27 @@ pub fn starting(n: u8) -> Start
     }
 }
 
-// How many messages wait once the event's own, if it is found, is out.
-fn left_of(waiting: u8, found: bool) -> u8
-    requires { ⌜ (found ≡ true → 1 ≤ waiting) ⌝ }
-    ensures { λ r. ⌜ r ≡ pick found (waiting - 1) waiting ⌝ }
-{
-    if found {
-        return waiting - 1;
-    }
-    waiting
-}
-
 // One event on a table that is in range: for loops that keep the range, so that it is not checked at every event.
 pub fn advance(t: Table, e: Event) -> Outcome
     requires { ⌜ inRange (view t) ≡ true ⌝ }
     ensures { λ r. ⌜ Stepped t e r ⌝ }
 {
     let n = t.n;
-    let numbers = grounds::number_answer(n, e);
-    if !grounds::is_accepted(numbers) {
-        return Outcome {
-            answer: numbers,
-            table: t,
-        };
-    }
     let waiting = t.waiting;
     let k = queue::place_for(t, e);
-    let found = k < waiting as usize;
-    let at = (grounds::actor(e) - 1) as usize;
-    let c = t.nodes[at];
-    let state = grounds::state_answer(c, e, found);
-    if !grounds::is_accepted(state) {
-        return Outcome {
-            answer: state,
-            table: t,
-        };
-    }
     let m = t.messages[k % 64];
-    let r = grounds::reacts_to(n, c, m, e);
-    let left = left_of(waiting, found);
-    let ends = grounds::end_answer(c, r, left);
-    if !grounds::is_accepted(ends) {
+    let at = (grounds::actor(e) as usize + 15) % 16;
+    let c = t.nodes[at];
+    let v = grounds::judge(n, waiting, k, c, m, e);
+    let answer = v.answer;
+    if !grounds::is_accepted(answer) {
         return Outcome {
-            answer: ends,
+            answer: answer,
             table: t,
         };
     }
-    let next = queue::stored(t, k, left, at, r);
+    let r = v.reaction;
+    let next = queue::stored(t, k, grounds::left_of(waiting, k < waiting as usize), at, r);
     Outcome {
         answer: Answer::Accepted,
         table: next,

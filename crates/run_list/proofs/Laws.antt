@@ -5,6 +5,7 @@ use mathlib.Core.Bool.{true, false}
 use mathlib.Core.List.{List, [], _∷_, _++_, append-assoc}
 use borrow.Author.Tests.{le-leb}
 use Rattle.model.specs.Limits.{nodeLimit}
+use Rattle.model.specs.Pick.{pick}
 use Rattle.model.specs.State.{State, start, wrongCount, inRange}
 use Rattle.model.specs.Step.{Result, refused, accepted, step, kept, after, runFrom}
 use Rattle.model.specs.Answers.{resultNumber}
@@ -50,6 +51,11 @@ module _ (l : List ℕ) (s : State) (at e : ℕ) {x : Next} (i : x ≡ nextAt l 
     left-got : left l s at e ≡ noteLines e r ++ left l u next (e + 1)
     unfolding refusedLines runFrom
     left-got = rw (rest-got l at i f, j, k) (append-assoc (noteLines e (resultNumber (step s v))) _ _)
+
+    -- one that is accepted prints nothing
+    pub left-quiet : r ≡ 0 → left l s at e ≡ left l u next (e + 1)
+    unfolding noteLines pick
+    left-quiet z = left-got ∙ rw z
 
     module _ (b o : List ℕ) (p : ℕ) (a : Put) (w : shown a o ≡ printed b p (noteLines e r)) where
       pub turn-next : (q : ℕ) → a ≡ Put.Next q → printed b p (left l s at e) ≡ printed o q (left l u next (e + 1))

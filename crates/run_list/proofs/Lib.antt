@@ -2,3 +2,4 @@ pub mod Laws
 pub mod Bound
 pub mod Behind
 pub mod NamedCases
+pub mod Turns

@@ -5,14 +5,16 @@ use event_list::Next;
 use event_list::Stop;
 use listing::Put;
 use model::Answer;
+use model::Event;
 use model::Table;
 ghost use mathlib.Core.Path.{_≡_};
 ghost use mathlib.Core.Bool.{true};
 ghost use mathlib.Core.List.{_∷_};
-ghost use Prim.Native.Nat.{_≤_};
+ghost use Prim.Native.Nat.{_+_, _%_, _≤_, _<_};
 ghost use lib.ListN.{length};
 ghost use Rattle.model.specs.Answers.{answerNumber};
 ghost use Rattle.model.specs.State.{view, inRange};
+ghost use Rattle.model.specs.Step.{actor};
 ghost use Rattle.event_list.specs.Format.{stopNumber, rest};
 ghost use Rattle.listing.specs.Lines.{stoppedLine, tableLines};
 ghost use Rattle.listing.specs.Printing.{shown, printed};
@@ -57,12 +59,21 @@ fn stop(out: &mut [u8], at: usize, b: u32, s: Stop, t: Table) -> Put
     }
 }
 
-// The events of list behind its first field, run from the table start, and all that is printed of them.
+// The place of the event's node, where its number is one of a node.
+fn seat(e: Event) -> usize
+    ensures { λ r. ⌜ (r ≡ (actor e + 15) % 16) × (r < 16) ⌝ }
+{
+    (machine::actor(e) as usize + 15) % 16
+}
+
+// The events of list behind its first field, run from the table start, in which no message waits, and all that is printed of them.
+// The table stands in this function's own local and its messages in q; the functions that it calls take a node, a message and numbers, so no table is copied.
 fn run(list: &[u8], out: &mut [u8], from: usize, start: Table) -> Put
-    requires { ⌜ (4 ≤ length (now list)) × (length (now list) ≤ 65536) × (inRange (view start) ≡ true) ⌝ }
+    requires { ⌜ (4 ≤ length (now list)) × (length (now list) ≤ 65536) × (inRange (view start) ≡ true) × (start .waiting ≡ 0) ⌝ }
     ensures { λ a. ⌜ shown a (now (out .exit)) ≡ printed (now (out .entry)) from (runLines (view start) 1 (rest (now (list .entry)) 4)) ⌝ }
 {
     let mut t = start;
+    let mut q = packed::none();
     let mut at: usize = 4;
     let mut e: u32 = 1;
     let mut p = from;
@@ -71,16 +82,28 @@ fn run(list: &[u8], out: &mut [u8], from: usize, start: Table) -> Put
             Next::Done => return listing::put_table(out, p, t),
             Next::Stopped(s) => return stop(out, p, at as u32, s, t),
             Next::Got(event, next) => {
-                let o = machine::advance(t, event);
-                let answer = o.answer;
+                let waiting = t.waiting;
+                let i = seat(event);
+                let c = t.nodes[i];
+                let ruling = packed::rule(&q, t.n, waiting, c, event);
+                let verdict = ruling.verdict;
+                let answer = verdict.answer;
+                if machine::is_accepted(answer) {
+                    let reaction = verdict.reaction;
+                    let node = reaction.node;
+                    let outgoing = reaction.outgoing;
+                    t.nodes[i] = node;
+                    t.waiting = packed::exchange(&mut q, ruling.place, waiting, outgoing);
+                    at = next;
+                    e += 1;
+                    continue;
+                }
                 match note(out, p, e, answer) {
                     Put::NoRoom => return Put::NoRoom,
-                    Put::Next(q) => {
-                        p = q;
+                    Put::Next(w) => {
+                        p = w;
                     }
                 }
-                let after = o.table;
-                t = after;
                 at = next;
                 e += 1;
             }

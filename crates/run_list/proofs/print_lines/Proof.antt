@@ -7,6 +7,7 @@ use Rattle.model.specs.State.{start}
 use Rattle.event_list.proofs.Reading.{first-good}
 use Rattle.listing.proofs.Printing.{then-next, then-refused}
 use Rattle.run_list.proofs.Laws.{left, lines-failed, lines-begun, count-right, start-in-range}
+use Rattle.run_list.proofs.Turns.{start-empty}
 use Rattle.run_list.proofs.print_lines.Statement.{statement}
 use Rattle.run_list.proofs.print_lines.Tie as tie
 
@@ -17,7 +18,8 @@ run-requires c κs =
     let l = now (f .before .before .before .args .list) in
     let i = f .first-of .ensures in
     let g = first-good l i (m .n .given .1) in
-    (g .0, g .1, rw (c .before .before .starting .ensures .table (count-right l i (m .n .given .1))) (start-in-range l i (m .n .given .1)))
+    let b = c .before .before .starting .ensures .table (count-right l i (m .n .given .1)) in
+    (g .0, g .1, rw b (start-in-range l i (m .n .given .1)), start-empty _ _ b)
 
 returns : tie.Need-returns
 returns c =

@@ -1,28 +1,37 @@
--- `run_list::run` meets its contract. The invariant: the table is in range, and what is left, printed from p on, is all of it printed from the start.
+-- `run_list::run` meets its contract. The invariant: the table, with its messages as words, is in range, and what is left, printed from p on, is all of it
+-- printed from the start.
 use borrow.Author.Needs.{needs}
-use Prim.Native.Nat.{_≤_, _-_}
+use borrow.Author.Tests.{not-true}
+use Prim.Native.Nat.{ℕ, _≤_, _-_}
 use native.Mathlib.Omega.{arith}
 use denote.Ref.{now}
-use mathlib.Core.Path.{_≡_, refl, sym, _∙_}
+use mathlib.Core.Path.{_≡_, refl, sym, _∙_, ap}
 use mathlib.Core.Bool.{true}
-use lib.ListN.{length}
+use mathlib.Core.List.{List}
+use lib.ListN.{length, length-set}
 use Rattle.model.specs.State.{view, inRange}
+use Rattle.machine.proofs.Laws.{sized}
 use Rattle.event_list.proofs.Reading.{next-past}
-use Rattle.listing.specs.Printing.{printed}
-use Rattle.run_list.proofs.Laws.{after-in-range, left, left-done, left-stopped, turn-next, turn-refused}
+use Rattle.listing.specs.Printing.{Print, printed}
+use Rattle.run_list.proofs.Laws.{after-in-range, left, left-done, left-stopped, left-quiet, turn-next, turn-refused}
+use Rattle.run_list.proofs.Turns.{seen, same-lines, same-start, Ready, few, rulable, refused-turn, has-room, accepted-turn}
 use Rattle.run_list.proofs.run.Statement.{statement}
 use Rattle.run_list.proofs.run.Tie as tie
 
 abbrev Inv-loop : tie.InvT-loop
-Inv-loop list out₀ from t₀ at₀ e₀ p₀ out t at e p =
-    (e ≤ at) × (at ≤ length list) × (inRange (view t) ≡ true) × (length out ≡ length out₀) × (printed out p (left list (view t) at e) ≡ printed out₀ from (left list (view t₀) 4 1))
+Inv-loop list out₀ from t₀ q₀ at₀ e₀ p₀ out t q at e p =
+    (e ≤ at) × (at ≤ length list) × Ready t q × (length out ≡ length out₀) × (printed out p (left list (seen t q) at e) ≡ printed out₀ from (left list (view t₀) 4 1))
 
 -- An event takes at least four bytes.
 abbrev μ-loop : tie.MeasureT-loop
-μ-loop list out₀ from t₀ at₀ e₀ p₀ out t at e p = length list - at
+μ-loop list out₀ from t₀ q₀ at₀ e₀ p₀ out t q at e p = length list - at
 
 loop-holds : tie.Need-loop-holds Inv-loop μ-loop
-loop-holds c = (omega arith, c .before .before .pre .0, c .before .before .pre .2, refl, refl)
+loop-holds c =
+    let o = c .before .before .before in
+    let s = o .args in
+    let same = same-start (s .start) (c .none .result) (o .pre .3) in
+    (omega arith, o .pre .0, record { words = c .none .ensures; nodes = sized (s .start) (o .good .1 .1 .1 .0) .nodes; range = rw same (o .pre .2) }, refl, rw same)
 
 -- the list's end
 returns : tie.Need-returns Inv-loop μ-loop
@@ -31,8 +40,8 @@ returns c =
     let m = k .before .before in
     let v = m .before .before in
     let l = v .before .loop in
-    let s = v .before .before .before .before .args in
-    k .put-table .ensures ∙ rw (← left-done (now (s .list)) (view (l .t)) (l .at) (l .e) (v .event-at .ensures) (m .enum-told .given .1)) (l .inv .4)
+    let s = v .before .before .before .before .before .args in
+    k .put-table .ensures ∙ rw (same-lines (l .t) (l .q), ← left-done (now (s .list)) (seen (l .t) (l .q)) (l .at) (l .e) (v .event-at .ensures) (m .enum-told .given .1)) (l .inv .4)
 
 -- a refusal of the list
 returns-2 : tie.Need-returns-2 Inv-loop μ-loop
@@ -41,50 +50,108 @@ returns-2 c =
     let m = k .before .before .before in
     let v = m .before .before in
     let l = v .before .loop in
-    let s = v .before .before .before .before .args in
-    k .stop .ensures ∙ rw (← left-stopped (now (s .list)) (view (l .t)) (l .at) (l .e) (v .event-at .ensures) (m .s .given .1)) (l .inv .4)
+    let s = v .before .before .before .before .before .args in
+    k .stop .ensures ∙ rw (same-lines (l .t) (l .q), ← left-stopped (now (s .list)) (seen (l .t) (l .q)) (l .at) (l .e) (v .event-at .ensures) (m .s .given .1)) (l .inv .4)
 
--- an event whose line has no room
-returns-3 : tie.Need-returns-3 Inv-loop μ-loop
-returns-3 c =
-    let w = c .before .before .before .before in
-    let o = w .before .before in
-    let m = o .before .before in
-    let v = m .before .before in
-    let l = v .before .loop in
-    let s = v .before .before .before .before .args in
-    let a = o .advance .ensures in
-    sym
-    (turn-refused (now (s .list)) (view (l .t)) (l .at) (l .e) (v .event-at .ensures) (m .event .given .1) _ (a .answer) _ (a .table) _ _ _ _ (w .note .ensures) (c .enum-told2 .given .1))
-    ∙ l .inv .4
+rule-requires : tie.Need-rule-requires Inv-loop μ-loop
+rule-requires c κs =
+    let a = c .before .before in
+    let m = a .before .before in
+    let l = m .before .before .before .loop in
+    let h = l .inv .2 in
+    let e = m .event .given .0 .0 in
+    (h .words, few (l .t) (l .q) h e, rulable (l .t) (l .q) h e _ (a .seat .ensures .0) _)
+
+-- an event that is accepted
+exchange-requires : tie.Need-exchange-requires Inv-loop μ-loop
+exchange-requires c κs =
+    let i = c .before .before .before in
+    let r = i .before .before .before in
+    let a = r .before .before .before in
+    let m = a .before .before in
+    let l = m .before .before .before .loop in
+    let h = l .inv .2 in
+    let yes = sym (i .before .is-accepted .ensures) ∙ i .if1 .taken in
+    (h .words, few (l .t) (l .q) h (m .event .given .0 .0), r .rule .ensures .reach, has-room (l .t) (l .q) h _ _ (a .seat .ensures .0) _ _ (r .rule .ensures) yes)
 
 loop-less : tie.Need-loop-less Inv-loop μ-loop
 loop-less c =
-    let o = c .before .before .before .before .before .before .before .before in
-    let m = o .before .before in
+    let m = c .before .before .before .before .before .before .before .before .before .before .before .before in
     let v = m .before .before in
     let l = v .before .loop in
-    let s = v .before .before .before .before .args in
-    let z = next-past (now (s .list)) (l .at) (v .event-at .ensures) (m .event .given .1) in
+    let z = next-past (now (v .before .before .before .before .before .args .list)) (l .at) (v .event-at .ensures) (m .event .given .1) in
     omega arith
 
 loop-again : tie.Need-loop-again Inv-loop μ-loop
 loop-again c =
-    let w = c .before .before .before .before .before .before in
-    let o = w .before .before in
-    let m = o .before .before in
+    let i = c .before .before .before .before in
+    let r = i .before .before .before in
+    let a = r .before .before .before in
+    let m = a .before .before in
     let v = m .before .before in
     let l = v .before .loop in
-    let s = v .before .before .before .before .args in
-    let a = o .advance .ensures in
-    let z = next-past (now (s .list)) (l .at) (v .event-at .ensures) (m .event .given .1) in (
+    let list = now (v .before .before .before .before .before .args .list) in
+    let h = l .inv in
+    let x = c .exchange .ensures in
+    let t = accepted-turn (l .t) (l .q) (h .2) _ _ (a .seat .ensures .0) _ _ (r .rule .ensures) (sym (i .before .is-accepted .ensures) ∙ i .if1 .taken) _ _ (x .2) in
+    let z = next-past list (l .at) (v .event-at .ensures) (m .event .given .1) in
+    let low = h .0 in (
       omega arith,
       z .1,
-      rw (a .table) (after-in-range (view (l .t)) _ (l .inv .2)),
+      record { words = x .0; nodes = simp length-set (h .2 .nodes); range = ap inRange (t .1) ∙ after-in-range (seen (l .t) (l .q)) _ (h .2 .range) },
+      h .3,
+      ap (printed (l .out) (l .p)) (sym (left-quiet list (seen (l .t) (l .q)) (l .at) (l .e) (v .event-at .ensures) (m .event .given .1) 0 (t .0) _ (t .1) refl)) ∙ h .4,
+    )
+
+-- an event that is refused: its line has no room, or stands there
+returns-3 : tie.Need-returns-3 Inv-loop μ-loop
+returns-3 c =
+    let w = c .before .before .before .before in
+    let i = w .before .before in
+    let r = i .before .before .before in
+    let a = r .before .before .before in
+    let m = a .before .before in
+    let v = m .before .before in
+    let l = v .before .loop in
+    let list = now (v .before .before .before .before .before .args .list) in
+    let t = refused-turn (l .t) (l .q) (l .inv .2) _ _ (a .seat .ensures .0) _ _ (r .rule .ensures) (sym (i .before .is-accepted .ensures) ∙ i .if1 .left) in
+    sym
+    (turn-refused list (seen (l .t) (l .q)) (l .at) (l .e) (v .event-at .ensures) (m .event .given .1) _ (t .0) _ (t .1) _ _ _ _ (w .note .ensures) (c .enum-told2 .given .1))
+    ∙ l .inv .4
+
+-- what `search` needs stands too far back for it
+add-e-2 : tie.Need-add-e-2 Inv-loop μ-loop
+add-e-2 c = let z = c .before .before .before .before .before .before .before .before .before .before .before .before .before .before .before .before .before .before .before .before .before .before .pre .1 in search needs
+
+loop-less-2 : tie.Need-loop-less-2 Inv-loop μ-loop
+loop-less-2 c =
+    let m = c .before .before .before .before .before .before .before .before .before .before .before .before .before .before .before in
+    let v = m .before .before in
+    let l = v .before .loop in
+    let z = next-past (now (v .before .before .before .before .before .args .list)) (l .at) (v .event-at .ensures) (m .event .given .1) in
+    omega arith
+
+loop-again-2 : tie.Need-loop-again-2 Inv-loop μ-loop
+loop-again-2 c =
+    let w = c .before .before .before .before .before in
+    let i = w .before .before in
+    let r = i .before .before .before in
+    let a = r .before .before .before in
+    let m = a .before .before in
+    let v = m .before .before in
+    let l = v .before .loop in
+    let list = now (v .before .before .before .before .before .args .list) in
+    let h = l .inv in
+    let t = refused-turn (l .t) (l .q) (h .2) _ _ (a .seat .ensures .0) _ _ (r .rule .ensures) (sym (i .before .is-accepted .ensures) ∙ i .if1 .left) in
+    let z = next-past list (l .at) (v .event-at .ensures) (m .event .given .1) in
+    let low = h .0 in (
+      omega arith,
+      z .1,
+      h .2,
       search needs,
       sym
-          (turn-next (now (s .list)) (view (l .t)) (l .at) (l .e) (v .event-at .ensures) (m .event .given .1) _ (a .answer) _ (a .table) _ _ _ _ (w .note .ensures) _ (c .before .before .q .given .1))
-          ∙ l .inv .4,
+          (turn-next list (seen (l .t) (l .q)) (l .at) (l .e) (v .event-at .ensures) (m .event .given .1) _ (t .0) _ (t .1) _ _ _ _ (w .note .ensures) _ (c .before .w .given .1))
+          ∙ h .4,
     )
 
 pub run-spec : {M : Type 1} → statement M
@@ -93,6 +160,7 @@ run-spec =
     (tie.spec
     Inv-loop
     μ-loop
+    (λ c κs. search needs)
     loop-holds
     (λ c κs. search needs)
     (λ c. search needs)
@@ -106,11 +174,21 @@ run-spec =
     returns-2
     (λ c. search needs)
     (λ c κs. search needs)
+    (λ c. search needs)
+    (λ c. search needs)
+    rule-requires
+    (λ c κs. search needs)
+    (λ c. search needs)
+    (λ c. search needs)
+    exchange-requires
+    (λ c. search needs)
+    loop-less
+    loop-again
     (λ c κs. search needs)
     (λ c. search needs)
     (λ c. search needs)
     returns-3
     (λ c. search needs)
-    (λ c. search needs)
-    loop-less
-    loop-again)
+    add-e-2
+    loop-less-2
+    loop-again-2)

@@ -2,8 +2,8 @@
 use borrow.Author.Needs.{needs}
 use native.Mathlib.Omega.{arith}
 use Rattle.model.specs.Pick.{pick}
-use Rattle.machine.proofs.left_of.Statement.{statement}
-use Rattle.machine.proofs.left_of.Tie as tie
+use Rattle.machine.proofs.grounds.left_of.Statement.{statement}
+use Rattle.machine.proofs.grounds.left_of.Tie as tie
 
 pub left-of-spec : {M : Type 1} → statement M
 unfolding pick

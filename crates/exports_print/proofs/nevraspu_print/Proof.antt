@@ -1,9 +1,9 @@
 -- `nevraspu_print` meets its contract: the answer of `print`, as a number.
 use borrow.Author.Needs.{needs}
 use mathlib.Core.Path.{_≡_, refl, sym, _∙_, ap}
-use Rattle.exports.specs.Boundary.{putExported}
-use Rattle.exports.proofs.nevraspu_print.Statement.{statement}
-use Rattle.exports.proofs.nevraspu_print.Tie as tie
+use Rattle.exports_print.specs.Boundary.{putExported}
+use Rattle.exports_print.proofs.nevraspu_print.Statement.{statement}
+use Rattle.exports_print.proofs.nevraspu_print.Tie as tie
 
 returns : tie.Need-returns
 returns c =

@@ -1,0 +1,38 @@
+-- `place_for` meets its contract, by the event.
+use borrow.Author.Needs.{needs}
+use native.Mathlib.Nat.{le-refl}
+use Prim.Native.Nat.{ℕ}
+use mathlib.Core.Bool.{true, false}
+use mathlib.Core.Path.{_≡_, sym, _∙_, ap₂}
+use denote.Ref.{now}
+use Rattle.model.specs.State.{noMessage}
+use Rattle.machine.specs.Parts.{place, takes}
+use Rattle.packed.specs.Packed.{held, queue}
+use Rattle.machine.proofs.Laws.{first-length}
+use Rattle.machine.proofs.Parts.{place-taken, place-none}
+use Rattle.packed.proofs.place_for.Statement.{statement}
+use Rattle.packed.proofs.place_for.Tie as tie
+
+returns : tie.Need-returns
+returns c =
+    let o = c .before .before .before .before .before in
+    let q = queue (now (o .args .q)) (o .args .waiting) in
+    let e = o .args .e in
+    let k : takes e ≡ true = sym (c .before .before .before .before .takes .ensures) ∙ c .before .before .before .if1 .taken in (
+      c .find .ensures .0
+          ∙ ap₂ (λ (a b : ℕ). place a b q) (c .before .before .sender .ensures) (c .before .actor .ensures)
+          ∙ sym (place-taken q e k),
+      c .find .ensures .1,
+    )
+
+returns-2 : tie.Need-returns-2
+returns-2 c =
+    let o = c .before .before in
+    let q = queue (now (o .args .q)) (o .args .waiting) in
+    let k : takes (o .args .e) ≡ false = sym (c .before .takes .ensures) ∙ c .if1 .left in
+    (sym (place-none q (o .args .e) k ∙ first-length (o .args .waiting) noMessage (held (now (o .args .q)))), le-refl _)
+
+pub place-for-spec : {M : Type 1} → statement M
+place-for-spec =
+    tie.close
+    (tie.spec (λ c κs. search needs) (λ c κs. search needs) (λ c κs. search needs) (λ c κs. search needs) returns returns-2)
