@@ -26,7 +26,7 @@ pub extern "C" fn nevraspu_step(table: &[u8], field: &[u8], out: &mut [u8]) -> u
             let next = o.table;
             let answer = o.answer;
             table_bytes::encode(next, out);
-            run_list::answer_number(answer)
+            machine::answer_number(answer)
         }
     }
 }
@@ -56,7 +56,7 @@ fn fold_from(list: &[u8], start: Table) -> u32
             Next::Got(event, next) => {
                 let o = machine::step(t, event);
                 let answer = o.answer;
-                count = counted(count, run_list::answer_number(answer));
+                count = counted(count, machine::answer_number(answer));
                 let after = o.table;
                 t = after;
                 at = next;

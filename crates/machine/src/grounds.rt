@@ -203,6 +203,24 @@ pub fn is_accepted(a: Answer) -> bool
     }
 }
 
+// The number of an answer; 0 where the event is accepted.
+pub fn answer_number(a: Answer) -> u8
+    ensures { λ r. ⌜ r ≡ answerNumber a ⌝ }
+{
+    match a {
+        Answer::Accepted => 0,
+        Answer::NotInRange => 1,
+        Answer::WrongNumber => 7,
+        Answer::WrongTask => 8,
+        Answer::WrongStatus => 9,
+        Answer::WrongActivity => 10,
+        Answer::NoMessage => 11,
+        Answer::CounterAtEnd => 12,
+        Answer::CallsAtEnd => 13,
+        Answer::QueueFull => 14,
+    }
+}
+
 // What the event's node is told; m is the message that a delivery acts on. A lose tells it nothing: `reacts_to` does not ask.
 fn input_of(m: Message, e: Event) -> Input
     ensures { λ r. ⌜ r ≡ parts.inputOf m e ⌝ }

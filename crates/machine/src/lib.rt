@@ -10,6 +10,7 @@ ghost use lib.ListN.{replicate};
 ghost use Rattle.model.specs.State.{startingNode, view, inRange};
 ghost use Rattle.machine.specs.Stepped.{Stepped, Begun};
 pub use grounds::actor;
+pub use grounds::answer_number;
 pub use grounds::is_accepted;
 pub use grounds::judge;
 pub use grounds::sender;

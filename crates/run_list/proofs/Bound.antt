@@ -148,12 +148,12 @@ module _ (l b o : List ℕ) (a : Put) (e : Printed l b o a) (h : textLimit ≤ l
   answered : a ≡ Put.Next (length (textOf l))
   answered = rw (le-leb _ _ fits, pick-true) at (e .answer)
 
-  pub whole-next : (n : ℕ) → a ≡ Put.Next n → Whole l o n
+  pub whole-next : (n : ℕ) → a ≡ Put.Next n → Whole l b o n
   whole-next n f =
       let m : n ≡ length (textOf l) = (let k = sym f ∙ answered in cc) in
       let y : take n o ≡ textOf l = rw (m, e .whole fits) (take-append-seam (textOf l) (drop (length (textOf l)) b)) in
       let z : length o ≡ length b = rw (e .whole fits) (simp (length-append, length-drop) (omega (arith, fits))) in
-      record { size = m; bytes = y; within = omega (arith, fits); counted = rw y m }
+      record { size = m; bytes = rw m (e .whole fits); within = omega (arith, fits); counted = rw y m }
 
   pub never-refused : a ≡ Put.NoRoom → ⊥
   never-refused f = let k = sym f ∙ answered in let z : _≡_ {A = ℕ} 0 1 = cc in omega arith

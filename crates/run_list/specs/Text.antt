@@ -9,11 +9,14 @@ use Rattle.model.specs.State.{State, start}
 use Rattle.model.specs.Step.{step, after, runFrom}
 use Rattle.model.specs.Answers.{resultNumber}
 use Rattle.model.specs.declared.Event.{Event}
-use Rattle.event_list.specs.Format.{stopNumber, Ending, complete, stopped, Reading, Listed, failed, begun, reading}
+use Rattle.event_list.specs.declared.First.the-variants.{Nodes}
+use Rattle.event_list.specs.Format.{firstOf, rest, stopNumber, Ending, complete, stopped, Reading, Listed, failed, begun, reading}
 use Rattle.listing.specs.Lines.{cabinetsLine, refusedLine, stoppedLine, tableLines}
 use Rattle.listing.specs.Printing.{shown, printed, joined}
 use Rattle.listing.specs.declared.Put.{Put}
 use Rattle.listing.specs.declared.Put.the-variants.{Next, NoRoom}
+use Rattle.run_list.specs.declared.Heading.{Heading}
+use Rattle.run_list.specs.declared.Heading.the-variants as Heading
 
 -- "for each event refused `refused e r`": event e with the number r, which is 0 where it is accepted
 unfoldable pub noteLines : ℕ → ℕ → List (List ℕ)
@@ -61,10 +64,23 @@ pub record Printed (l b o : List ℕ) (a : Put) : Type 0 where
 abbrev pub textLimit : ℕ
 textLimit = 12 + 17 * 16384 + (34 * 16 + 12)
 
--- What printing the list l into a buffer of that size answers, r, and leaves there, o: its first r bytes are the text.
-pub record Whole (l o : List ℕ) (r : ℕ) : Type 0 where
+-- What printing the list l into a buffer of that size answers, r, and leaves there, o: the text, and behind it what was there, b.
+pub record Whole (l b o : List ℕ) (r : ℕ) : Type 0 where
   pub size : r ≡ length (textOf l)
-  pub bytes : take r o ≡ textOf l
+  pub bytes : o ≡ textOf l ++ drop r b
   -- so r counts bytes of the buffer, as writing them out asks
   pub within : r ≤ length o
   pub counted : r ≡ length (take r o)
+
+-- The list l is good up to its first field, which says n, and what is printed behind that field's line, from the offset p of the buffer o on, is the rest
+-- of what is printed into b.
+pub record Follows (l b o : List ℕ) (n p : ℕ) : Type 0 where
+  pub first : firstOf l ≡ Nodes n
+  pub rest-of : printed o p (runLines (start n) 1 (rest l 4)) ≡ printed b 0 (linesOf l)
+
+-- What the first line of the list l leaves in the buffer, o, where b was before.
+abbrev pub Headed : List ℕ → List ℕ → List ℕ → Heading → Type 0
+-- there are no more lines, or there was no room
+Headed l b o (Heading.Ended a) = shown a o ≡ printed b 0 (linesOf l)
+-- the lines of a run come next
+Headed l b o (Heading.Nodes n p) = Follows l b o n p

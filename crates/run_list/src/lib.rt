@@ -18,31 +18,38 @@ ghost use Rattle.model.specs.Step.{actor};
 ghost use Rattle.event_list.specs.Format.{stopNumber, rest};
 ghost use Rattle.listing.specs.Lines.{stoppedLine, tableLines};
 ghost use Rattle.listing.specs.Printing.{shown, printed};
-ghost use Rattle.run_list.specs.Text.{noteLines, runLines, linesOf, Printed, Whole};
+ghost use Rattle.run_list.specs.Text.{noteLines, runLines, linesOf, Printed, Headed, Whole};
 
-// The number of an answer; 0 where the event is accepted.
-pub fn answer_number(a: Answer) -> u8
-    ensures { λ r. ⌜ r ≡ answerNumber a ⌝ }
+// What is printed before the first event: all of it, where the first field failed or a line has no room; or the line of n nodes, behind which
+// what comes next is printed from the offset on.
+pub enum Heading {
+    Ended(Put),
+    Nodes(u8, usize),
+}
+
+// The first line of list's text, written into out from its start.
+pub fn put_heading(list: &[u8], out: &mut [u8]) -> Heading
+    ensures { λ h. ⌜ Headed (now (list .entry)) (now (out .entry)) (now (out .exit)) h ⌝ }
 {
-    match a {
-        Answer::Accepted => 0,
-        Answer::NotInRange => 1,
-        Answer::WrongNumber => 7,
-        Answer::WrongTask => 8,
-        Answer::WrongStatus => 9,
-        Answer::WrongActivity => 10,
-        Answer::NoMessage => 11,
-        Answer::CounterAtEnd => 12,
-        Answer::CallsAtEnd => 13,
-        Answer::QueueFull => 14,
+    match event_list::first_of(list) {
+        First::Stopped(s) => Heading::Ended(listing::put_stopped(
+            out,
+            0,
+            0,
+            event_list::stop_number(s),
+        )),
+        First::Nodes(n) => match listing::put_cabinets(out, 0, n) {
+            Put::NoRoom => Heading::Ended(Put::NoRoom),
+            Put::Next(at) => Heading::Nodes(n, at),
+        },
     }
 }
 
 // The line of event e, where it is refused.
-fn note(out: &mut [u8], at: usize, e: u32, answer: Answer) -> Put
+pub fn note(out: &mut [u8], at: usize, e: u32, answer: Answer) -> Put
     ensures { λ a. ⌜ shown a (now (out .exit)) ≡ printed (now (out .entry)) at (noteLines e (answerNumber answer)) ⌝ }
 {
-    let r = answer_number(answer);
+    let r = machine::answer_number(answer);
     if r == 0 {
         return Put::Next(at);
     }
@@ -50,7 +57,7 @@ fn note(out: &mut [u8], at: usize, e: u32, answer: Answer) -> Put
 }
 
 // The line of a list that stopped at b, and the table.
-fn stop(out: &mut [u8], at: usize, b: u32, s: Stop, t: Table) -> Put
+pub fn stop(out: &mut [u8], at: usize, b: u32, s: Stop, t: Table) -> Put
     ensures { λ a. ⌜ shown a (now (out .exit)) ≡ printed (now (out .entry)) at (stoppedLine b (stopNumber s) ∷ tableLines (view t)) ⌝ }
 {
     match listing::put_stopped(out, at, b, event_list::stop_number(s)) {
@@ -115,16 +122,13 @@ fn run(list: &[u8], out: &mut [u8], from: usize, start: Table) -> Put
 fn print_lines(list: &[u8], out: &mut [u8]) -> Put
     ensures { λ a. ⌜ shown a (now (out .exit)) ≡ printed (now (out .entry)) 0 (linesOf (now (list .entry))) ⌝ }
 {
-    match event_list::first_of(list) {
-        First::Stopped(s) => listing::put_stopped(out, 0, 0, event_list::stop_number(s)),
-        First::Nodes(n) => match listing::put_cabinets(out, 0, n) {
-            Put::NoRoom => Put::NoRoom,
-            Put::Next(q) => {
-                let begun = machine::starting(n);
-                let t = begun.table;
-                run(list, out, q, t)
-            }
-        },
+    match put_heading(list, out) {
+        Heading::Ended(a) => a,
+        Heading::Nodes(n, at) => {
+            let begun = machine::starting(n);
+            let t = begun.table;
+            run(list, out, at, t)
+        }
     }
 }
 
@@ -140,7 +144,7 @@ pub const TEXT_LIMIT: usize = 279096;
 
 // The text of list at the start of out, and its length: there is always room.
 pub fn print_whole(list: &[u8], out: &mut [u8; TEXT_LIMIT]) -> usize
-    ensures { λ r. ⌜ Whole (now (list .entry)) (now (out .exit)) r ⌝ }
+    ensures { λ r. ⌜ Whole (now (list .entry)) (now (out .entry)) (now (out .exit)) r ⌝ }
 {
     match print(list, out) {
         Put::Next(n) => n,
