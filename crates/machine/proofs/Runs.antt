@@ -38,7 +38,7 @@ run-agrees : (n : ℕ) → n ≤ 16 → (es : List Event) → Agrees n es (run n
 run-agrees n h es =
     record {
       same-coordinator = run-fixes n h .same-coordinator es;
-      same-task = λ i l u q. rw append-nil at (run-fixes n h .same-task es [] i l u q);
+      same-task = λ i l u q. rw append-nil at (run-fixes n h .fixed-task es [] i l u q);
     }
 
 -- so it holds of the table that the code computes; the other claims of demand 3 carry over in the same way, by `started-runs`

@@ -128,10 +128,10 @@ module _ {h : History} {i : ℕ} (s : NodeNumber i) where
   unfolding inviteNext
   inviteNext-ok c k f o m ok g =
       by-test (ReactionOk h i)
-      (λ _. by-test (ReactionOk h i)
-      (λ _. record { mark = m; node = turned-ok Collecting ok g; outgoing = tt })
-      (λ _. record { mark = m; node = calling-ok (Inviting _ _ _) ok g; outgoing = record { counted = ok .counted; ready = tt } }))
       (λ _. record { mark = m; node = calling-ok (Inviting _ _ _) ok g; outgoing = record { counted = ok .counted; ready = tt } })
+      (λ _. by-test (ReactionOk h i)
+      (λ _. record { mark = m; node = calling-ok (Inviting _ _ _) ok g; outgoing = record { counted = ok .counted; ready = tt } })
+      (λ _. record { mark = m; node = turned-ok Collecting ok g; outgoing = tt }))
 
   merges-ok : (c : Node) (f : ℕ) → NodeOk h i c → ReactionOk h i (merges i c f)
   unfolding merges
@@ -247,8 +247,8 @@ module _ {h : History} {i : ℕ} (s : NodeNumber i) where
   unfolding onInvitation
   onInvitation-ok c m ok mk =
       by-test (ReactionOk h i)
-      (λ _. forwardNext-ok (invited c (m .group)) _ (m .sender) (m .call) (invited-ok c m ok mk))
       (λ _. answers-ok m true ok)
+      (λ _. forwardNext-ok (invited c (m .group)) _ (m .sender) (m .call) (invited-ok c m ok mk))
 
   onAccept-ok : (c : Node) (m : Message) → NodeOk h i c → ReactionOk h i (onAccept i c m)
   unfolding onAccept

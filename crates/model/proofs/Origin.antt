@@ -27,7 +27,7 @@ use Rattle.model.specs.declared.Event.the-variants.{Crash, Recover, Chec
 -- ── marks ──
 pub inviteNext-mark : (i : ℕ) (c : Node) (k : Mark) (f o : ℕ) → inviteNext i c k f o .mark ≡ k
 unfolding inviteNext
-inviteNext-mark i c k f o = by-test (λ (r : Reaction). r .mark ≡ k) (λ _. by-test (λ (r : Reaction). r .mark ≡ k) (λ _. refl) (λ _. refl)) (λ _. refl)
+inviteNext-mark i c k f o = by-test (λ (r : Reaction). r .mark ≡ k) (λ _. refl) (λ _. by-test (λ (r : Reaction). r .mark ≡ k) (λ _. refl) (λ _. refl))
 
 pub merges-mark : (i : ℕ) (c : Node) (f : ℕ) → merges i c f .mark ≡ Merges
 unfolding merges
@@ -52,7 +52,7 @@ module _ (i : ℕ) (c : Node) where
 
   inviteNext-keeps : (f o : ℕ) → Keeps (c .group .number) (inviteNext i c Plain f o)
   unfolding inviteNext
-  inviteNext-keeps f o = by-test (Keeps _) (λ _. by-test (Keeps _) (λ _ e. refl) (λ _ e. refl)) (λ _ e. refl)
+  inviteNext-keeps f o = by-test (Keeps _) (λ _ e. refl) (λ _. by-test (Keeps _) (λ _ e. refl) (λ _ e. refl))
 
   handNext-keeps : (r : ℕ) → Keeps (c .group .number) (handNext i c r)
   unfolding handNext
@@ -125,7 +125,7 @@ unfolding received onAreYouCoordinator onAreYouThere onInvitation onAccept onRea
 received-takes n i c m =
     by-test P (λ _ e. inl refl)
     (λ _. by-test P (λ _ e. inl refl)
-    (λ _. by-test P (λ _. by-test P (λ _ e. inr (forwardNext-keeps i (invited c (m .group)) _ (m .sender) (m .call) e)) (λ _ e. inl refl))
+    (λ _. by-test P (λ _. by-test P (λ _ e. inl refl) (λ _ e. inr (forwardNext-keeps i (invited c (m .group)) _ (m .sender) (m .call) e)))
     (λ _. by-test P (λ _ e. inl (by-test Same (λ _. refl) (λ _. refl)))
     (λ _. by-test P (λ _ e. inl (by-test Same (λ _. refl) (λ _. refl)))
     (λ _. by-test P (λ _. by-test P (λ _ e. inl (resumed-keeps i c n (m .yes) (c .activity) e)) (λ _ e. inl refl)) (λ _ e. inl refl))))))

@@ -10,15 +10,14 @@ use Rattle.node_set.specs.NodeSet.{with, without, lowest, highest}
 use Rattle.node_set.proofs.Laws.{within-word, empty-within, empty-lacks, lowest-in, lowest-other, highest-in, with-within, with-lacks, without-within, without-lacks}
 use Rattle.model.specs.Pick.{pick, by-test}
 use Rattle.model.specs.Limits.{counterEnd, callEnd, tickEnd, taskLow, taskEnd}
-use Rattle.model.specs.Node.{isDown, isNormal, ownerOf, groupOf, turned, calling, settled, tasked, joined, recovered, merged, invited, asks, calls, readies, replies}
+use Rattle.model.specs.Node.{isDown, isNormal, ownerOf, groupOf, nextCall, turned, calling, settled, tasked, joined, recovered, merged, invited, asks, calls, readies, replies}
 use Rattle.model.specs.Procedures.{reaction, stays, answers, recovers, inviteNext, merges, handNext, finishes, forwardNext, askedAll, askAt, askAfter}
 use Rattle.model.specs.React.{checked, timedOut, ticked, expired, resumed, onAreYouCoordinator, onAreYouThere, onInvitation, onAccept, onReady, onReply, received, react}
 use Rattle.model.specs.Range.{isOther, isSetOfOthers, isGroup, isGivenTask, isCall, activityInRange, nodeInRange, isGroupOrNone, isLed, carriesGroup, messageInRange}
 use Rattle.model.specs.Step.{forms, isCalling}
 use Rattle.model.proofs.Invariant.{NodeNumber, owner-of, counter-of}
-use Rattle.model.proofs.Local.{both-right}
 use Rattle.model.proofs.Origin.{merges-mark}
-use Rattle.model.proofs.Fields.{IsNode, IsOther, IsSetOfOthers, IsGroup, IsGivenTask, IsCall, Busy, NodeFacts, MessageFacts}
+use Rattle.model.proofs.Fields.{neither, IsNode, IsOther, IsSetOfOthers, IsGroup, IsGivenTask, IsCall, Busy, NodeFacts, MessageFacts}
 use Rattle.model.specs.declared.Status.{Status}
 use Rattle.model.specs.declared.Status.the-variants.{Down, Election, Reorganization, Normal}
 use Rattle.model.specs.declared.Activity.{Activity}
@@ -304,9 +303,9 @@ module _ {n i : ℕ} (p : Place n i) where
 
     -- a call of kind 2 to 4
     calls-in : {k : ℕ} (a : Activity) (kind r : ℕ) (x : Mark) → 2 ≤ kind → kind ≤ 4 → IsOther n i r → Busy n i (c .group .number) (c .task .number) a
-        → Fits n i k (c .last .number) (reaction (calling c a) (Send (calls i kind r (record { number = c .last .number + 1 }) (c .group))) x)
+        → Fits n i k (c .last .number) (reaction (calling c a) (Send (calls i kind r (nextCall c) (c .group))) x)
     calls-in a kind r x l h o b =
-        calling-in a (calls i kind r (record { number = c .last .number + 1 }) (c .group)) x (omega arith) b
+        calling-in a (calls i kind r (nextCall c) (c .group)) x (omega arith) b
         (λ q. record {
           sender = here;
           receiver = o;
@@ -321,10 +320,10 @@ module _ {n i : ℕ} (p : Place n i) where
     unfolding inviteNext
     inviteNext-in {k} x f o sf so =
         by-test (Fits n i k (c .last .number))
+        (λ t. let e = not-true _ t in calls-in (Inviting _ _ _) 3 (lowest f) x (omega arith) (omega arith) (first sf e) (less (lowest f) sf, so, first sf e))
         (λ _. by-test (Fits n i k (c .last .number))
-        (λ _ _ _. record { node = up-node n i (turned c Collecting) u tt; outgoing = tt })
-        (λ e. calls-in (Inviting _ _ _) 3 (lowest o) x (omega arith) (omega arith) (first so e) (none, less (lowest o) so, first so e)))
-        (λ e. calls-in (Inviting _ _ _) 3 (lowest f) x (omega arith) (omega arith) (first sf e) (less (lowest f) sf, so, first sf e))
+        (λ t. let e = not-true _ t in calls-in (Inviting _ _ _) 3 (lowest o) x (omega arith) (omega arith) (first so e) (none, less (lowest o) so, first so e))
+        (λ _ _ _. record { node = up-node n i (turned c Collecting) u tt; outgoing = tt }))
 
     handNext-in : {k : ℕ} (r : ℕ) → IsSetOfOthers n i r → IsGivenTask (c .task .number) → Fits n i k (c .last .number) (handNext i c r)
     unfolding handNext
@@ -334,7 +333,7 @@ module _ {n i : ℕ} (p : Place n i) where
           node = up-node n i (settled c Normal) (standing c Normal _ refl (u .task) u) tt;
           outgoing = tt;
         })
-        (λ e. calling-in (Handing _ _) (readies i (lowest r) (record { number = c .last .number + 1 }) (c .group) (c .task)) Plain (omega arith) (less (lowest r) s, first s e, t)
+        (λ e. calling-in (Handing _ _) (readies i (lowest r) (nextCall c) (c .group) (c .task)) Plain (omega arith) (less (lowest r) s, first s e, t)
         (λ q. record {
           sender = here;
           receiver = first s e;
@@ -379,7 +378,7 @@ module _ {n i : ℕ} (p : Place n i) where
         by-test (Room n i c)
         (λ e.
         let o : IsOther n i j = record { low = l; high = leb-true j n e; other = d } in
-        calling-in c u (Asking j f) (asks i j (record { number = c .last .number + 1 })) Plain (omega arith) (o, s)
+        calling-in c u (Asking j f) (asks i j (nextCall c)) Plain (omega arith) (o, s)
         (λ q. record {
           sender = here;
           receiver = o;
@@ -464,6 +463,7 @@ module _ {n i : ℕ} (p : Place n i) where
         unfolding onInvitation
         onInvitation-in k =
             by-test (Room n i c)
+            (λ _. answers-in c true (up-node n i c u b))
             (λ e. forwardNext-in (invited c (m .group))
             (record {
               up = refl;
@@ -476,8 +476,7 @@ module _ {n i : ℕ} (p : Place n i) where
             })
             (pick (eqb (c .coordinator) i) (c .members) 0) (m .sender) (m .call)
             (by-test (IsSetOfOthers n i) (λ _. u .members) (λ _. none)) sender (x .call)
-            (eqb-false _ i (not-true _ (both-right (isNormal (c .status)) _ e))))
-            (λ _. answers-in c true (up-node n i c u b))
+            (eqb-false _ i (neither (not (isNormal (c .status))) _ e)))
 
         onAccept-in : Room n i c (onAccept i c m)
         unfolding onAccept

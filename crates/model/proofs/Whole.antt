@@ -281,7 +281,7 @@ run-fixes n small =
       same-coordinator = λ es i j l h l′ h′ a a′ q.
           let c = good es .state .nodes in
           led-active (nodeAt (run n es) i .status) _ _ a (c i l (reach es h) .led) ∙ ap ownerOf q ∙ sym (led-active (nodeAt (run n es) j .status) _ _ a′ (c j l′ (reach es h′) .led));
-      same-task = λ es fs i l h e. growth es fs .lasts _ _ (rw e at (good es .state .nodes i l (reach es h) .settled));
+      fixed-task = λ es fs i l h e. growth es fs .lasts _ _ (rw e at (good es .state .nodes i l (reach es h) .settled));
       numbered = λ es e u k q f. group-number es e u k f (accepted-is (run n es) e u k q);
       fresh = λ es fs e u k q f. lacks-coming (history n es) (history n (es ++ fs)) (run n es) (actor e) (actor-number (es ++ fs) e (accepted-is (run n (es ++ fs)) e u k q .clear)) (good es .state) (growth es fs);
       borrowed = λ es e u k q f j l h x. none-new es e u k f j l h (accepted-is (run n es) e u k q) x;

@@ -45,7 +45,7 @@ pub record RunFixes (n : ℕ) : Type 0 where
       → nodeAt (run n es) i .group .number ≡ nodeAt (run n es) j .group .number
       → nodeAt (run n es) i .coordinator ≡ nodeAt (run n es) j .coordinator
   -- "The book's task is the one the list fixed": a Normal node's task, in any table of the run, is the task that the whole list's history has for its group
-  pub same-task : (es fs : List Event) (i : ℕ) → 1 ≤ i → i ≤ n → nodeAt (run n es) i .status ≡ Normal
+  pub fixed-task : (es fs : List Event) (i : ℕ) → 1 ≤ i → i ≤ n → nodeAt (run n es) i .status ≡ Normal
       → history n (es ++ fs) .entry (nodeAt (run n es) i .group .number) ≡ Task (nodeAt (run n es) i .task .number)
   -- "A new group gets the book's number"
   pub numbered : (es : List Event) (e : Event) (u : State) (k : Mark) → step (run n es) e ≡ accepted u k → forms k ≡ true

@@ -110,7 +110,11 @@ turned c a = record {
   activity = a;
 }
 
--- "last call number plus one", in the activity that the call is for
+-- "last call number plus one": the number of the next call
+abbrev pub nextCall : Node → CallNo
+nextCall c = record { number = c .last .number + 1 }
+
+-- the next call is made, in the activity that it is for
 abbrev pub calling : Node → Activity → Node
 calling c a = record {
   status = c .status;
@@ -119,7 +123,7 @@ calling c a = record {
   coordinator = c .coordinator;
   task = c .task;
   members = c .members;
-  last = record { number = c .last .number + 1 };
+  last = nextCall c;
   activity = a;
 }
 

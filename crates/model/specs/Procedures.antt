@@ -1,11 +1,11 @@
 -- The procedures of one node: what it does next, each as a reaction (its new record, the message out or none, the mark for the history).
 -- No procedure speaks of a refusal: Step holds the grounds.
 use Prim.Native.Nat.{ℕ, _+_, _-_}
-use mathlib.Core.Bool.{Bool, true, false}
+use mathlib.Core.Bool.{Bool, true, false, not}
 use lib.Dec.{eqb, leb, ltb}
 use Rattle.node_set.specs.NodeSet.{without, lowest, highest}
 use Rattle.model.specs.Pick.{pick}
-use Rattle.model.specs.Node.{turned, calling, settled, tasked, recovered, merged, asks, calls, readies, replies}
+use Rattle.model.specs.Node.{nextCall, turned, calling, settled, tasked, recovered, merged, asks, calls, readies, replies}
 use Rattle.model.specs.declared.Status.{Status}
 use Rattle.model.specs.declared.Status.the-variants.{Down, Election, Reorganization, Normal}
 use Rattle.model.specs.declared.Activity.{Activity}
@@ -42,13 +42,11 @@ next s = lowest s
 -- "It invites the cabinets found, then those set aside (one in both is invited twice), and then collects."
 unfoldable pub inviteNext : ℕ → Node → Mark → ℕ → ℕ → Reaction
 inviteNext i c k found former =
-    pick (eqb found 0)
-    (pick (eqb former 0)
-    (reaction (turned c Collecting) Nothing k)
-    (reaction (calling c (Inviting 0 (without former (next former)) (next former)))
-    (Send (calls i 3 (next former) (record { number = c .last .number + 1 }) (c .group))) k))
-    (reaction (calling c (Inviting (without found (next found)) former (next found)))
-    (Send (calls i 3 (next found) (record { number = c .last .number + 1 }) (c .group))) k)
+    pick (not (eqb found 0))
+    (reaction (calling c (Inviting (without found (next found)) former (next found))) (Send (calls i 3 (next found) (nextCall c) (c .group))) k)
+    (pick (not (eqb former 0))
+    (reaction (calling c (Inviting 0 (without former (next former)) (next former))) (Send (calls i 3 (next former) (nextCall c) (c .group))) k)
+    (reaction (turned c Collecting) Nothing k))
 
 -- "merge: Election; counter plus one, new group, coordinator i; members are set aside and emptied."
 unfoldable pub merges : ℕ → Node → ℕ → Reaction
@@ -60,7 +58,7 @@ handNext i c rest =
     pick (eqb rest 0)
     (stays (settled c Normal))
     (reaction (calling c (Handing (without rest (next rest)) (next rest)))
-    (Send (readies i (next rest) (record { number = c .last .number + 1 }) (c .group) (c .task))) Plain)
+    (Send (readies i (next rest) (nextCall c) (c .group) (c .task))) Plain)
 
 -- "finish i with task t: Reorganization, task t."
 unfoldable pub finishes : ℕ → Node → TaskNo → Reaction
@@ -71,9 +69,9 @@ unfoldable pub forwardNext : ℕ → Node → ℕ → ℕ → CallNo → Reactio
 forwardNext i c rest caller call =
     pick (eqb rest 0)
     (reaction (calling c (Accepting caller call))
-    (Send (calls i 4 (c .coordinator) (record { number = c .last .number + 1 }) (c .group))) Plain)
+    (Send (calls i 4 (c .coordinator) (nextCall c) (c .group))) Plain)
     (reaction (calling c (Forwarding (without rest (next rest)) (next rest) caller call))
-    (Send (calls i 3 (next rest) (record { number = c .last .number + 1 }) (c .group))) Plain)
+    (Send (calls i 3 (next rest) (nextCall c) (c .group))) Plain)
 
 -- "After the last: none found, idle. Else let p be the highest found: if i < p it waits p − i ticks, else it merges."
 unfoldable pub askedAll : ℕ → Node → ℕ → Reaction
@@ -88,7 +86,7 @@ askedAll i c found =
 unfoldable pub askAt : ℕ → ℕ → Node → ℕ → ℕ → Reaction
 askAt n i c j found =
     pick (leb j n)
-    (reaction (calling c (Asking j found)) (Send (asks i j (record { number = c .last .number + 1 }))) Plain)
+    (reaction (calling c (Asking j found)) (Send (asks i j (nextCall c))) Plain)
     (askedAll i c found)
 
 -- "it asks every other cabinet in turn": the one after j is asked, i itself left out

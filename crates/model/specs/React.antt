@@ -1,12 +1,12 @@
 -- The local step of one node: what it does with an event, and on delivery. It sees the number of nodes, its own number, its own record and the input.
 -- Where Step refuses an event by its numbers, the node's status or activity, or for want of a message (7 to 11), what is written here does not matter.
 -- Grounds 12 to 14 are read off what is written here.
-use Prim.Native.Nat.{ℕ, _+_, _-_}
-use mathlib.Core.Bool.{Bool, true, false, not, _&&_}
+use Prim.Native.Nat.{ℕ, _-_}
+use mathlib.Core.Bool.{Bool, true, false, not, _&&_, _||_}
 use lib.Dec.{eqb, ltb}
 use Rattle.node_set.specs.NodeSet.{has, with}
 use Rattle.model.specs.Pick.{pick}
-use Rattle.model.specs.Node.{isElection, isReorganization, isNormal, ownerOf, turned, calling, settled, tasked, joined, invited, calls, replies}
+use Rattle.model.specs.Node.{isElection, isReorganization, isNormal, ownerOf, nextCall, turned, calling, settled, tasked, joined, invited, calls, replies}
 use Rattle.model.specs.Procedures.{reaction, stays, answers, recovers, inviteNext, merges, handNext, finishes, forwardNext, askAfter}
 use Rattle.model.specs.declared.Status.{Status}
 use Rattle.model.specs.declared.Status.the-variants.{Down, Election, Reorganization, Normal}
@@ -36,7 +36,7 @@ unfoldable pub timedOut : ℕ → Node → Reaction
 timedOut i c =
     pick (eqb (c .coordinator) i)
     (stays c)
-    (reaction (calling c Contacting) (Send (calls i 2 (c .coordinator) (record { number = c .last .number + 1 }) (c .group))) Plain)
+    (reaction (calling c Contacting) (Send (calls i 2 (c .coordinator) (nextCall c) (c .group))) Plain)
 
 -- "tick i: one tick less; at none it merges." By the activity, which is waiting.
 unfoldable pub ticked : ℕ → Node → Activity → Reaction
@@ -91,9 +91,9 @@ onAreYouThere i c m =
 -- coordinator. If it was its own coordinator, it forwards the invitation to each member; then it calls Accept on the new coordinator."
 unfoldable pub onInvitation : ℕ → Node → Message → Reaction
 onInvitation i c m =
-    pick (isNormal (c .status) && not (eqb (ownerOf (m .group .number)) i))
-    (forwardNext i (invited c (m .group)) (pick (eqb (c .coordinator) i) (c .members) 0) (m .sender) (m .call))
+    pick (not (isNormal (c .status)) || eqb (ownerOf (m .group .number)) i)
     (answers i c m true)
+    (forwardNext i (invited c (m .group)) (pick (eqb (c .coordinator) i) (c .members) 0) (m .sender) (m .call))
 
 -- "4: if in Election, its own coordinator and in that group, the sender joins the members. Plain reply always."
 unfoldable pub onAccept : ℕ → Node → Message → Reaction

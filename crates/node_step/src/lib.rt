@@ -226,16 +226,16 @@ fn on_invitation(i: u8, c: Node, m: Message) -> Reaction
     let status = c.status;
     let group = m.group;
     let call = m.call;
-    if node::is_normal(status) & !(node::owner_of(group) == i) {
-        return procedures::forward_next(
-            i,
-            node::invited(c, group),
-            forwards_to(i, c),
-            m.sender,
-            call,
-        );
+    if !node::is_normal(status) | (node::owner_of(group) == i) {
+        return procedures::answers(i, c, m, true);
     }
-    procedures::answers(i, c, m, true)
+    procedures::forward_next(
+        i,
+        node::invited(c, group),
+        forwards_to(i, c),
+        m.sender,
+        call,
+    )
 }
 
 fn on_accept(i: u8, c: Node, m: Message) -> Reaction

@@ -171,10 +171,9 @@ pub fn owner_of(g: GroupNo) -> u8
     (g.number % 16 + 1) as u8
 }
 
-// The number of the call that node `c` makes next.
 pub fn next_call(c: Node) -> CallNo
     requires { ⌜ c .last .number ≤ callEnd ⌝ }
-    ensures { λ r. ⌜ r ≡ record { number = c .last .number + 1 } ⌝ }
+    ensures { λ r. ⌜ r ≡ spec.nextCall c ⌝ }
 {
     CallNo {
         number: c.last.number + 1,

@@ -1,8 +1,8 @@
 // The procedures of one node: the definitions of model's specs/Procedures as functions.
 ghost use mathlib.Core.Path.{_≡_};
-ghost use Prim.Native.Nat.{_+_, _≤_, _<_};
+ghost use Prim.Native.Nat.{_≤_, _<_};
 ghost use Rattle.model.specs.Limits.{nodeLimit, counterEnd, callEnd};
-ghost use Rattle.model.specs.Node.{calling, calls};
+ghost use Rattle.model.specs.Node.{nextCall, calling, calls};
 ghost use Rattle.model.specs.Procedures as spec;
 ghost use Rattle.node_step.specs.Fits.{Fits};
 use crate::node;
@@ -57,7 +57,7 @@ pub fn recovers(i: u8, c: Node) -> Reaction
 // Node `i` calls node `to`, with its group, in activity `a`.
 pub fn call(i: u8, c: Node, a: Activity, kind: u8, to: u8, k: Mark) -> Reaction
     requires { ⌜ c .last .number ≤ callEnd ⌝ }
-    ensures { λ r. ⌜ r ≡ spec.reaction (calling c a) (Outgoing.Send (calls i kind to (record { number = c .last .number + 1 }) (c .group))) k ⌝ }
+    ensures { λ r. ⌜ r ≡ spec.reaction (calling c a) (Outgoing.Send (calls i kind to (nextCall c) (c .group))) k ⌝ }
 {
     let group = c.group;
     let m = node::calls(i, kind, to, node::next_call(c), group);

@@ -49,7 +49,7 @@ behind l n r e =
         → nodeAt (run n es) i .group .number ≡ nodeAt (run n es) j .group .number
         → nodeAt (run n es) i .task .number ≡ nodeAt (run n es) j .task .number
     same d es i j h₁ h₂ k₁ k₂ p q s =
-        let a = d .same-task es es i h₁ h₂ p in
-        let b = d .same-task es es j k₁ k₂ q in
+        let a = d .fixed-task es es i h₁ h₂ p in
+        let b = d .fixed-task es es j k₁ k₂ q in
         let z : Task (nodeAt (run n es) i .task .number) ≡ Task (nodeAt (run n es) j .task .number) = sym a ∙ rw s b in
         cc

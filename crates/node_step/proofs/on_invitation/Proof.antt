@@ -10,7 +10,11 @@ unfolding onInvitation pick
 on-invitation-spec =
     tie.close
     (tie.spec
-    (search needs) (search needs) (search needs) (search needs)
+    (search needs) (search needs) (search needs)
+    (λ c.
+    let o = c .before .before in
+    simp (← o .before .is-normal .ensures, ← o .owner-of .ensures, c .before .if1 .taken, c .answers .ensures))
+    (search needs) (search needs)
     (λ c κs. rw (c .before .invited .ensures) (search needs))
     (λ c.
     let v = c .before .before in
@@ -18,12 +22,8 @@ on-invitation-spec =
     simp (
       ← o .before .is-normal .ensures,
       ← o .owner-of .ensures,
-      v .before .if1 .taken,
+      v .before .if1 .left,
       c .forward-next .ensures,
       c .before .forwards-to .ensures,
       v .invited .ensures,
-    ))
-    (search needs)
-    (λ c.
-    let o = c .before .before in
-    simp (← o .before .is-normal .ensures, ← o .owner-of .ensures, c .before .if1 .left, c .answers .ensures)))
+    )))
