@@ -9,3 +9,4 @@ pub mod NamedCases
 pub mod Fields
 pub mod Range
 pub mod InRange
+pub mod Refusals

@@ -2,12 +2,14 @@
 use Prim.Native.Nat.{ℕ, _+_, _≤_, _<_}
 use mathlib.Core.Bool.{Bool, true, false}
 use mathlib.Core.Path.{_≡_}
+use mathlib.Core.Logic.{_⊎_}
 use mathlib.Core.List.{List, [], _∷_, _++_}
 use lib.ListN.{length}
 use Rattle.model.specs.Limits.{nodeLimit}
 use Rattle.model.specs.State.{State, start, nodeAt, goes, waits, oldest, inRange}
 use Rattle.model.specs.Step.{actor, reactionTo, remaining, sent, forms, Result, refused, accepted, step, after, run}
 use Rattle.model.specs.History.{Entry, NotFormed, NoTask, Task, History, newest, coming, history}
+use Rattle.model.specs.Answers.{resultNumber}
 use Rattle.model.specs.declared.Status.{Status}
 use Rattle.model.specs.declared.Status.the-variants.{Down, Election, Reorganization, Normal}
 use Rattle.model.specs.declared.Node.{Node}
@@ -74,6 +76,23 @@ pub record StaysInRange : Type 0 where
   -- so every table of a run is in range, and no run meets ground 1
   pub runs : (n : ℕ) → 1 ≤ n → n ≤ nodeLimit → (es : List Event) → inRange (run n es) ≡ true
   pub never-one : (n : ℕ) → 1 ≤ n → n ≤ nodeLimit → (es : List Event) (e : Event) → step (run n es) e ≡ refused 1 → ⊥
+
+-- ── refusals ──
+
+-- the event is accepted
+pub record Accepts (s : State) (e : Event) : Type 0 where
+  pub state : State
+  pub mark : Mark
+  pub is : step s e ≡ accepted state mark
+
+pub record RefusesByGround : Type 0 where
+  -- a refusal's number is that of a ground of events: 1, or 7 to 14
+  pub numbers : (s : State) (e : Event) (r : ℕ) → step s e ≡ refused r → (r ≡ 1) ⊎ ((7 ≤ r) × (r ≤ 14))
+  -- so none has number 0, and a result of number 0 is an accepted event
+  pub never-zero : (s : State) (e : Event) → step s e ≡ refused 0 → ⊥
+  pub zero-accepts : (s : State) (e : Event) → resultNumber (step s e) ≡ 0 → Accepts s e
+  -- "(a delivered one is already out)": no delivery meets 14
+  pub delivery-never-full : (s : State) (a b : ℕ) → step s (Deliver a b) ≡ refused 14 → ⊥
 
 -- ── how little a step changes ──
 
