@@ -4,6 +4,7 @@ pub mod Local
 pub mod Numbers
 pub mod Origin
 pub mod Whole
+pub mod Fixed
 pub mod Locality
 pub mod NamedCases
 pub mod Fields
