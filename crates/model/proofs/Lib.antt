@@ -6,7 +6,7 @@ pub mod Origin
 pub mod Whole
 pub mod Fixed
 pub mod Locality
-pub mod NamedCases
+pub mod Cases
 pub mod Fields
 pub mod Range
 pub mod InRange
