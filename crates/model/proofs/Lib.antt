@@ -4,8 +4,10 @@ pub mod Local
 pub mod Numbers
 pub mod Origin
 pub mod Whole
+pub mod Fixed
 pub mod Locality
-pub mod NamedCases
+pub mod Cases
 pub mod Fields
 pub mod Range
 pub mod InRange
+pub mod Refusals

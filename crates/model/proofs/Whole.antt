@@ -200,7 +200,13 @@ run-grows h s (e ∷ es) ok =
     let x = step-onward h s e ok in
     grows-trans (x .grows) (run-grows (noted h e (step s e)) (after s e) es (x .good))
 
-history-append : (h : History) (s : State) (es fs : List Event) → historyFrom s h (es ++ fs) ≡ historyFrom (runFrom s es) (historyFrom s h es) fs
+-- a list in two parts
+pub run-append : (s : State) (es fs : List Event) → runFrom s (es ++ fs) ≡ runFrom (runFrom s es) fs
+unfolding runFrom
+run-append s [] fs = refl
+run-append s (e ∷ es) fs = run-append (after s e) es fs
+
+pub history-append : (h : History) (s : State) (es fs : List Event) → historyFrom s h (es ++ fs) ≡ historyFrom (runFrom s es) (historyFrom s h es) fs
 unfolding historyFrom runFrom
 history-append h s [] fs = refl
 history-append h s (e ∷ es) fs = history-append (noted h e (step s e)) (after s e) es fs
@@ -287,6 +293,7 @@ run-fixes n small =
       borrowed = λ es e u k q f j l h x. none-new es e u k f j l h (accepted-is (run n es) e u k q) x;
       formed-once = λ es e u k q f. coming-not-formed (history n es) (actor e) (actor-number es e (accepted-is (run n es) e u k q .clear)) (good es .history);
       given-once = λ es i t u k q. collects es i t (accepted-is (run n es) (Finish i t) u k q .clear) .undecided;
+      own-group = λ es i t u k q. collects es i t (accepted-is (run n es) (Finish i t) u k q .clear) .own;
       lasts = λ es fs g t e. growth es fs .lasts g t e;
     }
   where

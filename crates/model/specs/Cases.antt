@@ -1,15 +1,16 @@
--- "Named cases": what is claimed of K1 to K13, jointly, over the definitions.
+-- "Named cases": what is claimed of K1 to K13, jointly, over the definitions. Where 01 names one side of a rule, the other side stands beside it, in a
+-- table that differs in that alone. "Wrong turnings in this protocol" follow.
 use Prim.Native.Nat.{ℕ}
 use mathlib.Core.Bool.{Bool, true, false}
 use mathlib.Core.Path.{_≡_}
 use mathlib.Core.List.{List, [], _∷_, _++_}
 use lib.ListN.{length, set, replicate}
-use Rattle.node_set.specs.NodeSet.{count}
-use Rattle.model.specs.Node.{asks, calls, replies}
+use Rattle.node_set.specs.NodeSet.{with, count}
+use Rattle.model.specs.Node.{groupOf, asks, calls, readies, replies}
 use Rattle.model.specs.State.{State, startingNode, start, wrongCount, nodeAt}
-use Rattle.model.specs.Step.{Result, refused, accepted, step, after, run}
+use Rattle.model.specs.Step.{Result, refused, accepted, step, after, runFrom, run}
 use Rattle.model.specs.History.{Entry, Task, history}
-use Rattle.model.specs.Answers.{statusNumber, resultNumber}
+use Rattle.model.specs.Answers.{statusNumber}
 use Rattle.model.specs.declared.Status.{Status}
 use Rattle.model.specs.declared.Status.the-variants.{Down, Election, Reorganization, Normal}
 use Rattle.model.specs.declared.Activity.{Activity}
@@ -19,6 +20,7 @@ use Rattle.model.specs.declared.TaskNo.{TaskNo}
 use Rattle.model.specs.declared.CallNo.{CallNo}
 use Rattle.model.specs.declared.GroupNo.{GroupNo}
 use Rattle.model.specs.declared.Message.{Message}
+use Rattle.model.specs.declared.Mark.the-variants.{Plain, Recovers, Merges}
 use Rattle.model.specs.declared.Event.{Event}
 use Rattle.model.specs.declared.Event.the-variants.{Crash, Recover, Check, Timeout, Tick, Expire, Finish, Deliver, Lose}
 
@@ -43,14 +45,82 @@ printedFields s i =
     ∷ count (nodeAt s i .members)
     ∷ []
 
--- K5: 16 nodes of the starting table, of which node 16 has this counter
-abbrev pub counted : ℕ → State
-counted k = record {
+-- the set of these nodes
+abbrev pub setOf : List ℕ → ℕ
+setOf [] = 0
+setOf (i ∷ is) = with (setOf is) i
+
+abbrev pub none : ℕ
+none = setOf []
+
+-- ── tables ──
+
+-- K5: 16 nodes, of which node 16 has the counter k and the group formed with it, and the others are as at the start
+abbrev pub counted : Status → Activity → ℕ → State
+counted s a k = record {
   n = 16;
   nodes = set (replicate 16 startingNode) 15
-      (record { status = Down; counter = k; group = groupNo 0; coordinator = 0; task = taskNo 0; members = 0; last = callNo 0; activity = Idle });
+      (record { status = s; counter = k; group = groupNo (groupOf k 16); coordinator = 16; task = taskNo 16; members = none; last = callNo 16; activity = a });
   queue = [];
 }
+
+-- two nodes: node 1 is Normal in its own group 16, and node 2 is c
+abbrev pub beside : Node → List Message → State
+beside c q = record {
+  n = 2;
+  nodes = record { status = Normal; counter = 1; group = groupNo 16; coordinator = 1; task = taskNo 1; members = none; last = callNo 3; activity = Idle } ∷ c ∷ [];
+  queue = q;
+}
+
+-- node 2 as the coordinator of its group 33, with the members m and two former calls
+abbrev pub pair : Status → ℕ → Activity → List Message → State
+pair s m a q =
+    beside (record { status = s; counter = 2; group = groupNo 33; coordinator = 2; task = taskNo 100; members = m; last = callNo 2; activity = a }) q
+
+-- node 2 in group g of node 1, with the task t, the members m and the last call number k
+abbrev pub follower : Status → ℕ → ℕ → ℕ → ℕ → Activity → Node
+follower s g t m k a =
+    record { status = s; counter = 2; group = groupNo g; coordinator = 1; task = taskNo t; members = m; last = callNo k; activity = a }
+
+-- node 2 after a merge, and after a recovery: group 49
+abbrev pub merger : Activity → Node
+merger a = record { status = Election; counter = 3; group = groupNo 49; coordinator = 2; task = taskNo 100; members = none; last = callNo 3; activity = a }
+
+abbrev pub alone : Node
+alone = record { status = Normal; counter = 3; group = groupNo 49; coordinator = 2; task = taskNo 2; members = none; last = callNo 2; activity = Idle }
+
+-- three nodes: node 1 is c, and the others are as at the start
+abbrev pub first : Node → List Message → State
+first c q = record { n = 3; nodes = c ∷ startingNode ∷ startingNode ∷ []; queue = q }
+
+-- node 1 as the coordinator of its group 16, with the members 2 and 3
+abbrev pub leader : Status → ℕ → Activity → Node
+leader s k a =
+    record { status = s; counter = 1; group = groupNo 16; coordinator = 1; task = taskNo 100; members = setOf (2 ∷ 3 ∷ []); last = callNo k; activity = a }
+
+-- ── messages from node 1 to node 2, with its call number 3, and the plain reply ──
+
+abbrev pub invitation : ℕ → List Message
+invitation g = calls 1 3 2 (callNo 3) (groupNo g) ∷ []
+
+abbrev pub accept : ℕ → List Message
+accept g = calls 1 4 2 (callNo 3) (groupNo g) ∷ []
+
+abbrev pub ready : ℕ → ℕ → List Message
+ready g t = readies 1 2 (callNo 3) (groupNo g) (taskNo t) ∷ []
+
+abbrev pub plain : List Message
+plain = replies 2 1 (callNo 3) true ∷ []
+
+-- node 1's reply to call k of node 2
+abbrev pub reply : ℕ → Bool → List Message
+reply k y = replies 1 2 (callNo k) y ∷ []
+
+-- K11: k messages to node 1
+abbrev pub queued : ℕ → List Message
+queued k = replicate k (asks 2 1 (callNo 1))
+
+-- ── lists of events ──
 
 -- K10's events, and those up to where node 2 collects (K6)
 abbrev pub collecting : List Event
@@ -63,15 +133,7 @@ k10 = collecting ++ (Finish 2 (taskNo 100) ∷ Deliver 2 1 ∷ Deliver 1 2 ∷ [
 abbrev pub foundThree : List Event
 foundThree = Recover 1 ∷ Recover 3 ∷ Check 1 ∷ Expire 1 ∷ Deliver 1 3 ∷ Deliver 3 1 ∷ []
 
--- two nodes, of which node 1 is Normal on its own, and node 2 is as given, with group 33 of its own, two former calls and the member 1
-abbrev pub pair : Status → Activity → List Message → State
-pair s a q = record {
-  n = 2;
-  nodes = record { status = Normal; counter = 1; group = groupNo 16; coordinator = 1; task = taskNo 1; members = 0; last = callNo 3; activity = Idle }
-      ∷ record { status = s; counter = 2; group = groupNo 33; coordinator = 2; task = taskNo 100; members = 1; last = callNo 2; activity = a }
-      ∷ [];
-  queue = q;
-}
+-- ── K1 to K13 ──
 
 pub record NamedCases : Type 0 where
   -- "K1 n = 0 and 17: 6; 1 and 16 pass."
@@ -81,36 +143,126 @@ pub record NamedCases : Type 0 where
   pub k1-last : wrongCount 16 ≡ false
   -- "K2 n = 2, recover 1: group 16, task 1, Normal."
   pub k2 : printedFields (run 2 (Recover 1 ∷ [])) 1 ≡ 1 ∷ 3 ∷ 1 ∷ 16 ∷ 1 ∷ 1 ∷ 0 ∷ []
+  -- the other node stays as it was
+  pub k2-other : printedFields (run 2 (Recover 1 ∷ [])) 2 ≡ 2 ∷ 0 ∷ 0 ∷ 0 ∷ 0 ∷ 0 ∷ 0 ∷ []
+  -- with members before: they are emptied, and the last call number is kept
+  pub k2-emptied : step (pair Down (setOf (1 ∷ [])) Idle []) (Recover 2) ≡ accepted (beside alone []) Recovers
   -- "K3 recover 1 again: 9."
   pub k3 : step (run 2 (Recover 1 ∷ [])) (Recover 1) ≡ refused 9
   -- "K4 crash 1, recover 1: group 32."
   pub k4 : printedFields (run 2 (Recover 1 ∷ Crash 1 ∷ Recover 1 ∷ [])) 1 ≡ 1 ∷ 3 ∷ 1 ∷ 32 ∷ 1 ∷ 2 ∷ 0 ∷ []
+  -- a crash ends what the node does: all else is kept, and messages keep waiting
+  pub k4-crash : step (pair Normal (setOf (1 ∷ [])) (Asking 1 none) (invitation 16)) (Crash 2) ≡ accepted (pair Down (setOf (1 ∷ [])) Idle (invitation 16)) Plain
   -- "K5 cabinet 16 with counter 1,048,574 recovers into group 16,777,215; with 1,048,575: 12."
-  pub k5-passes : printedFields (after (counted 1048574) (Recover 16)) 16 ≡ 16 ∷ 3 ∷ 16 ∷ 16777215 ∷ 16 ∷ 1048575 ∷ 0 ∷ []
-  pub k5-ends : step (counted 1048575) (Recover 16) ≡ refused 12
+  pub k5-passes : printedFields (after (counted Down Idle 1048574) (Recover 16)) 16 ≡ 16 ∷ 3 ∷ 16 ∷ 16777215 ∷ 16 ∷ 1048575 ∷ 0 ∷ []
+  pub k5-ends : step (counted Down Idle 1048575) (Recover 16) ≡ refused 12
+  -- a merge needs a group too: node 1 was found, and the last one asked does not answer
+  pub k5-merge-passes : printedFields (after (counted Normal (Asking 15 (setOf (1 ∷ []))) 1048574) (Expire 16)) 16 ≡ 16 ∷ 1 ∷ 16 ∷ 16777215 ∷ 16 ∷ 1048575 ∷ 0 ∷ []
+  pub k5-merge-ends : step (counted Normal (Asking 15 (setOf (1 ∷ []))) 1048575) (Expire 16) ≡ refused 12
+  -- where none was found, no group is needed
+  pub k5-no-group : after (counted Normal (Asking 15 none) 1048575) (Expire 16) ≡ counted Normal Idle 1048575
   -- "K6 finish by a collecting cabinet: task 99 gives 8, 100 passes."
   pub k6-collects : nodeAt (run 2 collecting) 2 .activity ≡ Collecting
   pub k6-refused : step (run 2 collecting) (Finish 2 (taskNo 99)) ≡ refused 8
-  pub k6-passes : resultNumber (step (run 2 collecting) (Finish 2 (taskNo 100))) ≡ 0
+  pub k6-passes : printedFields (after (run 2 collecting) (Finish 2 (taskNo 100))) 2 ≡ 2 ∷ 2 ∷ 2 ∷ 33 ∷ 100 ∷ 2 ∷ 1 ∷ []
+  -- the other end of the tasks
+  pub k6-last : printedFields (after (run 2 collecting) (Finish 2 (taskNo 65535))) 2 ≡ 2 ∷ 2 ∷ 2 ∷ 33 ∷ 65535 ∷ 2 ∷ 1 ∷ []
+  pub k6-high : step (run 2 collecting) (Finish 2 (taskNo 65536)) ≡ refused 8
+  -- with no member it is Normal at once
+  pub k6-no-member : step (pair Election none Collecting []) (Finish 2 (taskNo 100)) ≡ accepted (pair Normal none Idle []) Plain
+  -- by one that is idle: 10, but 8 comes first
+  pub k6-idle : step (pair Normal none Idle []) (Finish 2 (taskNo 100)) ≡ refused 10
+  pub k6-idle-task : step (pair Normal none Idle []) (Finish 2 (taskNo 99)) ≡ refused 8
   -- "K7 n = 3, cabinet 1 found 3: it merges at the second tick."
-  pub k7-waits : nodeAt (run 3 foundThree) 1 .activity ≡ Waiting 2 4
-  pub k7-first : nodeAt (run 3 (foundThree ++ (Tick 1 ∷ []))) 1 .activity ≡ Waiting 1 4
+  pub k7-waits : nodeAt (run 3 foundThree) 1 .activity ≡ Waiting 2 (setOf (3 ∷ []))
+  pub k7-first : nodeAt (run 3 (foundThree ++ (Tick 1 ∷ []))) 1 .activity ≡ Waiting 1 (setOf (3 ∷ []))
   pub k7-still : nodeAt (run 3 (foundThree ++ (Tick 1 ∷ []))) 1 .status ≡ Normal
-  pub k7-second : nodeAt (run 3 (foundThree ++ (Tick 1 ∷ Tick 1 ∷ []))) 1 .activity ≡ Inviting 0 0 3
+  pub k7-second : nodeAt (run 3 (foundThree ++ (Tick 1 ∷ Tick 1 ∷ []))) 1 .activity ≡ Inviting none none 3
   pub k7-merges : printedFields (run 3 (foundThree ++ (Tick 1 ∷ Tick 1 ∷ []))) 1 ≡ 1 ∷ 1 ∷ 1 ∷ 32 ∷ 1 ∷ 2 ∷ 0 ∷ []
+  -- the question to 2 still waits; behind it, 3 is invited
+  pub k7-invites : run 3 (foundThree ++ (Tick 1 ∷ Tick 1 ∷ [])) .queue ≡ asks 1 2 (callNo 1) ∷ calls 1 3 3 (callNo 3) (groupNo 32) ∷ []
   -- "K8 an invitation to a cabinet in Election changes nothing but the messages."
-  pub k8 : after (pair Election Collecting (calls 1 3 2 (callNo 3) (groupNo 16) ∷ [])) (Deliver 1 2) ≡ pair Election Collecting (replies 2 1 (callNo 3) true ∷ [])
+  pub k8 : after (pair Election (setOf (1 ∷ [])) Collecting (invitation 16)) (Deliver 1 2) ≡ pair Election (setOf (1 ∷ [])) Collecting plain
+  -- nor to one in Reorganization, nor to one that owns the group
+  pub k8-reorganizing : after (pair Reorganization (setOf (1 ∷ [])) Collecting (invitation 16)) (Deliver 1 2) ≡ pair Reorganization (setOf (1 ∷ [])) Collecting plain
+  pub k8-owner : after (pair Normal (setOf (1 ∷ [])) Collecting (invitation 17)) (Deliver 1 2) ≡ pair Normal (setOf (1 ∷ [])) Collecting plain
+  -- a Normal one acts on it: it forwards the invitation to its member
+  pub k8-normal : after (pair Normal (setOf (1 ∷ [])) Collecting (invitation 16)) (Deliver 1 2)
+      ≡ beside (follower Election 16 100 (setOf (1 ∷ [])) 3 (Forwarding none 1 1 (callNo 3))) (calls 2 3 1 (callNo 3) (groupNo 16) ∷ [])
+  -- with no member, or where another leads it, it calls Accept at once
+  pub k8-no-member : after (pair Normal none Collecting (invitation 16)) (Deliver 1 2)
+      ≡ beside (follower Election 16 100 none 3 (Accepting 1 (callNo 3))) (calls 2 4 1 (callNo 3) (groupNo 16) ∷ [])
+  pub k8-led : after (beside (follower Normal 16 100 (setOf (1 ∷ [])) 2 Idle) (invitation 32)) (Deliver 1 2)
+      ≡ beside (follower Election 32 100 (setOf (1 ∷ [])) 3 (Accepting 1 (callNo 3))) (calls 2 4 1 (callNo 3) (groupNo 32) ∷ [])
   -- "K9 a reply with an older call number is only dropped."
-  pub k9 : after (pair Normal (Asking 1 0) (replies 1 2 (callNo 1) true ∷ [])) (Deliver 1 2) ≡ pair Normal (Asking 1 0) []
+  pub k9 : after (pair Normal (setOf (1 ∷ [])) (Asking 1 none) (reply 1 true)) (Deliver 1 2) ≡ pair Normal (setOf (1 ∷ [])) (Asking 1 none) []
+  -- with the last call number it goes on: yes, so that 1 is found, and as it was the last to be asked, node 2 merges
+  pub k9-yes : step (pair Normal (setOf (1 ∷ [])) (Asking 1 none) (reply 2 true)) (Deliver 1 2)
+      ≡ accepted (beside (merger (Inviting none (setOf (1 ∷ [])) 1)) (calls 2 3 1 (callNo 3) (groupNo 49) ∷ [])) Merges
+  -- no, so that none is found
+  pub k9-no : after (pair Normal (setOf (1 ∷ [])) (Asking 1 none) (reply 2 false)) (Deliver 1 2) ≡ pair Normal (setOf (1 ∷ [])) Idle []
+  -- without an open call, the number does not help
+  pub k9-no-call : after (pair Election none Collecting (reply 2 true)) (Deliver 1 2) ≡ pair Election none Collecting []
   -- "Case K10": what its lines print
   pub k10-first : printedFields (run 2 k10) 1 ≡ 1 ∷ 3 ∷ 2 ∷ 33 ∷ 100 ∷ 1 ∷ 0 ∷ []
   pub k10-second : printedFields (run 2 k10) 2 ≡ 2 ∷ 3 ∷ 2 ∷ 33 ∷ 100 ∷ 2 ∷ 1 ∷ []
   pub k10-messages : length (run 2 k10 .queue) ≡ 0
   pub k10-task : history 2 k10 .entry 33 ≡ Task 100
   -- "K11 with 64 waiting, a check that must ask: 14; a delivery passes."
-  pub k11-refused : step (pair Normal Idle (replicate 64 (asks 2 1 (callNo 1)))) (Check 1) ≡ refused 14
-  pub k11-passes : after (pair Normal Idle (replicate 64 (asks 2 1 (callNo 1)))) (Deliver 2 1) ≡ pair Normal Idle (replicate 63 (asks 2 1 (callNo 1)) ++ (replies 1 2 (callNo 1) true ∷ []))
+  pub k11-refused : step (pair Normal none Idle (queued 64)) (Check 1) ≡ refused 14
+  pub k11-passes : after (pair Normal none Idle (queued 64)) (Deliver 2 1) ≡ pair Normal none Idle (queued 63 ++ (replies 1 2 (callNo 1) true ∷ []))
+  -- with 63 waiting it asks; with 64, a check that need not ask passes
+  pub k11-room : after (pair Normal none Idle (queued 63)) (Check 1) .queue ≡ queued 63 ++ (asks 1 2 (callNo 4) ∷ [])
+  pub k11-silent : step (pair Reorganization none Idle (queued 64)) (Check 2) ≡ accepted (pair Reorganization none Idle (queued 64)) Plain
   -- "K12 Accept reaching its group's owner in Reorganization: members unchanged."
-  pub k12 : after (pair Reorganization Idle (calls 1 4 2 (callNo 3) (groupNo 33) ∷ [])) (Deliver 1 2) ≡ pair Reorganization Idle (replies 2 1 (callNo 3) true ∷ [])
+  pub k12 : after (pair Reorganization none Collecting (accept 33)) (Deliver 1 2) ≡ pair Reorganization none Collecting plain
+  -- in Election the sender joins
+  pub k12-joins : after (pair Election none Collecting (accept 33)) (Deliver 1 2) ≡ pair Election (setOf (1 ∷ [])) Collecting plain
+  -- not so by the Accept of another group, nor where another leads the node
+  pub k12-group : after (pair Election none Collecting (accept 17)) (Deliver 1 2) ≡ pair Election none Collecting plain
+  pub k12-led : after (beside (follower Election 16 100 none 2 Collecting) (accept 16)) (Deliver 1 2) ≡ beside (follower Election 16 100 none 2 Collecting) plain
   -- "K13 n = 2, finish 9 with task 5: 7."
   pub k13 : step (start 2) (Finish 9 (taskNo 5)) ≡ refused 7
+  -- with the number of a node: 8; with a task as well: 9, as it is Down
+  pub k13-task : step (start 2) (Finish 2 (taskNo 5)) ≡ refused 8
+  pub k13-down : step (start 2) (Finish 2 (taskNo 100)) ≡ refused 9
+
+-- ── "Wrong turnings in this protocol": what happens instead. The first and the last of the five are K4 and K9. ──
+
+pub record WrongTurnings : Type 0 where
+  -- "Emptying members before they are set aside: old members get no invitation." Node 1 has found 2, and its members are 2 and 3.
+  pub members-aside : step (first (leader Normal 1 (Waiting 1 (setOf (2 ∷ [])))) []) (Tick 1)
+      ≡ accepted (first (record {
+        status = Election;
+        counter = 2;
+        group = groupNo 32;
+        coordinator = 1;
+        task = taskNo 100;
+        members = none;
+        last = callNo 2;
+        activity = Inviting none (setOf (2 ∷ 3 ∷ [])) 2;
+      }) (calls 1 3 2 (callNo 2) (groupNo 32) ∷ [])) Merges
+  -- 2 is invited twice and 3 once, whether they answer or not; then node 1 collects
+  pub members-invited : runFrom (first (leader Normal 1 (Waiting 1 (setOf (2 ∷ [])))) []) (Tick 1 ∷ Expire 1 ∷ Expire 1 ∷ Expire 1 ∷ []) .queue
+      ≡ calls 1 3 2 (callNo 2) (groupNo 32) ∷ calls 1 3 2 (callNo 3) (groupNo 32) ∷ calls 1 3 3 (callNo 4) (groupNo 32) ∷ []
+  -- "Taking the task with the invitation: one group, two tasks." Node 2 has finished with task 100. Node 1, which it invited, has its solo task until Ready comes.
+  pub task-waits : printedFields (run 2 (collecting ++ (Finish 2 (taskNo 100) ∷ []))) 1 ≡ 1 ∷ 2 ∷ 2 ∷ 33 ∷ 1 ∷ 1 ∷ 0 ∷ []
+  -- the task comes with the Ready of its group, in Reorganization
+  pub task-comes : after (beside (follower Reorganization 16 100 none 2 Idle) (ready 16 200)) (Deliver 1 2) ≡ beside (follower Normal 16 200 none 2 Idle) plain
+  pub task-of-other : after (beside (follower Reorganization 16 100 none 2 Idle) (ready 32 200)) (Deliver 1 2) ≡ beside (follower Reorganization 16 100 none 2 Idle) plain
+  pub task-too-soon : after (beside (follower Election 16 100 none 2 Idle) (ready 16 200)) (Deliver 1 2) ≡ beside (follower Election 16 100 none 2 Idle) plain
+  -- "Sending Ready on after a recovery, under the new group." Node 1 hands Ready to 2, and 3 is still to come. An answer: 3 is next.
+  pub ready-on : after (first (leader Reorganization 1 (Handing (setOf (3 ∷ [])) 2)) (replies 2 1 (callNo 1) true ∷ [])) (Deliver 2 1)
+      ≡ first (leader Reorganization 2 (Handing none 3)) (readies 1 3 (callNo 2) (groupNo 16) (taskNo 100) ∷ [])
+  -- no answer: it recovers, and sends nothing
+  pub ready-no-more : step (first (leader Reorganization 1 (Handing (setOf (3 ∷ [])) 2)) []) (Expire 1)
+      ≡ accepted (first (record {
+        status = Normal;
+        counter = 2;
+        group = groupNo 32;
+        coordinator = 1;
+        task = taskNo 1;
+        members = none;
+        last = callNo 1;
+        activity = Idle;
+      }) []) Recovers

@@ -2,18 +2,21 @@
 use Prim.Native.Nat.{ℕ, _+_, _≤_, _<_}
 use mathlib.Core.Bool.{Bool, true, false}
 use mathlib.Core.Path.{_≡_}
+use mathlib.Core.Logic.{_⊎_}
 use mathlib.Core.List.{List, [], _∷_, _++_}
 use lib.ListN.{length}
 use Rattle.model.specs.Limits.{nodeLimit}
 use Rattle.model.specs.State.{State, start, nodeAt, goes, waits, oldest, inRange}
 use Rattle.model.specs.Step.{actor, reactionTo, remaining, sent, forms, Result, refused, accepted, step, after, run}
 use Rattle.model.specs.History.{Entry, NotFormed, NoTask, Task, History, newest, coming, history}
+use Rattle.model.specs.Answers.{resultNumber}
 use Rattle.model.specs.declared.Status.{Status}
 use Rattle.model.specs.declared.Status.the-variants.{Down, Election, Reorganization, Normal}
 use Rattle.model.specs.declared.Node.{Node}
 use Rattle.model.specs.declared.TaskNo.{TaskNo}
 use Rattle.model.specs.declared.Message.{Message}
 use Rattle.model.specs.declared.Mark.{Mark}
+use Rattle.model.specs.declared.Mark.the-variants.{Plain, Recovers, Merges}
 use Rattle.model.specs.declared.Event.{Event}
 use Rattle.model.specs.declared.Event.the-variants.{Crash, Recover, Check, Timeout, Tick, Expire, Finish, Deliver, Lose}
 
@@ -61,8 +64,46 @@ pub record RunFixes (n : ℕ) : Type 0 where
       → history n es .entry (coming (history n es) (actor e)) ≡ NotFormed
   pub given-once : (es : List Event) (i : ℕ) (t : TaskNo) (u : State) (k : Mark) → step (run n es) (Finish i t) ≡ accepted u k
       → history n es .entry (newest (history n es) i) ≡ NoTask
+  -- "the group that i formed last" is the one that the table has for i
+  pub own-group : (es : List Event) (i : ℕ) (t : TaskNo) (u : State) (k : Mark) → step (run n es) (Finish i t) ≡ accepted u k
+      → nodeAt (run n es) i .group .number ≡ newest (history n es) i
   -- and a task once given stays
   pub lasts : (es fs : List Event) (g t : ℕ) → history n es .entry g ≡ Task t → history n (es ++ fs) .entry g ≡ Task t
+
+-- ── demand 3 without the history: where in the list a task comes from ──
+
+-- after the events es, e is a recovery that forms the group g, and t is the solo task
+pub record Recovering (n : ℕ) (es : List Event) (e : Event) (g t : ℕ) : Type 0 where
+  pub table : State
+  pub recovers : step (run n es) e ≡ accepted table Recovers
+  pub group : nodeAt table (actor e) .group .number ≡ g
+  pub solo : actor e ≡ t
+
+-- after the events es, e is an accepted finish of a node in the group g, with the task t
+pub record Finishing (n : ℕ) (es : List Event) (e : Event) (g t : ℕ) : Type 0 where
+  pub node : ℕ
+  pub task : TaskNo
+  pub table : State
+  pub event : e ≡ Finish node task
+  pub finishes : step (run n es) e ≡ accepted table Plain
+  pub group : nodeAt (run n es) node .group .number ≡ g
+  pub number : task .number ≡ t
+
+-- an event of the list es fixes t as the task of g
+pub record Fixes (n : ℕ) (es : List Event) (g t : ℕ) : Type 0 where
+  pub before : List Event
+  pub event : Event
+  pub behind : List Event
+  pub whole : es ≡ before ++ (event ∷ behind)
+  pub how : Recovering n before event g t ⊎ Finishing n before event g t
+
+pub record TaskFromList (n : ℕ) : Type 0 where
+  -- a Normal node's task is the solo task of a recovery in the list that formed its group, or else the task of an accepted finish in the list for that group
+  pub task : (es : List Event) (i : ℕ) → 1 ≤ i → i ≤ n → nodeAt (run n es) i .status ≡ Normal
+      → Fixes n es (nodeAt (run n es) i .group .number) (nodeAt (run n es) i .task .number)
+  -- and there is one such event only
+  pub one : (es : List Event) (g t u : ℕ) (a : Fixes n es g t) (b : Fixes n es g u) → a .before ≡ b .before
+  pub same : (es : List Event) (g t u : ℕ) → Fixes n es g t → Fixes n es g u → t ≡ u
 
 -- ── the range ──
 
@@ -74,6 +115,23 @@ pub record StaysInRange : Type 0 where
   -- so every table of a run is in range, and no run meets ground 1
   pub runs : (n : ℕ) → 1 ≤ n → n ≤ nodeLimit → (es : List Event) → inRange (run n es) ≡ true
   pub never-one : (n : ℕ) → 1 ≤ n → n ≤ nodeLimit → (es : List Event) (e : Event) → step (run n es) e ≡ refused 1 → ⊥
+
+-- ── refusals ──
+
+-- the event is accepted
+pub record Accepts (s : State) (e : Event) : Type 0 where
+  pub state : State
+  pub mark : Mark
+  pub is : step s e ≡ accepted state mark
+
+pub record RefusesByGround : Type 0 where
+  -- a refusal's number is that of a ground of events: 1, or 7 to 14
+  pub numbers : (s : State) (e : Event) (r : ℕ) → step s e ≡ refused r → (r ≡ 1) ⊎ ((7 ≤ r) × (r ≤ 14))
+  -- so none has number 0, and a result of number 0 is an accepted event
+  pub never-zero : (s : State) (e : Event) → step s e ≡ refused 0 → ⊥
+  pub zero-accepts : (s : State) (e : Event) → resultNumber (step s e) ≡ 0 → Accepts s e
+  -- "(a delivered one is already out)": no delivery meets 14
+  pub delivery-never-full : (s : State) (a b : ℕ) → step s (Deliver a b) ≡ refused 14 → ⊥
 
 -- ── how little a step changes ──
 

@@ -1,16 +1,17 @@
--- Laws of the sets of specs/NodeSet, for every number of nodes at once.
+-- Laws of the sets of specs/NodeSet, for every number of nodes at once; those that specs/Claims states are put together at the end.
 use Prim.Native.Nat.{ℕ, zero, suc, _+_, _-_, _*_, _^_, _%_, _/_, _≤_, _<_, min}
 use mathlib.Core.Path.{_≡_, refl, sym, ap, _∙_, subst}
-use mathlib.Core.Bool.{true, false, true≢false}
+use mathlib.Core.Bool.{Bool, true, false, true≢false}
 use native.Mathlib.Nat.{mod-eq-of-lt, one-mul, pow-suc, div-div-eq-div-mul, mul-comm, div-one, div-self, div-eq-of-lt, div-eq-of-lt-le, add-sub-cancel}
 use native.Mathlib.Nat.{lt-of-le-of-lt, lt-of-lt-of-le, lt-of-not-le, mod-lt, min-zero, min-le-left, min-eq-left}
 use native.Mathlib.Omega.{arith}
-use lib.Dec.{lit<}
+use lib.Dec.{eqb, lit<}
 use lib.Pow.{pow-pos, pow-lt, pow-mono, ones-lt}
-use lib.Bits.{bitAnd, bitOr, and-le-l, and-zero-r, and-step, and-mask, or-lt, or-shr, or-mod, and-shr, and-mod}
-use lib.Count.{ones, trailingZeros, under, ones-le, ones-step, leading-top, leading-length}
+use lib.Bits.{bitAnd, bitOr, and-le-l, and-zero-r, and-step, and-mask, or-zero-r, or-lt, or-shr, or-mod, and-shr, and-mod}
+use lib.Count.{ones, trailingZeros, under, ones-le, ones-step, ones-ones, leading-of-zero, leading-top, leading-length, trailing-of-zero}
 use borrow.Author.Tests.{eqb-false, eqb-true, eq-eqb, ne-eqb, ltb-true, lt-ltb}
 use Rattle.node_set.specs.NodeSet.{bitOf, has, with, without, lowest, highest, count, upTo, within}
+use Rattle.node_set.specs.Claims.{SetLaws}
 
 -- one shifted by k in a word of more than k bits
 pub one-shifted : (k w : ℕ) → k < w → 1 * 2 ^ k % 2 ^ w ≡ 2 ^ k
@@ -54,6 +55,24 @@ no-digit s i e = omega (arith, eqb-false (digit s (i - 1)) 1 e, digit-lt s (i - 
 lacks : (s i : ℕ) → digit s (i - 1) ≡ 0 → has s i ≡ false
 lacks s i e = ne-eqb (digit s (i - 1)) 1 (λ q. omega arith)
 
+-- the same membership is the same digit
+same-digit : (s t i : ℕ) → has s i ≡ has t i → digit s (i - 1) ≡ digit t (i - 1)
+same-digit s t i e = by (has s i) refl
+  where
+    by : (b : Bool) → has s i ≡ b → digit s (i - 1) ≡ digit t (i - 1)
+    by true q = digit-of s i q ∙ sym (digit-of t i (sym e ∙ q))
+    by false q = no-digit s i q ∙ sym (no-digit t i (sym e ∙ q))
+
+-- numbers of the same digits are the same
+same-number : (n s t : ℕ) → s < 2 ^ n → t < 2 ^ n → ((k : ℕ) → k < n → digit s k ≡ digit t k) → s ≡ t
+same-number zero s t p q f = omega arith
+same-number (suc n) s t p q f =
+    omega (
+      arith,
+      sym (digit-zero s) ∙ f 0 (omega arith) ∙ digit-zero t,
+      same-number n (s / 2) (t / 2) (omega (arith, pow-suc 2 n)) (omega (arith, pow-suc 2 n)) (λ k h. sym (digit-suc s k) ∙ f (suc k) (omega arith) ∙ digit-suc t k),
+    )
+
 -- ---- within n
 
 -- a set within n is below 2 ^ n
@@ -73,6 +92,26 @@ pub member-in : (n s i : ℕ) → within n s ≡ true → has s i ≡ true → i
 member-in n s i w e =
     let no : suc n ≤ i → ⊥ = λ l. omega (arith, digit-of s i e, digit-above s n (i - 1) (within-lt n s w) (omega arith)) in
     omega (arith, lt-of-not-le no)
+
+-- a set within n has no node above n
+pub none-above : (n s j : ℕ) → within n s ≡ true → n < j → has s j ≡ false
+none-above n s j w h = lacks s j (digit-above s n (j - 1) (within-lt n s w) (omega arith))
+
+no-digits-above : (n w s : ℕ) → s < 2 ^ w → ((k : ℕ) → n ≤ k → digit s k ≡ 0) → s < 2 ^ n
+no-digits-above zero w s h f =
+    let z : s ≡ 0 = same-number w s 0 h (pow-pos w) (λ k l. f k (omega arith) ∙ sym (digit-above 0 0 k (lit< tt) (omega arith))) in
+    omega arith
+no-digits-above (suc n) w s h f =
+    omega (arith, pow-suc 2 n, no-digits-above n w (s / 2) (omega arith) (λ k l. sym (digit-suc s k) ∙ f (suc k) (omega arith)))
+
+-- and a set without a node above n is within n
+pub within-all : (n s : ℕ) → s < 2 ^ 16 → ((j : ℕ) → n < j → has s j ≡ false) → within n s ≡ true
+within-all n s h f = lt-within n s (no-digits-above n 16 s h (λ k l. rw (add-sub-cancel k 1) at (no-digit s (k + 1) (f (k + 1) (omega arith)))))
+
+-- sets within n that have the same nodes are the same
+pub same-set : (n s t : ℕ) → within n s ≡ true → within n t ≡ true → ((j : ℕ) → 1 ≤ j → j ≤ n → has s j ≡ has t j) → s ≡ t
+same-set n s t v w f =
+    same-number n s t (within-lt n s v) (within-lt n t w) (λ k h. rw (add-sub-cancel k 1) at (same-digit s t (k + 1) (f (k + 1) (omega arith) (omega arith))))
 
 -- a node of a set is not one that the set lacks
 pub member-other : (s i m : ℕ) → has s m ≡ true → has s i ≡ false → m ≡ i → ⊥
@@ -185,10 +224,13 @@ or-one (suc (suc d)) h = omega arith
 pub with-within : (n s i : ℕ) → within n s ≡ true → 1 ≤ i → i ≤ n → within n (with s i) ≡ true
 with-within n s i w l u = lt-within n (with s i) (or-lt n s (bitOf i) (within-lt n s w) (pow-lt {j = n} (omega arith)))
 
+-- with a node, the others are as they were
+pub with-others : (s i j : ℕ) → 1 ≤ i → 1 ≤ j → (j ≡ i → ⊥) → has (with s i) j ≡ has s j
+with-others s i j li lj ne = rw (digit-or s (bitOf i) (j - 1), power-digit (i - 1) (j - 1) (λ q. ne (omega arith)), or-zero-r)
+
 -- a set lacks what it lacked, but for the node added
 pub with-lacks : (s i j : ℕ) → 1 ≤ i → 1 ≤ j → (j ≡ i → ⊥) → has s i ≡ false → has (with s j) i ≡ false
-with-lacks s i j li lj ne e =
-    lacks (with s j) i (rw (digit-or s (bitOf j) (i - 1), no-digit s i e, power-digit (j - 1) (i - 1) (λ q. ne (omega arith))))
+with-lacks s i j li lj ne e = with-others s j i lj li (λ q. ne (sym q)) ∙ e
 
 -- a set has the node added
 pub with-has : (s i : ℕ) → has (with s i) i ≡ true
@@ -206,6 +248,23 @@ mask-clear zero k = digit-above (0 - 2 ^ k) 0 k (omega arith) (omega arith)
 mask-clear (suc w) zero = digit-zero (2 ^ suc w - 1 - 1) ∙ omega (arith, pow-suc 2 w)
 mask-clear (suc w) (suc k) = digit-suc (2 ^ suc w - 1 - 2 ^ suc k) k ∙ rw mask-half (mask-clear w k)
 
+-- a word of digits that are 1, less one of them, has the others
+mask-keeps : (w j k : ℕ) → j < w → k < w → (k ≡ j → ⊥) → digit (2 ^ w - 1 - 2 ^ j) k ≡ 1
+mask-keeps zero j k p q ne = omega arith
+mask-keeps (suc w) zero zero p q ne = absurd (ne refl)
+mask-keeps (suc w) (suc j) zero p q ne =
+    digit-zero (2 ^ suc w - 1 - 2 ^ suc j) ∙ omega (arith, pow-suc 2 w, pow-suc 2 j, pow-lt {i = j} {j = w} (omega arith))
+mask-keeps (suc w) zero (suc k) p q ne =
+    let r : (2 ^ suc w - 1 - 1) / 2 ≡ 2 ^ w - 1 = omega (arith, pow-suc 2 w) in
+    digit-suc (2 ^ suc w - 1 - 1) k ∙ rw r (all-digits w k (omega arith))
+mask-keeps (suc w) (suc j) (suc k) p q ne =
+    digit-suc (2 ^ suc w - 1 - 2 ^ suc j) k ∙ rw mask-half (mask-keeps w j k (omega arith) (omega arith) (λ e. ne (ap suc e)))
+
+and-one : (d : ℕ) → d < 2 → bitAnd d 1 ≡ d
+and-one zero h = refl
+and-one (suc zero) h = refl
+and-one (suc (suc d)) h = omega arith
+
 -- a set within n stays so without a node
 pub without-within : (n s i : ℕ) → within n s ≡ true → within n (without s i) ≡ true
 without-within n s i w = lt-within n (without s i) (lt-of-le-of-lt (and-le-l s (65535 - bitOf i)) (within-lt n s w))
@@ -217,6 +276,16 @@ without-lacks s i j e = lacks (without s j) i (rw (digit-and s (65535 - bitOf j)
 -- a set lacks the node removed
 pub without-self : (s i : ℕ) → has (without s i) i ≡ false
 without-self s i = lacks (without s i) i (rw (digit-and s (65535 - bitOf i) (i - 1), mask-clear 16 (i - 1)) (and-zero-r (digit s (i - 1))))
+
+-- without a node, the others are as they were
+pub without-others : (n s i j : ℕ) → n ≤ 16 → within n s ≡ true → 1 ≤ i → i ≤ n → 1 ≤ j → (j ≡ i → ⊥) → has (without s i) j ≡ has s j
+without-others n s i j h w li ui lj ne = by (has s j) refl
+  where
+    by : (b : Bool) → has s j ≡ b → has (without s i) j ≡ has s j
+    by true q =
+        let m = mask-keeps 16 (i - 1) (j - 1) (omega arith) (omega (arith, member-in n s j w q)) (λ e. ne (omega arith)) in
+        rw (digit-and s (65535 - bitOf i) (j - 1), m, and-one (digit s (j - 1)) (digit-lt s (j - 1)))
+    by false q = without-lacks s j i q ∙ sym q
 
 -- removing a member makes a set less, as a number
 pub without-less : (s i : ℕ) → has s i ≡ true → without s i < s
@@ -272,3 +341,44 @@ ones-without (suc w) (suc k) s h q e =
 pub count-without : (s i : ℕ) → s < 2 ^ 16 → has s i ≡ true → count (without s i) + 1 ≡ count s
 count-without s i h e =
     ones-without 16 (i - 1) s (omega (arith, member-in 16 s i (lt-within 16 s h) e)) h (digit-of s i e)
+
+-- adding a node that was not in it counts one more
+pub count-with : (n s i : ℕ) → n ≤ 16 → within n s ≡ true → 1 ≤ i → i ≤ n → has s i ≡ false → count (with s i) ≡ count s + 1
+count-with n s i h w l u e =
+    let v = with-within n s i w l u in
+    let z : without (with s i) i ≡ s = same-set n (without (with s i) i) s (without-within n (with s i) i v) w (λ j lj uj. by j lj uj (eqb j i) refl) in
+    sym (count-without (with s i) i (within-word n (with s i) h v) (with-has s i)) ∙ ap (λ (x : ℕ). count x + 1) z
+  where
+    by : (j : ℕ) → 1 ≤ j → j ≤ n → (b : Bool) → eqb j i ≡ b → has (without (with s i) i) j ≡ has s j
+    by j lj uj true q = rw (eqb-true j i q) (without-self (with s i) i ∙ sym e)
+    by j lj uj false q =
+        without-others n (with s i) i j h (with-within n s i w l u) l u lj (eqb-false j i q) ∙ with-others s i j l lj (eqb-false j i q)
+
+-- ---- the claim
+pub set-laws : (n : ℕ) → n ≤ 16 → SetLaws n
+set-laws n h =
+    record {
+      none-above = none-above n;
+      within-all = within-all n;
+      same = same-set n;
+      empty-within = empty-within n;
+      empty-lacks = empty-lacks;
+      all-within = upTo-within n;
+      all-has = upTo-has n;
+      with-within = with-within n;
+      with-has = with-has;
+      with-others = with-others;
+      without-within = without-within n;
+      without-lacks = without-self;
+      without-others = λ s i j. without-others n s i j h;
+      lowest-has = λ s w p. has-lowest s p (within-word n s h w);
+      lowest-least = lowest-least;
+      lowest-none = ap (_+ 1) (trailing-of-zero 16);
+      highest-has = λ s w p. has-highest s p (within-word n s h w);
+      highest-most = λ s j w e. highest-most s j e (within-word n s h w);
+      highest-none = ap (λ (k : ℕ). 16 - k) (leading-of-zero 16);
+      count-none = ones-ones 0;
+      count-with = λ s i. count-with n s i h;
+      count-without = λ s i w. count-without s i (within-word n s h w);
+      count-within = count-within n;
+    }

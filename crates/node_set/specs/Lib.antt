@@ -1,1 +1,2 @@
 pub mod NodeSet
+pub mod Claims

@@ -9,7 +9,7 @@ use Rattle.model.specs.declared.Activity.{Activity}
 use Rattle.model.specs.declared.Activity.the-variants.{Idle, Asking, Waiting, Inviting, Collecting, Handing, Contacting, Forwarding, Accepting}
 use Rattle.model.specs.declared.Node.{Node}
 use Rattle.model.specs.declared.Message.{Message}
-use Rattle.node_step.specs.Fits.{Fits, FitsActivity}
+use Rattle.node_step.specs.Fits.{Fits, FitsActivity, RangeFits}
 
 busy-fits : (n i g t : ℕ) (a : Activity) → n ≤ 16 → Busy n i g t a → FitsActivity a
 busy-fits n i g t Idle h b = tt
@@ -29,3 +29,6 @@ in-range-fits n i c h l u e =
 
 pub message-fits : (n : ℕ) (m : Message) → n ≤ 16 → messageInRange n m ≡ true → (1 ≤ m .sender) × (m .sender ≤ 16)
 message-fits n m h e = let f = message-facts n m e .sender in (f .low, omega arith)
+
+pub range-fits : (n : ℕ) → n ≤ 16 → RangeFits n
+range-fits n h = record { node = λ i c. in-range-fits n i c h; message = λ m. message-fits n m h }

@@ -1,6 +1,9 @@
--- What the code needs of a node and its input, so that no number leaves its word. What is in range has it: proofs/InRange.
+-- What the code needs of a node and its input, so that no number leaves its word. What is in range has it: RangeFits.
 use Prim.Native.Nat.{ℕ, _≤_}
+use mathlib.Core.Bool.{true}
+use mathlib.Core.Path.{_≡_}
 use Rattle.model.specs.Limits.{nodeLimit, counterEnd, callEnd}
+use Rattle.model.specs.Range.{nodeInRange, messageInRange}
 use Rattle.model.specs.declared.Activity.{Activity}
 use Rattle.model.specs.declared.Activity.the-variants.{Idle, Asking, Waiting, Inviting, Collecting, Handing, Contacting, Forwarding, Accepting}
 use Rattle.model.specs.declared.Node.{Node}
@@ -41,3 +44,8 @@ FitsInput Tick = Unit {0}
 FitsInput Expire = Unit {0}
 FitsInput (Finish t) = Unit {0}
 FitsInput (Receive m) = FitsSender m
+
+-- What is in range, among n nodes, has it.
+pub record RangeFits (n : ℕ) : Type 0 where
+  pub node : (i : ℕ) (c : Node) → 1 ≤ i → i ≤ n → nodeInRange n i c ≡ true → Fits i c
+  pub message : (m : Message) → messageInRange n m ≡ true → FitsSender m

@@ -7,7 +7,7 @@ use Rattle.model.specs.React.{checked as isChecked, timedOut, ticked, expired, 
 use Rattle.model.specs.Range.{activityInRange, nodeInRange, messageInRange}
 use Rattle.model.specs.State.{waits, oldest, withoutOldest, every, inRange}
 use Rattle.model.specs.Step.{reactionTo, remaining, effect, grounds, judged, step, runFrom}
-use Rattle.model.proofs.NamedCases.{named-cases}
+use Rattle.model.proofs.Cases.{named-cases}
 use Rattle.event_list.specs.Format.{lengthOf, cutShort, checked, eventOf, nextAt, nodesOf, firstOf, readFrom, rest, reading}
 use Rattle.listing.specs.Decimal.{digits, decimal}
 use Rattle.listing.specs.Lines.{row, cabinetsLine, refusedLine, stoppedLine, nodeLine, messagesLine, nodeLines, tableLines}

@@ -1,4 +1,4 @@
--- The named cases, computed over the definitions.
+-- The named cases and the wrong turnings, computed over the definitions.
 use mathlib.Core.Path.{_≡_, refl}
 use lib.Count.{onesIn, ones, leadingZeros, trailingZeros}
 use lib.Bits.{bitAnd, bitOr}
@@ -9,7 +9,7 @@ use Rattle.model.specs.Range.{activityInRange, nodeInRange, messageInRan
 use Rattle.model.specs.State.{waits, oldest, withoutOldest, every, inRange}
 use Rattle.model.specs.Step.{reactionTo, remaining, effect, wrongNumber, wrongTask, wrongStatus, wrongActivity, noneWaits, grounds, judged, step, runFrom}
 use Rattle.model.specs.History.{updated, historyFrom}
-use Rattle.model.specs.Cases.{NamedCases}
+use Rattle.model.specs.Cases.{NamedCases, WrongTurnings}
 
 pub named-cases : NamedCases
 unfolding pick onesIn ones leadingZeros trailingZeros bitAnd bitOr inviteNext merges handNext finishes forwardNext askedAll askAt askAfter checked timedOut ticked expired resumed onAreYouCoordinator onAreYouThere onInvitation onAccept onReady onReply received react activityInRange nodeInRange messageInRange waits oldest withoutOldest every inRange reactionTo remaining effect wrongNumber wrongTask wrongStatus wrongActivity noneWaits grounds judged step runFrom updated historyFrom
@@ -20,26 +20,67 @@ named-cases =
       k1-first = refl;
       k1-last = refl;
       k2 = refl;
+      k2-other = refl;
+      k2-emptied = refl;
       k3 = refl;
       k4 = refl;
+      k4-crash = refl;
       k5-passes = refl;
       k5-ends = refl;
+      k5-merge-passes = refl;
+      k5-merge-ends = refl;
+      k5-no-group = refl;
       k6-collects = refl;
       k6-refused = refl;
       k6-passes = refl;
+      k6-last = refl;
+      k6-high = refl;
+      k6-no-member = refl;
+      k6-idle = refl;
+      k6-idle-task = refl;
       k7-waits = refl;
       k7-first = refl;
       k7-still = refl;
       k7-second = refl;
       k7-merges = refl;
+      k7-invites = refl;
       k8 = refl;
+      k8-reorganizing = refl;
+      k8-owner = refl;
+      k8-normal = refl;
+      k8-no-member = refl;
+      k8-led = refl;
       k9 = refl;
+      k9-yes = refl;
+      k9-no = refl;
+      k9-no-call = refl;
       k10-first = refl;
       k10-second = refl;
       k10-messages = refl;
       k10-task = refl;
       k11-refused = refl;
       k11-passes = refl;
+      k11-room = refl;
+      k11-silent = refl;
       k12 = refl;
+      k12-joins = refl;
+      k12-group = refl;
+      k12-led = refl;
       k13 = refl;
+      k13-task = refl;
+      k13-down = refl;
+    }
+
+pub wrong-turnings : WrongTurnings
+unfolding pick onesIn ones leadingZeros trailingZeros bitAnd bitOr inviteNext merges handNext finishes forwardNext askedAll askAt askAfter checked timedOut ticked expired resumed onAreYouCoordinator onAreYouThere onInvitation onAccept onReady onReply received react activityInRange nodeInRange messageInRange waits oldest withoutOldest every inRange reactionTo remaining effect wrongNumber wrongTask wrongStatus wrongActivity noneWaits grounds judged step runFrom updated historyFrom
+wrong-turnings =
+    record {
+      members-aside = refl;
+      members-invited = refl;
+      task-waits = refl;
+      task-comes = refl;
+      task-of-other = refl;
+      task-too-soon = refl;
+      ready-on = refl;
+      ready-no-more = refl;
     }
