@@ -23,7 +23,7 @@ folded-runs (more {es = es} s f) = folded-runs f ∙ ap (λ (v : State). runFrom
 
 -- from the starting table of n nodes
 pub started-runs : (n : ℕ) (b : Start) {u : Table} {es : List Event} → Begun n b → wrongCount n ≡ false → Folded (b .table) es u → view u ≡ run n es
-started-runs n b {es = es} g w f = folded-runs f ∙ ap (λ (v : State). runFrom v es) (g .table w)
+started-runs n b {es = es} g w f = folded-runs f ∙ ap (λ (v : State). runFrom v es) (g .table)
 
 -- Demand 3's agreement in one state: groups agree on coordinator and task.
 pub record Agrees (n : ℕ) (es : List Event) (s : State) : Type 0 where
