@@ -20,6 +20,7 @@ use Rattle.model.specs.declared.Node.{Node}
 use Rattle.model.specs.declared.Message.{Message}
 use Rattle.model.specs.declared.Table.{Table}
 use Rattle.model.proofs.Table as T
+use Rattle.machine.specs.Stepped.{startingTable}
 use Rattle.machine.specs.Parts.{place, without, Left}
 
 -- What owning a table tells of its arrays: their lengths. `c .good .0` of a parameter and `c .CALL .ok` of a call's result are the relation. This is the one
@@ -168,12 +169,12 @@ module _ (t : Table) (s : Sized t) (small : t .n ≤ 16) (short : t .waiting ≤
       one-more = rw (add-one left) (take-suc-set ms left m (omega arith))
 
 -- ── the starting table ──
-pub first-replicate : {A : Type 0} (k w : ℕ) (d : A) → k ≤ w → firstOf k d (replicate w d) ≡ replicate k d
+pub first-replicate : {A : Type 0} (k w : ℕ) (d : A) → firstOf k d (replicate w d) ≡ replicate k d
 unfolding firstOf
-first-replicate zero w d h = refl
-first-replicate (suc k) zero d h = absurd (not-suc-le-zero h)
-first-replicate {A} (suc k) (suc w) d h = ap (λ (r : List A). d ∷ r) (first-replicate k w d (omega arith))
+first-replicate zero w d = refl
+first-replicate {A} (suc k) zero d = ap (λ (r : List A). d ∷ r) (first-replicate k zero d)
+first-replicate {A} (suc k) (suc w) d = ap (λ (r : List A). d ∷ r) (first-replicate k w d)
 
-pub start-is : (t : Table) (n : ℕ) → n ≤ 16 → (t .n ≡ n) × (t .waiting ≡ 0) × (t .nodes ≡ replicate 16 startingNode) → view t ≡ start n
+pub start-is : (n : ℕ) → view (startingTable n) ≡ start n
 unfolding firstOf
-start-is t n h e = rw (e .0, e .1, e .2) (state-is n (first-replicate n 16 startingNode h) refl)
+start-is n = state-is n (first-replicate n 16 startingNode) refl

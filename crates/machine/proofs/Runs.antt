@@ -1,19 +1,31 @@
 -- What ties the code to demand 3: the tables that the code's step returns, one after another, are those of the model's run.
-use Prim.Native.Nat.{ℕ, _≤_}
+use Prim.Native.Nat.{ℕ, _+_, _≤_}
+use native.Mathlib.Omega.{arith}
 use mathlib.Core.Path.{_≡_, refl, sym, _∙_, ap, subst}
-use mathlib.Core.List.{List, [], _∷_, append-nil}
+use mathlib.Core.List.{List, [], _∷_, _++_}
 use mathlib.Core.Bool.{Bool, true, false}
-use Rattle.model.specs.State.{State, nodeAt, wrongCount, view}
-use Rattle.model.specs.Step.{runFrom, run}
-use Rattle.model.specs.History.{Task, history}
-use Rattle.model.specs.Claims.{isActive}
+use Rattle.model.specs.Limits.{nodeLimit}
+use Rattle.model.specs.State.{State, nodeAt, view}
+use Rattle.model.specs.Step.{actor, reactionTo, forms, Result, refused, accepted, step, kept, runFrom, run}
+use Rattle.model.specs.Answers.{answerNumber, resultNumber}
+use Rattle.model.specs.History.{Task, coming, history}
+use Rattle.model.specs.Claims.{isActive, Lacks, RunFixes}
+use Rattle.model.proofs.Judged.{accepted-is}
+use Rattle.model.proofs.Refusals.{refuses-by-ground}
 use Rattle.model.proofs.Whole.{run-fixes}
 use Rattle.model.specs.declared.Status.the-variants.{Normal}
 use Rattle.model.specs.declared.Table.{Table}
 use Rattle.model.specs.declared.Event.{Event}
+use Rattle.model.specs.declared.Mark.{Mark}
+use Rattle.model.specs.declared.Outcome.{Outcome}
+use Rattle.model.specs.declared.Answer.{Answer}
+use Rattle.model.specs.declared.Answer.the-variants.{Accepted, NotInRange, WrongNumber, WrongTask, WrongStatus, WrongActivity, NoMessage, CounterAtEnd, CallsAtEnd, QueueFull}
 use Rattle.machine.specs.declared.Start.{Start}
 use Rattle.machine.specs.Stepped.{Stepped, Begun}
 use Rattle.machine.specs.Folded.{Folded, none, more}
+use Rattle.machine.specs.Claims.{AcceptedAlike, isForming, Chain, Reached, CodeFixes}
+
+-- ── the tables of a chain are those of the model's run ──
 
 -- from any table
 pub folded-runs : {t u : Table} {es : List Event} → Folded t es u → view u ≡ runFrom (view t) es
@@ -22,25 +34,79 @@ folded-runs none = refl
 folded-runs (more {es = es} s f) = folded-runs f ∙ ap (λ (v : State). runFrom v es) (s .table)
 
 -- from the starting table of n nodes
-pub started-runs : (n : ℕ) (b : Start) {u : Table} {es : List Event} → Begun n b → wrongCount n ≡ false → Folded (b .table) es u → view u ≡ run n es
-started-runs n b {es = es} g w f = folded-runs f ∙ ap (λ (v : State). runFrom v es) (g .table w)
+pub started-runs : (n : ℕ) (b : Start) {u : Table} {es : List Event} → Begun n b → Folded (b .table) es u → view u ≡ run n es
+started-runs n b {es = es} g f = folded-runs f ∙ ap (λ (v : State). runFrom v es) (g .table)
 
--- Demand 3's agreement in one state: groups agree on coordinator and task.
-pub record Agrees (n : ℕ) (es : List Event) (s : State) : Type 0 where
-  pub same-coordinator : (i j : ℕ) → 1 ≤ i → i ≤ n → 1 ≤ j → j ≤ n
-      → isActive (nodeAt s i .status) ≡ true → isActive (nodeAt s j .status) ≡ true
-      → nodeAt s i .group .number ≡ nodeAt s j .group .number
-      → nodeAt s i .coordinator ≡ nodeAt s j .coordinator
-  pub same-task : (i : ℕ) → 1 ≤ i → i ≤ n → nodeAt s i .status ≡ Normal
-      → history n es .entry (nodeAt s i .group .number) ≡ Task (nodeAt s i .task .number)
+-- two chains, one after the other
+pub folded-append : {t u v : Table} {es fs : List Event} → Folded t es u → Folded u fs v → Folded t (es ++ fs) v
+folded-append none g = g
+folded-append (more s f) g = more s (folded-append f g)
 
-run-agrees : (n : ℕ) → n ≤ 16 → (es : List Event) → Agrees n es (run n es)
-run-agrees n h es =
-    record {
-      same-coordinator = run-fixes n h .same-coordinator es;
-      same-task = λ i l u q. rw append-nil at (run-fixes n h .fixed-task es [] i l u q);
-    }
+-- ── Accepted, of the code and of the model ──
 
--- so it holds of the table that the code computes; the other claims of demand 3 carry over in the same way, by `started-runs`
-pub code-agrees : (n : ℕ) → n ≤ 16 → (b : Start) {u : Table} {es : List Event} → Begun n b → wrongCount n ≡ false → Folded (b .table) es u → Agrees n es (view u)
-code-agrees n h b {es = es} g w f = subst (Agrees n es) (sym (started-runs n b g w f)) (run-agrees n h es)
+-- 0 is the number of Accepted alone
+zero-is : (a : Answer) → answerNumber a ≡ 0 → a ≡ Accepted
+zero-is Accepted e = refl
+zero-is NotInRange e = absurd (omega (arith, e))
+zero-is WrongNumber e = absurd (omega (arith, e))
+zero-is WrongTask e = absurd (omega (arith, e))
+zero-is WrongStatus e = absurd (omega (arith, e))
+zero-is WrongActivity e = absurd (omega (arith, e))
+zero-is NoMessage e = absurd (omega (arith, e))
+zero-is CounterAtEnd e = absurd (omega (arith, e))
+zero-is CallsAtEnd e = absurd (omega (arith, e))
+zero-is QueueFull e = absurd (omega (arith, e))
+
+pub accepted-alike : {t : Table} {e : Event} {r : Outcome} → Stepped t e r → AcceptedAlike t e r
+accepted-alike {t} {e} {r} x = record { model-accepts = by (step (view t) e) refl; code-accepts = λ u k i. zero-is (r .answer) (x .answer ∙ ap resultNumber i) }
+  where
+    by : (q : Result) → step (view t) e ≡ q → r .answer ≡ Accepted → step (view t) e ≡ accepted (view (r .table)) (reactionTo (view t) e .mark)
+    by (refused k) i a =
+        let z : k ≡ 0 = sym (ap resultNumber i) ∙ sym (x .answer) ∙ ap answerNumber a in
+        absurd (refuses-by-ground .never-zero (view t) e (i ∙ ap refused z))
+    by (accepted u k) i a =
+        let z : view (r .table) ≡ u = x .table ∙ ap (kept (view t)) i in
+        i ∙ ap (λ (m : Mark). accepted u m) (accepted-is (view t) e u k i .mark) ∙ ap (λ (v : State). accepted v (reactionTo (view t) e .mark)) (sym z)
+
+-- ── demand 3 ──
+
+-- of any chain that is one of steps
+module _ (chain : Chain) (folds : (t : Table) (es : List Event) (u : Table) → chain t es u → Folded t es u) (n : ℕ) (h : n ≤ nodeLimit) where
+  -- the model's step, where the code accepts e on a table that es led to
+  steps : (es : List Event) {u : Table} {e : Event} {r : Outcome} → view u ≡ run n es → Stepped u e r → r .answer ≡ Accepted → step (run n es) e ≡ accepted (view (r .table)) (reactionTo (view u) e .mark)
+  steps es {e = e} z x a = ap (λ (s : State). step s e) (sym z) ∙ accepted-alike x .model-accepts a
+
+  runs : {es : List Event} {t : Table} → Reached chain n es t → view t ≡ run n es
+  runs c = started-runs n (c .first) (c .begun) (folds _ _ _ (c .led))
+
+  runs-on : {es fs : List Event} {t u : Table} → Reached chain n es t → chain t fs u → view u ≡ run n (es ++ fs)
+  runs-on c d = started-runs n (c .first) (c .begun) (folded-append (folds _ _ _ (c .led)) (folds _ _ _ d))
+
+  pub chain-fixes : CodeFixes chain n
+  chain-fixes =
+      record {
+        same-coordinator = λ {es} {t} c.
+            subst
+            (λ (s : State). (i j : ℕ) → 1 ≤ i → i ≤ n → 1 ≤ j → j ≤ n
+            → isActive (nodeAt s i .status) ≡ true → isActive (nodeAt s j .status) ≡ true
+            → nodeAt s i .group .number ≡ nodeAt s j .group .number
+            → nodeAt s i .coordinator ≡ nodeAt s j .coordinator)
+            (sym (runs c)) (run-fixes n h .same-coordinator es);
+        fixed-task = λ {es} {t} c fs.
+            subst
+            (λ (s : State). (i : ℕ) → 1 ≤ i → i ≤ n → nodeAt s i .status ≡ Normal
+            → history n (es ++ fs) .entry (nodeAt s i .group .number) ≡ Task (nodeAt s i .task .number))
+            (sym (runs c)) (run-fixes n h .fixed-task es fs);
+        numbered = λ {es} {u} {e} {r} c x a f. run-fixes n h .numbered es e _ _ (steps es (runs c) x a) f;
+        fresh = λ {es} {fs} {t} {u} {e} {r} c d x a f.
+            subst (λ (s : State). Lacks s (coming (history n (es ++ fs)) (actor e))) (sym (runs c)) (run-fixes n h .fresh es fs e _ _ (steps (es ++ fs) (runs-on c d) x a) f);
+        borrowed = λ {es} {u} {e} {r} c x a f j l k q.
+            run-fixes n h .borrowed es e _ _ (steps es (runs c) x a) f j l k (subst (λ (s : State). Lacks s (nodeAt (view (r .table)) j .group .number)) (runs c) q);
+        formed-once = λ {es} {u} {e} {r} c x a f. run-fixes n h .formed-once es e _ _ (steps es (runs c) x a) f;
+        given-once = λ {es} {u} {i} {x} {r} c s a. run-fixes n h .given-once es i x _ _ (steps es (runs c) s a);
+        lasts = run-fixes n h .lasts;
+      }
+
+-- of the step by value
+pub code-fixes : (n : ℕ) → n ≤ nodeLimit → CodeFixes Folded n
+code-fixes = chain-fixes Folded (λ t es u f. f)

@@ -2,8 +2,10 @@
 use Prim.Native.Nat.{ℕ, _≤_}
 use mathlib.Core.Path.{_≡_}
 use mathlib.Core.Bool.{Bool, true, false}
+use lib.ListN.{replicate}
 use Rattle.model.specs.Pick.{pick}
-use Rattle.model.specs.State.{start, wrongCount, view}
+use Rattle.model.specs.Limits.{nodeLimit, queueLimit}
+use Rattle.model.specs.State.{startingNode, start, wrongCount, noMessage, view}
 use Rattle.model.specs.Step.{step, after}
 use Rattle.model.specs.Answers.{answerNumber, resultNumber}
 use Rattle.model.specs.declared.Table.{Table}
@@ -29,7 +31,14 @@ abbrev pub startNumber : StartAnswer → ℕ
 startNumber Started = 0
 startNumber WrongCount = 6
 
--- the starting table of n nodes, or refusal 6; the table beside a refusal is free
+-- "all Down and idle, every number 0, every set empty, no messages": in every record and every place of the code's table
+abbrev pub startingTable : ℕ → Table
+startingTable n = record { n = n; nodes = replicate nodeLimit startingNode; messages = replicate queueLimit noMessage; waiting = 0 }
+
+-- what a starting table of n nodes is answered with: refusal 6, or none; and the table, which is the same beside a refusal
 pub record Begun (n : ℕ) (r : Start) : Type 0 where
   pub answer : startNumber (r .answer) ≡ pick (wrongCount n) 6 0
-  pub table : wrongCount n ≡ false → view (r .table) ≡ start n
+  -- it is the model's
+  pub table : view (r .table) ≡ start n
+  -- and nothing of it is free
+  pub exact : r .table ≡ startingTable n

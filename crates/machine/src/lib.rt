@@ -6,9 +6,8 @@ mod range;
 ghost use mathlib.Core.Path.{_≡_};
 ghost use mathlib.Core.Bool.{true};
 ghost use Prim.Native.Nat.{ℕ, _≤_, _<_};
-ghost use lib.ListN.{replicate};
-ghost use Rattle.model.specs.State.{startingNode, view, inRange};
-ghost use Rattle.machine.specs.Stepped.{Stepped, Begun};
+ghost use Rattle.model.specs.State.{view, inRange};
+ghost use Rattle.machine.specs.Stepped.{Stepped, startingTable, Begun};
 pub use grounds::actor;
 pub use grounds::answer_number;
 pub use grounds::is_accepted;
@@ -46,8 +45,9 @@ pub struct Verdict {
     pub reaction: Reaction,
 }
 
+// The starting table of n nodes, whatever n is.
 fn blank(n: u8) -> Table
-    ensures { λ r. ⌜ (r .n ≡ n) × (r .waiting ≡ 0) × (r .nodes ≡ replicate 16 startingNode) ⌝ }
+    ensures { λ r. ⌜ r ≡ startingTable n ⌝ }
 {
     let c = Node {
         status: Status::Down,
@@ -76,7 +76,7 @@ fn blank(n: u8) -> Table
     }
 }
 
-// The starting table of n nodes, or refusal 6.
+// The starting table of n nodes, and beside it refusal 6 where there is no such number of nodes.
 pub fn starting(n: u8) -> Start
     ensures { λ r. ⌜ Begun n r ⌝ }
 {

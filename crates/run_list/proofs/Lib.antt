@@ -2,4 +2,5 @@ pub mod Laws
 pub mod Bound
 pub mod Behind
 pub mod NamedCases
+pub mod Mutants
 pub mod Turns

@@ -3,7 +3,6 @@ use borrow.Author.Needs.{needs}
 use denote.Ref.{now}
 use mathlib.Core.Path.{refl, _∙_}
 use Rattle.event_list.proofs.Reading.{first-good}
-use Rattle.run_list.proofs.Laws.{count-right}
 use Rattle.session_run.proofs.in_place.print_lines.Statement.{statement}
 use Rattle.session_run.proofs.in_place.print_lines.Tie as tie
 
@@ -25,7 +24,7 @@ returns-2 c =
     let h = m .before .before .before .before in
     let l = now (h .before .before .before .before .args .list) in
     let f = rw (m .n .given .1) at (h .put-heading .ensures) in
-    r .run .ensures ∙ rw (s .starting .ensures .table (count-right l refl (f .first))) (f .rest-of)
+    r .run .ensures ∙ rw (s .starting .ensures .table) (f .rest-of)
 
 pub print-lines-spec : {M : Type 1} → statement M
 print-lines-spec =

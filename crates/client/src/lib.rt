@@ -1,0 +1,28 @@
+// What a user of the library writes: the public entries called one after another, and a part of demand 3 cited for the table that comes out.
+ghost use mathlib.Core.List.{[], _∷_};
+ghost use Rattle.model.specs.State.{view};
+ghost use Rattle.client.specs.Fixed.{Fixed};
+use model::Event;
+use model::Outcome;
+
+// Two events from the starting table of n nodes, by value. A Normal node's task is the one that the list fixed for its group.
+pub fn stepped(n: u8, a: Event, b: Event) -> Outcome
+    ensures { λ r. ⌜ Fixed n (a ∷ b ∷ []) (view (r .table)) ⌝ }
+{
+    let s = machine::starting(n);
+    let t = s.table;
+    let o = machine::step(t, a);
+    let u = o.table;
+    machine::step(u, b)
+}
+
+// The same in place.
+pub fn applied(n: u8, a: Event, b: Event) -> Outcome
+    ensures { λ r. ⌜ Fixed n (a ∷ b ∷ []) (view (r .table)) ⌝ }
+{
+    let s = machine::starting(n);
+    let t = s.table;
+    let o = session::stepped_in_place(t, a);
+    let u = o.table;
+    session::stepped_in_place(u, b)
+}

@@ -1,0 +1,195 @@
+-- No mutant and no wrong turning meets the contract: computed over the definitions on concrete tables, and shown for every table where the claim is for every one.
+use Prim.Native.Nat.{ℕ, zero, suc, _+_, _-_, _≤_, _<_}
+use native.Mathlib.Omega.{arith}
+use mathlib.Core.Bool.{Bool, true, false, not, _&&_, true≢false}
+use mathlib.Core.Path.{_≡_, refl, sym, _∙_, ap, subst}
+use mathlib.Core.List.{List, [], _∷_, _++_, append-nil}
+use lib.Count.{onesIn, ones, leadingZeros, trailingZeros}
+use lib.Bits.{bitAnd, bitOr}
+use lib.Dec.{eqb, leb}
+use lib.ListN.{length, getD, set, replicate}
+use lib.Seq.{getD-set-same}
+use borrow.Author.Tests.{le-leb, ne-eqb, eqb-true}
+use Rattle.model.specs.Pick.{pick, by-test}
+use Rattle.model.specs.Limits.{nodeLimit, queueLimit, counterEnd, callEnd}
+use Rattle.model.specs.Node.{isDown, replies}
+use Rattle.model.specs.Procedures.{inviteNext, merges, handNext, finishes, forwardNext, askedAll, askAt, askAfter}
+use Rattle.model.specs.React.{checked, timedOut, ticked, expired, resumed, onAreYouCoordinator, onAreYouThere, onInvitation, onAccept, onReady, onReply, received, react}
+use Rattle.model.specs.Range.{activityInRange, nodeInRange, messageInRange}
+use Rattle.model.specs.State.{State, startingNode, start, nodeAt, waits, oldest, withoutOldest, every, inRange, firstOf, view}
+use Rattle.model.specs.Step.{actor, reactionTo, remaining, effect, forms, isCalling, isSending, grounds, judged, Result, refused, accepted, step, kept, after, runFrom, run}
+use Rattle.model.specs.Answers.{answerNumber, resultNumber}
+use Rattle.model.specs.Cases.{pair}
+use Rattle.model.specs.Claims.{isActive}
+use Rattle.model.proofs.Judged.{by-step}
+use Rattle.model.proofs.Local.{both-right}
+use Rattle.model.proofs.Fields.{in-range-size}
+use Rattle.model.proofs.InRange.{stays-in-range}
+use Rattle.model.specs.declared.Status.{Status}
+use Rattle.model.specs.declared.Status.the-variants.{Down, Election, Reorganization, Normal}
+use Rattle.model.specs.declared.Activity.{Activity}
+use Rattle.model.specs.declared.Activity.the-variants.{Idle, Asking, Waiting, Inviting, Collecting, Handing, Contacting, Forwarding, Accepting}
+use Rattle.model.specs.declared.Node.{Node}
+use Rattle.model.specs.declared.Message.{Message}
+use Rattle.model.specs.declared.Table.{Table}
+use Rattle.model.specs.declared.Event.{Event}
+use Rattle.model.specs.declared.Event.the-variants.{Crash, Recover, Check, Timeout, Tick, Expire, Finish, Deliver, Lose}
+use Rattle.model.specs.declared.Outcome.{Outcome}
+use Rattle.model.specs.declared.Answer.the-variants.{Accepted}
+use Rattle.machine.specs.Stepped.{Stepped, startingTable}
+use Rattle.machine.specs.Folded.{Folded}
+use Rattle.machine.specs.Mutants.{tableOf, merging, handing, invitation, asking, invites, Moves, NoMutant, NoWrongTurning}
+use Rattle.machine.proofs.Laws.{start-is}
+use Rattle.machine.proofs.Runs.{folded-runs, accepted-alike}
+
+-- ── on concrete tables, by computation ──
+
+record Computed : Type 0 where
+  again : nodeAt (runFrom (view (startingTable 2)) (Recover 1 ∷ Crash 1 ∷ Recover 1 ∷ [])) 1 .group .number ≡ 32
+  members : invites (nodeAt (after (view (tableOf merging)) (Tick 1)) 1 .activity) 2 ≡ true
+  task : nodeAt (after (view (tableOf (pair Normal Idle (invitation ∷ [])))) (Deliver 1 2)) 2 .task .number ≡ 100
+  status : nodeAt (after (view (tableOf (pair Normal Idle (invitation ∷ [])))) (Deliver 1 2)) 2 .status ≡ Election
+  handed : nodeAt (after (view (tableOf handing)) (Expire 3)) 3 .activity ≡ Idle
+  older : nodeAt (after (view (tableOf (pair Normal (Asking 1 0) (replies 1 2 (record { number = 1 }) true ∷ [])))) (Deliver 1 2)) 2 ≡ nodeAt (pair Normal (Asking 1 0) []) 2
+  other : nodeAt (after (view (tableOf asking)) (Deliver 3 1)) 1 .activity ≡ Asking 3 2
+  -- node 2 after node 1's recovery
+  ranged : inRange (after (view (startingTable 2)) (Recover 1)) ≡ true
+  two : after (view (startingTable 2)) (Recover 1) .n ≡ 2
+  second : nodeAt (after (view (startingTable 2)) (Recover 1)) 2 ≡ startingNode
+
+computed : Computed
+unfolding pick onesIn ones leadingZeros trailingZeros bitAnd bitOr inviteNext merges handNext finishes forwardNext askedAll askAt askAfter checked timedOut ticked expired resumed onAreYouCoordinator onAreYouThere onInvitation onAccept onReady onReply received react activityInRange nodeInRange messageInRange waits oldest withoutOldest every inRange reactionTo remaining effect grounds judged step runFrom firstOf
+computed = record { again = refl; members = refl; task = refl; status = refl; handed = refl; older = refl; other = refl; ranged = refl; two = refl; second = refl }
+
+asked-apart : Asking 3 2 ≡ Asking 2 0 → ⊥
+asked-apart e = let z : _≡_ {A = ℕ} 3 2 = cc in omega arith
+
+-- ── in every table ──
+
+-- the record of node i after i's own event
+stored : (s : State) (i : ℕ) (c : Node) {B : Type 0} (f : Node → B) → f c ≡ f (nodeAt s i) → f (getD (set (s .nodes) (i - 1) c) (i - 1) startingNode) ≡ f (nodeAt s i)
+stored s i c f h = by (s .nodes) (i - 1) h
+  where
+    by : (l : List Node) (k : ℕ) → f c ≡ f (getD l k startingNode) → f (getD (set l k c) k startingNode) ≡ f (getD l k startingNode)
+    by [] k h = refl
+    by (x ∷ l) zero h = h
+    by (x ∷ l) (suc k) h = by l k h
+
+crash-keeps : (s : State) (i : ℕ) → nodeAt (after s (Crash i)) i .counter ≡ nodeAt s i .counter
+unfolding effect reactionTo react
+crash-keeps s i =
+    by-step (λ (q : Result). nodeAt (kept s q) i .counter ≡ nodeAt s i .counter) s (Crash i) (λ x. refl) (λ c. stored s i _ (λ (d : Node). d .counter) refl)
+
+expire-silent : (s : State) (i rest now : ℕ) → nodeAt s i .activity ≡ Handing rest now → after s (Expire i) .queue ≡ s .queue
+unfolding effect reactionTo react expired remaining
+expire-silent s i rest now h =
+    by-step (λ (q : Result). kept s q .queue ≡ s .queue) s (Expire i) (λ x. refl) (λ c. rw h (append-nil (s .queue)))
+
+pub no-wrong-turning : NoWrongTurning
+no-wrong-turning =
+    record {
+      clears-counter = λ t i {r} x h. h (ap (λ (s : State). nodeAt s i .counter) (x .table) ∙ crash-keeps (view t) i);
+      group-returns = λ {u} f h. let z : _≡_ {A = ℕ} 16 32 = sym h ∙ ap (λ (s : State). nodeAt s 1 .group .number) (folded-runs f) ∙ computed .again in omega arith;
+      empties-members = λ {r} x h. true≢false (sym (computed .members) ∙ sym (ap (λ (s : State). invites (nodeAt s 1 .activity) 2) (x .table)) ∙ h);
+      takes-task = λ {r} x h. h (ap (λ (s : State). nodeAt s 2 .task .number) (x .table) ∙ computed .task);
+      active-early = λ {r} x h. true≢false (sym h ∙ ap (λ (s : State). isActive (nodeAt s 2 .status)) (x .table) ∙ ap isActive (computed .status));
+      hands-on = λ t i rest now a {r} x h. h (ap (λ (s : State). s .queue) (x .table) ∙ expire-silent (view t) i rest now a);
+      hands-later = λ {r} x h. h (ap (λ (s : State). nodeAt s 3 .activity) (x .table) ∙ computed .handed);
+      takes-older = λ {r} x h. h (ap (λ (s : State). nodeAt s 2) (x .table) ∙ computed .older);
+      drops-other = λ {r} x h. asked-apart (sym (computed .other) ∙ sym (ap (λ (s : State). nodeAt s 1 .activity) (x .table)) ∙ h);
+    }
+
+-- ── crash and recovery, in every table in range ──
+
+module _ (s : State) (i : ℕ) (g : inRange s ≡ true) (low : 1 ≤ i) (high : i ≤ s .n) where
+  -- what i's own event makes of its record
+  own : (c : Node) → getD (set (s .nodes) (i - 1) c) (i - 1) startingNode ≡ c
+  own c = getD-set-same (s .nodes) (i - 1) c startingNode (omega (arith, in-range-size s g .2))
+
+  crash-accepted : isDown (nodeAt s i .status) ≡ false → step s (Crash i) ≡ accepted (effect s (Crash i)) (reactionTo s (Crash i) .mark)
+  unfolding step grounds judged pick reactionTo react
+  crash-accepted h = rw (g, le-leb 1 i low, le-leb i (s .n) high, h)
+
+  crash-differs : isDown (nodeAt s i .status) ≡ false → effect s (Crash i) ≡ s → ⊥
+  unfolding effect reactionTo react
+  crash-differs h e = true≢false (sym (ap (λ (c : Node). isDown (c .status)) (own _)) ∙ ap (λ (v : State). isDown (nodeAt v i .status)) e ∙ h)
+
+  recovery-accepted : isDown (nodeAt s i .status) ≡ true → (nodeAt s i .counter ≡ counterEnd → ⊥) → step s (Recover i) ≡ accepted (effect s (Recover i)) (reactionTo s (Recover i) .mark)
+  unfolding step grounds judged pick reactionTo react
+  recovery-accepted h k = rw (g, le-leb 1 i low, le-leb i (s .n) high, h, ne-eqb _ _ k)
+
+  recovery-differs : effect s (Recover i) ≡ s → ⊥
+  unfolding effect reactionTo react
+  recovery-differs e =
+      let z : nodeAt s i .counter + 1 ≡ nodeAt s i .counter = sym (ap (λ (c : Node). c .counter) (own _)) ∙ ap (λ (v : State). nodeAt v i .counter) e in
+      omega arith
+
+-- an event that the model accepts, with an effect that is not the same state
+moves : (t : Table) (e : Event) → step (view t) e ≡ accepted (effect (view t) e) (reactionTo (view t) e .mark) → (effect (view t) e ≡ view t → ⊥) → Moves t e
+moves t e a d =
+    record {
+      not-away = λ {r} x h. h (accepted-alike x .code-accepts _ _ a);
+      not-same = λ {r} x h. d (sym (ap (kept (view t)) a) ∙ sym (x .table) ∙ h);
+    }
+
+crashing : (t : Table) (i : ℕ) → inRange (view t) ≡ true → 1 ≤ i → i ≤ t .n → isDown (nodeAt (view t) i .status) ≡ false → Moves t (Crash i)
+crashing t i g low high h = moves t (Crash i) (crash-accepted (view t) i g low high h) (crash-differs (view t) i g low high h)
+
+recovering : (t : Table) (i : ℕ) → inRange (view t) ≡ true → 1 ≤ i → i ≤ t .n → isDown (nodeAt (view t) i .status) ≡ true → (nodeAt (view t) i .counter ≡ counterEnd → ⊥) → Moves t (Recover i)
+recovering t i g low high h k = moves t (Recover i) (recovery-accepted (view t) i g low high h k) (recovery-differs (view t) i g low high)
+
+-- ── the first event ──
+
+start-node : (n k : ℕ) → getD (replicate n startingNode) k startingNode ≡ startingNode
+start-node zero k = refl
+start-node (suc n) zero = refl
+start-node (suc n) (suc k) = start-node n k
+
+none-remains : (n : ℕ) (e : Event) → remaining (start n) e ≡ []
+unfolding remaining withoutOldest
+none-remains n (Crash i) = refl
+none-remains n (Recover i) = refl
+none-remains n (Check i) = refl
+none-remains n (Timeout i) = refl
+none-remains n (Tick i) = refl
+none-remains n (Expire i) = refl
+none-remains n (Finish i t) = refl
+none-remains n (Deliver a b) = refl
+none-remains n (Lose a b) = refl
+
+first-small : (n : ℕ) (e : Event) → 12 ≤ resultNumber (step (start n) e) → ⊥
+unfolding step grounds judged
+first-small n e =
+    by-test P (λ _ h. omega arith)
+    (λ _. by-test P (λ _ h. omega arith)
+    (λ _. by-test P (λ _ h. omega arith)
+    (λ _. by-test P (λ _ h. omega arith)
+    (λ _. by-test P (λ _ h. omega arith)
+    (λ _. by-test P (λ _ h. omega arith)
+    (λ _. by-test P (λ q h. absurd (end (forms (reactionTo (start n) e .mark)) (nodeAt (start n) (actor e) .counter) counterEnd q (ap (λ (c : Node). c .counter) (start-node n (actor e - 1))) (omega arith)))
+    (λ _. by-test P (λ q h. absurd (end (isCalling (reactionTo (start n) e .outgoing)) (nodeAt (start n) (actor e) .last .number) callEnd q (ap (λ (c : Node). c .last .number) (start-node n (actor e - 1))) (omega arith)))
+    (λ _. by-test P (λ q h. absurd (end (isSending (reactionTo (start n) e .outgoing)) (length (remaining (start n) e)) queueLimit q (ap length (none-remains n e)) (omega arith)))
+    (λ _ h. omega arith)))))))))
+  where
+    P : Result → Type 0
+    P q = 12 ≤ resultNumber q → ⊥
+
+    -- a ground at an end of a range does not apply where the number is 0
+    end : (a : Bool) (x y : ℕ) → (a && eqb x y) ≡ true → x ≡ 0 → 1 ≤ y → ⊥
+    end a x y q z h = let v = eqb-true x y (both-right a (eqb x y) q) in omega arith
+
+pub no-mutant : NoMutant
+no-mutant =
+    record {
+      first-moves = λ n i h low high.
+          recovering (startingTable n) i (ap inRange (start-is n) ∙ stays-in-range .starts n (omega arith) h) low high
+          (ap (λ (s : State). isDown (nodeAt s i .status)) (start-is n) ∙ ap (λ (c : Node). isDown (c .status)) (start-node n (i - 1)))
+          (λ e. let z : _≡_ {A = ℕ} 0 counterEnd = sym (ap (λ (s : State). nodeAt s i .counter) (start-is n) ∙ ap (λ (c : Node). c .counter) (start-node n (i - 1))) ∙ e in omega arith);
+      crash-moves = crashing;
+      recovery-moves = recovering;
+      second-moves = λ {r} x.
+          recovering (r .table) 2 (ap inRange (x .table) ∙ computed .ranged) (omega arith) (omega (arith, ap (λ (s : State). s .n) (x .table) ∙ computed .two))
+          (ap (λ (s : State). isDown (nodeAt s 2 .status)) (x .table) ∙ ap (λ (c : Node). isDown (c .status)) (computed .second))
+          (λ e. let z : _≡_ {A = ℕ} 0 counterEnd = sym (ap (λ (s : State). nodeAt s 2 .counter) (x .table) ∙ ap (λ (c : Node). c .counter) (computed .second)) ∙ e in omega arith);
+      no-cry = λ n e {r} x h. first-small n e (rw (x .answer ∙ ap (λ (s : State). resultNumber (step s e)) (start-is n)) at h);
+    }

@@ -1,0 +1,85 @@
+-- No mutant prints K10: its text is computed, and a byte of the mutant's stands against it.
+use Prim.Native.Nat.{ℕ, zero, suc, _+_, _/_, _%_, _≤_, _<_}
+use native.Mathlib.Omega.{arith}
+use mathlib.Core.Path.{_≡_, refl, sym, _∙_, ap}
+use mathlib.Core.Bool.{Bool, true, false}
+use mathlib.Core.List.{List, [], _∷_, _++_}
+use lib.Dec.{ltb, leb}
+use lib.ListN.{length, getD, take, drop, length-append, take-append-drop}
+use borrow.Author.Tests.{le-leb, ltb-true, ltb-false}
+use Rattle.model.specs.Pick.{pick, by-test, pick-true}
+use Rattle.listing.specs.Decimal.{digits, decimal}
+use Rattle.listing.specs.declared.Put.{Put}
+use Rattle.listing.specs.declared.Put.the-variants.{Next, NoRoom}
+use Rattle.run_list.specs.Text.{textOf, Printed, Whole}
+use Rattle.run_list.specs.Cases.{bytes, k10-list, ListCases}
+use Rattle.run_list.specs.Mutants.{Holds, by-print, by-whole, NoMutantText}
+use Rattle.run_list.proofs.NamedCases.{list-cases}
+
+-- ── the text of K10 ──
+
+abbrev text : List ℕ
+text = bytes "cabinets 2\n1 3 2 33 100 1 0\n2 3 2 33 100 2 1\nmessages 0\n"
+
+-- the buffer begins with it
+record Ten (o : List ℕ) : Type 0 where
+  behind : List ℕ
+  whole : o ≡ text ++ behind
+
+ten : (o : List ℕ) → Holds k10-list o → Ten o
+ten o (by-print {b} p h) = record { behind = drop (length (textOf k10-list)) b; whole = p .whole h ∙ ap (λ (x : List ℕ). x ++ drop (length (textOf k10-list)) b) (list-cases .k10) }
+ten o (by-whole {r} w) = record { behind = drop r o; whole = sym (take-append-drop r o) ∙ ap (λ (x : List ℕ). x ++ drop r o) (w .bytes ∙ list-cases .k10) }
+
+-- two texts with different bytes at k
+apart : (o x y : List ℕ) (k a b : ℕ) → o ≡ x → o ≡ y → getD x k 0 ≡ a → getD y k 0 ≡ b → (a ≡ b → ⊥) → ⊥
+apart o x y k a b e f p q d = d (sym p ∙ ap (λ (l : List ℕ). getD l k 0) (sym e ∙ f) ∙ q)
+
+-- ── digits ──
+
+-- each byte is at least the digit 0
+abbrev Numeral : List ℕ → Type 0
+Numeral [] = Unit {0}
+Numeral (d ∷ ds) = (48 ≤ d) × Numeral ds
+
+digits-last : (l : List ℕ) (d : ℕ) → Numeral l → 48 ≤ d → Numeral (l ++ (d ∷ []))
+digits-last [] d h g = (g, tt)
+digits-last (x ∷ l) d h g = (h .0, digits-last l d (h .1) g)
+
+all-digits : (p x : ℕ) → Numeral (digits p x)
+unfolding digits
+all-digits zero x = tt
+all-digits (suc p) x = digits-last (pick (ltb x 10) [] (digits p (x / 10))) (48 + x % 10) (by-test Numeral (λ _. tt) (λ _. all-digits p (x / 10))) (omega arith)
+
+some-digits : (p x : ℕ) → 1 ≤ length (digits (suc p) x)
+unfolding digits
+some-digits p x = simp length-append (omega arith)
+
+-- a second digit is no line's end
+second : (l y : List ℕ) (d w : ℕ) (v : List ℕ) → 1 ≤ length l → Numeral (l ++ (d ∷ [])) → (l ++ (d ∷ [])) ++ (10 ∷ y) ≡ w ∷ 10 ∷ v → ⊥
+second [] y d w v h g e = omega arith
+second (a ∷ []) y d w v h g e = let z : d ≡ 10 = cc in omega (arith, g .1 .0)
+second (a ∷ b ∷ l) y d w v h g e = let z : b ≡ 10 = cc in omega (arith, g .1 .0)
+
+-- the number that stands before a line's end as the digit 1 alone is 1
+one-alone : (k : ℕ) (y v : List ℕ) → decimal k ++ (10 ∷ y) ≡ 49 ∷ 10 ∷ v → k ≡ 1
+unfolding decimal digits
+one-alone k y v =
+    by-test (λ (l : List ℕ). Numeral (l ++ ((48 + k % 10) ∷ [])) → (l ++ ((48 + k % 10) ∷ [])) ++ (10 ∷ y) ≡ 49 ∷ 10 ∷ v → k ≡ 1)
+    (λ t g e. let z : 48 + k % 10 ≡ 49 = cc in let s = ltb-true k 10 t in omega arith)
+    (λ t g e. absurd (second (digits 9 (k / 10)) y (48 + k % 10) 49 v (some-digits 8 (k / 10)) g e))
+    (all-digits 10 k)
+
+pub no-mutant-text : NoMutantText
+unfolding bytes
+no-mutant-text =
+    record {
+      turns-away = λ o y h e. let t = ten o h in apart o _ _ 11 49 114 (t .whole) e refl refl (λ z. omega arith);
+      same-table = λ o y h e. let t = ten o h in apart o _ _ 13 51 48 (t .whole) e refl refl (λ z. omega arith);
+      idles = λ o y h e. let t = ten o h in apart o _ _ 15 50 49 (t .whole) e refl refl (λ z. omega arith);
+      idles-last = λ o y h e. let t = ten o h in apart o _ _ 30 51 50 (t .whole) e refl refl (λ z. omega arith);
+      thin-air = λ o y k h e d. let t = ten o h in d (one-alone k y _ (ap (drop 43) (sym e ∙ t .whole)));
+      no-room = λ b o {a} p h e. apart-answers (sym (p .answer ∙ ap (λ (t : Bool). pick t (Next (length (textOf k10-list))) NoRoom) (le-leb _ _ h) ∙ pick-true _ _) ∙ e);
+    }
+  where
+    apart-answers : {k : ℕ} → Next k ≡ NoRoom → ⊥
+    apart-answers e = let z : _≡_ {A = ℕ} 0 1 = cc in omega arith

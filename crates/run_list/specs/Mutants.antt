@@ -1,0 +1,30 @@
+-- "Try these impostors", of the printed text: what no printer leaves in its buffer that meets `Printed` or `Whole` (mutant: 01's impostor). Each field takes as
+-- little of the text as shuts the mutant out, and lets any bytes y follow. The list is K10's, of which no event is refused. The proofs are in proofs/Mutants.
+use Prim.Native.Nat.{ℕ, _≤_}
+use mathlib.Core.Path.{_≡_}
+use mathlib.Core.List.{List, _∷_, _++_}
+use lib.ListN.{length}
+use Rattle.listing.specs.Decimal.{decimal}
+use Rattle.listing.specs.declared.Put.{Put}
+use Rattle.listing.specs.declared.Put.the-variants.{NoRoom}
+use Rattle.run_list.specs.Text.{textOf, Printed, Whole}
+use Rattle.run_list.specs.Cases.{bytes, k10-list}
+
+-- o is what a printer of the list l left in its buffer: one that meets `Printed`, where there was room, or one that meets `Whole`
+pub data Holds (l o : List ℕ) : Type 0 where
+  by-print : {b : List ℕ} {a : Put} → Printed l b o a → length (textOf l) ≤ length b → Holds l o
+  by-whole : {r : ℕ} → Whole l o r → Holds l o
+
+pub record NoMutantText : Type 0 where
+  -- "a machine that turns every event away", or any: behind `cabinets 2` comes no line `refused e r`
+  pub turns-away : (o y : List ℕ) → Holds k10-list o → o ≡ bytes "cabinets 2\nr" ++ y → ⊥
+  -- "one that returns the same table always", "one that answers 'accepted' and moves nothing": node 1 is not Down any more
+  pub same-table : (o y : List ℕ) → Holds k10-list o → o ≡ bytes "cabinets 2\n1 0" ++ y → ⊥
+  -- "one that works on the first event and then idles": node 1, which recovered in it, does not lead itself any more
+  pub idles : (o y : List ℕ) → Holds k10-list o → o ≡ bytes "cabinets 2\n1 3 1" ++ y → ⊥
+  -- nor one that works on all events but the last, in which node 2 turns from Reorganization to Normal
+  pub idles-last : (o y : List ℕ) → Holds k10-list o → o ≡ bytes "cabinets 2\n1 3 2 33 100 1 0\n2 2" ++ y → ⊥
+  -- "one that prints a member count out of thin air": node 2 has one member, and no other number k stands there before the line's end
+  pub thin-air : (o y : List ℕ) (k : ℕ) → Holds k10-list o → o ≡ bytes "cabinets 2\n1 3 2 33 100 1 0\n2 3 2 33 100 2 " ++ (decimal k ++ (10 ∷ y)) → (k ≡ 1 → ⊥) → ⊥
+  -- and none that finds no room where there is
+  pub no-room : (b o : List ℕ) {a : Put} → Printed k10-list b o a → length (textOf k10-list) ≤ length b → a ≡ NoRoom → ⊥

@@ -1,0 +1,23 @@
+-- "The rig keeps one table for a whole session and applies each event to it": calls of `apply` on one lent table, and demand 3 of them.
+use Prim.Native.Nat.{ℕ}
+use mathlib.Core.List.{List, [], _∷_}
+use Rattle.model.specs.declared.Table.{Table}
+use Rattle.model.specs.declared.Event.{Event}
+use Rattle.model.specs.declared.Answer.{Answer}
+use Rattle.machine.specs.Stepped.{Stepped}
+use Rattle.machine.specs.Folded.{Folded}
+use Rattle.machine.specs.Claims.{CodeFixes}
+
+-- From what the table held first, t, by a call for each event, to what it holds then, u. "Each event gets the table that the one before returned or left, and
+-- nobody else writes it."
+pub data Applied : Table → List Event → Table → Type 0 where
+  none : {t : Table} → Applied t [] t
+  -- one call with the event e, which found the table t, answered a and left the table v, as `apply` promises; and the calls after it
+  more : {t : Table} {e : Event} {a : Answer} {v : Table} {es : List Event} {u : Table} → Stepped t e (record { answer = a; table = v }) → Applied v es u → Applied t (e ∷ es) u
+
+-- What is claimed of a session with n nodes. The proof is in proofs/Sessions.
+pub record SessionFixes (n : ℕ) : Type 0 where
+  -- its calls are steps of the machine
+  pub folds : (t : Table) (es : List Event) (u : Table) → Applied t es u → Folded t es u
+  -- demand 3, whole, of what the table holds from call to call
+  pub fixes : CodeFixes Applied n
