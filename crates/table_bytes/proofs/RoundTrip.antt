@@ -116,9 +116,12 @@ module _ (t : Table) (h : Fits t) (l : List ℕ) where
 decode-encode : (t : Table) → Fits t → decoded (encoded t) ≡ t
 decode-encode t h = rw (← append-nil (encoded t)) (decode-more t h [])
 
-encoded-long : (t : Table) → Fits t → length (encoded t) ≡ size
+pub encoded-size : (t : Table) → length (t .nodes) ≡ 16 → length (t .messages) ≡ 64 → length (encoded t) ≡ size
 unfolding encoded
-encoded-long t h = rw (length-append, messages-end t (h .nodes .0) (h .messages .0), length-bytes)
+encoded-size t n m = rw (length-append, messages-end t n m, length-bytes)
+
+encoded-long : (t : Table) → Fits t → length (encoded t) ≡ size
+encoded-long t h = encoded-size t (h .nodes .0) (h .messages .0)
 
 over : (t : Table) → Fits t → (out : List ℕ) → size ≤ length out → written out 0 (encoded t) ≡ encoded t ++ drop size out
 over t h out room =
