@@ -1,4 +1,8 @@
-// The functions that Rust or C can link, on numbers and byte slices. A slice crosses as a pointer and a length.
+// The functions that Rust or C can link, on numbers and byte slices. A slice crosses as a pointer and a length:
+//   uint8_t nevraspu_step(const uint8_t *table, size_t table_len, const uint8_t *field, size_t field_len, uint8_t *out, size_t out_len);
+//   uint32_t nevraspu_fold(const uint8_t *list, size_t list_len);
+// Any bytes at all are answered. A caller has only to hand in pointers that are good for their lengths, out apart from the others.
+// What is answered, and what out then holds, is in specs/Boundary.
 use event_list::First;
 use event_list::Next;
 use model::Activity;
@@ -100,15 +104,14 @@ fn answered(answer: Answer, t: Table, out: &mut [u8]) -> u8
     r
 }
 
-// One event on a table. `table` is the table in bytes (the form is in crate table_bytes; any bytes are some table, in range or not), `field` the event as a field
-// of a list: tag, two-byte length, contents. Bytes behind that field are not looked at. `out` needs the room of a table, 1,362 bytes, and may not overlap the others.
-// The answer:
-//   0       accepted; the first 1,362 bytes of out are the table after the event, 0 in every place that is no part of it
-//   1       the table is not in range
-//   3       the field is cut short, or there is none; 4: its tag is no event's; 5: its length is wrong for its tag
-//   7 to 14 the event is refused, by the number of its ground
-//   255     out is shorter than a table: this is looked at first
-// By any answer but 0, out is left as it was; and all of out behind a table always is.
+// One event on a table. table is the table in bytes, in the form of crate table_bytes: any bytes are some table, in range or not. field is the event as a field of
+// a list: tag, two-byte length, contents; bytes behind it are not looked at. out needs the room of a table, 1,362 bytes. The answer:
+//   0         accepted: out starts with the table after the event, with 0 in all places that are no part of it
+//   1         the table is not in range
+//   3, 4, 5   no event: cut short, or no bytes at all; a tag that is no event's; a length that is wrong for the tag
+//   7 to 14   the event is refused, by 01's number
+//   255       out is too short; this is looked at first
+// By any answer but 0 out is left as it was, and what is behind a table in out is in any case.
 #[no_mangle]
 pub extern "C" fn nevraspu_step(table: &[u8], field: &[u8], out: &mut [u8]) -> u8
     ensures { λ r. ⌜ StepExported (now (table .entry)) (now (field .entry)) (now (out .entry)) (now (out .exit)) r ⌝ }
@@ -162,7 +165,8 @@ fn fold_from(list: &[u8], start: Table) -> u32
     }
 }
 
-// How many events of a list are accepted, each by the step with its check of the range.
+// How many events of a list, up to its end or to where it stops, are accepted, each by the step with its check of the range. 0 where the whole list or its
+// first field is refused.
 #[no_mangle]
 pub extern "C" fn nevraspu_fold(list: &[u8]) -> u32
     ensures { λ r. ⌜ r ≡ acceptedIn (now (list .entry)) ⌝ }
