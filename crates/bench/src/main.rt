@@ -1,7 +1,7 @@
 // The bench program: reads a list from standard input, and writes what is printed for it to standard output.
-use libc::STDIN_FILENO;
-use libc::STDOUT_FILENO;
+// Where the list can't be read nothing is printed, and standard error says why; so it does where the text can't be written.
 use run_list::TEXT_LIMIT;
+use standard_io::Input;
 ghost use mathlib.Core.Path.{_≡_};
 ghost use lib.ListN.{length};
 
@@ -20,22 +20,17 @@ fn text_space() -> [u8; TEXT_LIMIT]
     [0; TEXT_LIMIT]
 }
 
-// Whether the input has ended. Only a read that brings nothing says so; `read_full` also stops at one that fails.
-fn at_end() -> bool {
-    let mut space = io::buffer();
-    libc::read(STDIN_FILENO, &mut space) == 0
+// The text of the list, to standard output.
+fn print(list: &[u8]) {
+    let mut text = text_space();
+    let n = run_list::print_whole(list, &mut text);
+    standard_io::write_all(&text[..n])
 }
 
-// Where the input can't be read to its end, nothing is printed.
 fn main() {
     let mut list = list_space();
-    let got = io::read_full(STDIN_FILENO, &mut list);
-    if got < LIST_SPACE {
-        if !at_end() {
-            return;
-        }
+    match standard_io::read_all(&mut list) {
+        Input::Failed => {}
+        Input::Read(n) => print(&list[..n]),
     }
-    let mut text = text_space();
-    let n = run_list::print_whole(&list[..got], &mut text);
-    io::write_all(STDOUT_FILENO, &text[..n]);
 }

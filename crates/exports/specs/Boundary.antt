@@ -1,43 +1,70 @@
--- What the exported functions promise.
+-- What the exported functions promise: for any bytes at all, the number that is answered and what the lent buffer then holds.
 use mathlib.Core.Path.{_≡_}
-use mathlib.Core.Logic.{_⊎_}
 use mathlib.Core.List.{List, [], _∷_, _++_}
-use Prim.Native.Nat.{ℕ, _+_, _≤_, _<_}
+use Prim.Native.Nat.{ℕ, _+_}
 use lib.Dec.{eqb, ltb}
-use lib.ListN.{length}
+use lib.ListN.{length, drop}
 use Rattle.model.specs.Pick.{pick}
-use Rattle.model.specs.State.{State, start}
+use Rattle.model.specs.Limits.{nodeLimit, queueLimit}
+use Rattle.model.specs.State.{State, start, startingNode, noMessage, firstOf, view}
 use Rattle.model.specs.Step.{step, after}
-use Rattle.model.specs.Answers.{answerNumber, resultNumber}
+use Rattle.model.specs.Answers.{resultNumber}
 use Rattle.model.specs.declared.Event.{Event}
-use Rattle.model.specs.declared.Outcome.{Outcome}
-use Rattle.machine.specs.Stepped.{Stepped}
-use Rattle.event_list.specs.Format.{Reading, Listed, failed, begun, reading}
+use Rattle.model.specs.declared.Table.{Table}
+use Rattle.event_list.specs.Format.{Reading, Listed, failed, begun, reading, stopNumber, nextAt}
+use Rattle.event_list.specs.declared.Stop.the-variants.{CutShort}
 use Rattle.event_list.specs.declared.Next.{Next}
 use Rattle.event_list.specs.declared.Next.the-variants.{Done, Stopped, Got}
-use Rattle.table_bytes.specs.Bytes.{decoded, encoded, written}
+use Rattle.table_bytes.specs.Bytes.{decoded, size, encoded}
 
--- one event on the table of the bytes t: the outcome of the step, its answer as 01's number, and its table in bytes at the start of the buffer
-pub record EventExported (t : List ℕ) (e : Event) (b o : List ℕ) (r : ℕ) : Type 0 where
-  pub outcome : Outcome
-  pub stepped : Stepped (decoded t) e outcome
-  pub number : r ≡ answerNumber (outcome .answer)
-  pub bytes : o ≡ written b 0 (encoded (outcome .table))
+-- ── nevraspu_step: one event on a table in bytes ──
 
-abbrev pub Untouched : List ℕ → List ℕ → ℕ → Type 0
-Untouched b o r = (r ≡ 255) × (o ≡ b)
+-- the state that bytes mean as a table
+abbrev pub stateOf : List ℕ → State
+stateOf t = view (decoded t)
 
--- by what the field is
-abbrev pub FieldExported : List ℕ → Next → List ℕ → List ℕ → ℕ → Type 0
-FieldExported t Done b o r = Untouched b o r
-FieldExported t (Stopped s) b o r = Untouched b o r
-FieldExported t (Got e next) b o r = EventExported t e b o r
+-- the code's table of a state: past its n records stands the starting record, and past its waiting messages none
+abbrev pub tableOf : State → Table
+tableOf s = record {
+  n = s .n;
+  nodes = firstOf nodeLimit startingNode (s .nodes);
+  messages = firstOf queueLimit noMessage (s .queue);
+  waiting = length (s .queue);
+}
 
-pub record StepExported (t : List ℕ) (f : Next) (b o : List ℕ) (r : ℕ) : Type 0 where
-  pub short : length b < 1362 → Untouched b o r
-  pub long : 1362 ≤ length b → FieldExported t f b o r
+-- and its bytes
+abbrev pub stateBytes : State → List ℕ
+stateBytes s = encoded (tableOf s)
 
--- ── the count of accepted events ──
+-- what a field is answered on the state s. One that is no event of 01's list: by the grounds of "a field", 3 to 5 (3 for no bytes at all: "an empty list too").
+-- An event: its refusal, or 0 where it is accepted
+abbrev pub fieldNumber : State → Next → ℕ
+fieldNumber s Done = stopNumber CutShort
+fieldNumber s (Stopped x) = stopNumber x
+fieldNumber s (Got e next) = resultNumber (step s e)
+
+-- the state after it
+abbrev pub fieldAfter : State → Next → State
+fieldAfter s Done = s
+fieldAfter s (Stopped x) = s
+fieldAfter s (Got e next) = after s e
+
+-- What is answered for the bytes of a table, t, and of a field, f, with a lent buffer that holds b. Whether b has the room of a table is looked at first
+unfoldable pub stepNumber : List ℕ → List ℕ → List ℕ → ℕ
+stepNumber t f b = pick (ltb (length b) size) 255 (fieldNumber (stateOf t) (nextAt f 0))
+
+-- What the buffer then holds: the table after the event, and behind it what was there; "lent bytes stay as they stood" by any other answer than 0
+unfoldable pub stepBytes : List ℕ → List ℕ → List ℕ → List ℕ
+stepBytes t f b = pick (eqb (stepNumber t f b) 0) (stateBytes (fieldAfter (stateOf t) (nextAt f 0)) ++ drop size b) b
+
+-- r: what is answered, o: what the buffer then holds
+pub record StepExported (t f b o : List ℕ) (r : ℕ) : Type 0 where
+  pub number : r ≡ stepNumber t f b
+  pub buffer : o ≡ stepBytes t f b
+  -- handed in again as a table, the buffer means the state after the event
+  pub back : r ≡ 0 → stateOf o ≡ fieldAfter (stateOf t) (nextAt f 0)
+
+-- ── nevraspu_fold: the count of accepted events ──
 unfoldable pub plusAccepted : ℕ → ℕ → ℕ
 plusAccepted k r = pick (eqb r 0) (k + 1) k
 

@@ -1,32 +1,132 @@
-// The functions that Rust or C can link, on numbers and byte slices. A slice crosses as a pointer and a length.
+// The functions that Rust or C can link, on numbers and byte slices. A slice crosses as a pointer and a length:
+//   uint8_t nevraspu_step(const uint8_t *table, size_t table_len, const uint8_t *field, size_t field_len, uint8_t *out, size_t out_len);
+//   uint32_t nevraspu_fold(const uint8_t *list, size_t list_len);
+// Any bytes at all are answered. A caller has only to hand in pointers that are good for their lengths, out apart from the others.
+// What is answered, and what out then holds, is in specs/Boundary.
 use event_list::First;
 use event_list::Next;
+use model::Activity;
+use model::Answer;
+use model::CallNo;
+use model::GroupNo;
+use model::Message;
+use model::Node;
+use model::Status;
 use model::Table;
+use model::TaskNo;
 ghost use mathlib.Core.Path.{_≡_};
 ghost use Prim.Native.Nat.{_≤_};
 ghost use lib.ListN.{length};
-ghost use Rattle.model.specs.State.{view};
-ghost use Rattle.event_list.specs.Format.{nextAt, rest};
-ghost use Rattle.exports.specs.Boundary.{StepExported, plusAccepted, acceptedFrom, acceptedIn};
+ghost use Rattle.model.specs.State.{startingNode, noMessage, firstOf, view};
+ghost use Rattle.event_list.specs.Format.{rest};
+ghost use Rattle.exports.specs.Boundary.{tableOf, StepExported, plusAccepted, acceptedFrom, acceptedIn};
+ghost use Rattle.exports.specs.Parts.{Answered};
 
-// One event, as a field of a list, on a table in bytes: 0 where it is accepted, or the number of its refusal; out gets the table after it.
-// 255 where the field is no event, or out has not the room of a table; out is then left as it is.
+// The record and the message that stand in places which are no part of a table.
+fn no_node() -> Node
+    ensures { λ r. ⌜ r ≡ startingNode ⌝ }
+{
+    Node {
+        status: Status::Down,
+        counter: 0,
+        group: GroupNo { number: 0 },
+        coordinator: 0,
+        task: TaskNo { number: 0 },
+        members: 0,
+        last: CallNo { number: 0 },
+        activity: Activity::Idle,
+    }
+}
+
+fn no_message() -> Message
+    ensures { λ r. ⌜ r ≡ noMessage ⌝ }
+{
+    Message {
+        sender: 0,
+        receiver: 0,
+        kind: 0,
+        call: CallNo { number: 0 },
+        group: GroupNo { number: 0 },
+        task: TaskNo { number: 0 },
+        yes: false,
+    }
+}
+
+fn cleared_nodes(t: Table) -> [Node; 16]
+    ensures { λ r. ⌜ r ≡ firstOf 16 startingNode (view t .nodes) ⌝ }
+{
+    let none = no_node();
+    let mut all = t.nodes;
+    let mut i = t.n as usize;
+    while i < 16 {
+        all[i] = none;
+        i += 1;
+    }
+    all
+}
+
+fn cleared_messages(t: Table) -> [Message; 64]
+    ensures { λ r. ⌜ r ≡ firstOf 64 noMessage (view t .queue) ⌝ }
+{
+    let none = no_message();
+    let mut all = t.messages;
+    let mut i = t.waiting as usize;
+    while i < 64 {
+        all[i] = none;
+        i += 1;
+    }
+    all
+}
+
+// The table with nothing in the places past its n records and its waiting messages, so that its bytes depend on what it means alone.
+fn cleared(t: Table) -> Table
+    ensures { λ r. ⌜ r ≡ tableOf (view t) ⌝ }
+{
+    let nodes = cleared_nodes(t);
+    let messages = cleared_messages(t);
+    Table {
+        n: t.n,
+        nodes: nodes,
+        messages: messages,
+        waiting: t.waiting,
+    }
+}
+
+// The number of an answer; where it is 0, the table is written to out.
+fn answered(answer: Answer, t: Table, out: &mut [u8]) -> u8
+    ensures { λ r. ⌜ Answered answer t (now (out .entry)) (now (out .exit)) r ⌝ }
+{
+    let r = machine::answer_number(answer);
+    if r != 0 {
+        return r;
+    }
+    table_bytes::encode(cleared(t), out);
+    r
+}
+
+// One event on a table. table is the table in bytes, in the form of crate table_bytes: any bytes are some table, in range or not. field is the event as a field of
+// a list: tag, two-byte length, contents; bytes behind it are not looked at. out needs the room of a table, 1,362 bytes. The answer:
+//   0         accepted: out starts with the table after the event, with 0 in all places that are no part of it
+//   1         the table is not in range
+//   3, 4, 5   no event: cut short, or no bytes at all; a tag that is no event's; a length that is wrong for the tag
+//   7 to 14   the event is refused, by 01's number
+//   255       out is too short; this is looked at first
+// By any answer but 0 out is left as it was, and what is behind a table in out is in any case.
 #[no_mangle]
 pub extern "C" fn nevraspu_step(table: &[u8], field: &[u8], out: &mut [u8]) -> u8
-    ensures { λ r. ⌜ StepExported (now (table .entry)) (nextAt (now (field .entry)) 0) (now (out .entry)) (now (out .exit)) r ⌝ }
+    ensures { λ r. ⌜ StepExported (now (table .entry)) (now (field .entry)) (now (out .entry)) (now (out .exit)) r ⌝ }
 {
     if out.len() < table_bytes::SIZE {
         return 255;
     }
     match event_list::event_at(field, 0) {
-        Next::Done => 255,
-        Next::Stopped(_) => 255,
+        Next::Done => 3,
+        Next::Stopped(s) => event_list::stop_number(s),
         Next::Got(event, _) => {
             let o = machine::step(table_bytes::decode(table), event);
             let next = o.table;
             let answer = o.answer;
-            table_bytes::encode(next, out);
-            machine::answer_number(answer)
+            answered(answer, next, out)
         }
     }
 }
@@ -65,7 +165,8 @@ fn fold_from(list: &[u8], start: Table) -> u32
     }
 }
 
-// How many events of a list are accepted, each by the step with its check of the range.
+// How many events of a list, up to its end or to where it stops, are accepted, each by the step with its check of the range. 0 where the whole list or its
+// first field is refused.
 #[no_mangle]
 pub extern "C" fn nevraspu_fold(list: &[u8]) -> u32
     ensures { λ r. ⌜ r ≡ acceptedIn (now (list .entry)) ⌝ }

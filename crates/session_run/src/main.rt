@@ -1,10 +1,10 @@
 // The bench program over a table that is kept for the whole session: reads a list from standard input, applies its events in place,
 // and writes what is printed for it to standard output.
+// Where the list can't be read nothing is printed, and standard error says why; so it does where the text can't be written.
 mod in_place;
 
-use libc::STDIN_FILENO;
-use libc::STDOUT_FILENO;
 use run_list::TEXT_LIMIT;
+use standard_io::Input;
 ghost use mathlib.Core.Path.{_≡_};
 ghost use lib.ListN.{length};
 
@@ -23,22 +23,17 @@ fn text_space() -> [u8; TEXT_LIMIT]
     [0; TEXT_LIMIT]
 }
 
-// Whether there is nothing more to read. Where a read failed, before or now, the answer is false.
-fn at_end() -> bool {
-    let mut space = io::buffer();
-    libc::read(STDIN_FILENO, &mut space) == 0
+// The text of the list, to standard output.
+fn print(list: &[u8]) {
+    let mut text = text_space();
+    let n = in_place::print_whole(list, &mut text);
+    standard_io::write_all(&text[..n])
 }
 
-// A list that is read only in part is not run: there is then nothing to print.
 fn main() {
     let mut list = list_space();
-    let got = io::read_full(STDIN_FILENO, &mut list);
-    if got < LIST_SPACE {
-        if !at_end() {
-            return;
-        }
+    match standard_io::read_all(&mut list) {
+        Input::Failed => {}
+        Input::Read(n) => print(&list[..n]),
     }
-    let mut text = text_space();
-    let n = in_place::print_whole(&list[..got], &mut text);
-    io::write_all(STDOUT_FILENO, &text[..n]);
 }

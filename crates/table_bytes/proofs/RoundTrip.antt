@@ -1,7 +1,7 @@
--- A table that fits is read back from its bytes: `decode-encode`, and `round-trip` for the bytes over a buffer.
+-- A table that fits is read back from its bytes: the claims `ReadBack`.
 use Prim.Native.Nat.{ℕ, _%_, _≤_, _<_}
 use native.Mathlib.Omega.{arith}
-use mathlib.Core.Path.{_≡_, refl}
+use mathlib.Core.Path.{_≡_, refl, _∙_, ap}
 use mathlib.Core.Bool.{Bool, true, false}
 use mathlib.Core.List.{List, [], _∷_, _++_, append-assoc, append-nil}
 use lib.Dec.{eqb}
@@ -16,7 +16,8 @@ use Rattle.model.specs.declared.Activity.the-variants.{Idle, Asking, Waiting, I
 use Rattle.model.specs.declared.Node.{Node}
 use Rattle.model.specs.declared.Message.{Message}
 use Rattle.model.specs.declared.Table.{Table}
-use Rattle.table_bytes.specs.Bytes.{number, bytes, many, all, partsOf, activityOf, statusOf, nodeOf, messageOf, decoded, yesNumber, partsBytes, nodeBytes, messageBytes, encoded, written, NodeFits, MessageFits, Each, Fits}
+use Rattle.table_bytes.specs.Bytes.{number, bytes, many, all, partsOf, activityOf, statusOf, nodeOf, messageOf, decoded, yesNumber, partsBytes, nodeBytes, messageBytes, size, encoded, written, Stored, NodeFits, MessageFits, Each, Fits}
+use Rattle.table_bytes.specs.Claims.{ReadBack}
 use Rattle.table_bytes.proofs.Numbers.{read, number-at, length-bytes, written-over}
 use Rattle.table_bytes.proofs.Records.{node-long, message-long, nodes-end, messages-end}
 
@@ -108,17 +109,31 @@ module _ (t : Table) (h : Fits t) (l : List ℕ) where
       (one-back (t .waiting) (h .waiting) l)
 
   -- also where more bytes come after them
-  pub decode-more : decoded (encoded t ++ l) ≡ t
+  decode-more : decoded (encoded t ++ l) ≡ t
   unfolding decoded
   decode-more = table-is n-back nodes-back messages-back waiting-back
 
-pub decode-encode : (t : Table) → Fits t → decoded (encoded t) ≡ t
+decode-encode : (t : Table) → Fits t → decoded (encoded t) ≡ t
 decode-encode t h = rw (← append-nil (encoded t)) (decode-more t h [])
 
-pub encoded-long : (t : Table) → Fits t → length (encoded t) ≡ 1362
+pub encoded-size : (t : Table) → length (t .nodes) ≡ 16 → length (t .messages) ≡ 64 → length (encoded t) ≡ size
 unfolding encoded
-encoded-long t h = rw (length-append, messages-end t (h .nodes .0) (h .messages .0), length-bytes)
+encoded-size t n m = rw (length-append, messages-end t n m, length-bytes)
 
--- what `encode` leaves in a buffer with room, `decode` reads back
-pub round-trip : (t : Table) → Fits t → (out : List ℕ) → 1362 ≤ length out → decoded (written out 0 (encoded t)) ≡ t
-round-trip t h out room = rw (written-over out (encoded t) (rw (encoded-long t h) room)) (decode-more t h _)
+encoded-long : (t : Table) → Fits t → length (encoded t) ≡ size
+encoded-long t h = encoded-size t (h .nodes .0) (h .messages .0)
+
+over : (t : Table) → Fits t → (out : List ℕ) → size ≤ length out → written out 0 (encoded t) ≡ encoded t ++ drop size out
+over t h out room =
+    let e = encoded-long t h in
+    written-over out (encoded t) (rw e room) ∙ rw e
+
+round-trip : (t : Table) → Fits t → (out : List ℕ) → size ≤ length out → decoded (written out 0 (encoded t)) ≡ t
+round-trip t h out room = rw (over t h out room) (decode-more t h _)
+
+pub read-back : ReadBack
+read-back = record { long = encoded-long; decode-encode = decode-encode; decode-more = decode-more; round-trip = round-trip }
+
+-- what `encode` leaves in a buffer
+pub stored : (t : Table) → Fits t → (b o : List ℕ) → o ≡ written b 0 (encoded t) → Stored t b o
+stored t h b o e = record { bytes = e; whole = λ room. e ∙ over t h b room; back = λ room. ap decoded e ∙ round-trip t h b room }

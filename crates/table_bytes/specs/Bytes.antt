@@ -4,8 +4,8 @@
 --   activity  tag 1, set 2, former 2, node 1, caller 1, call 4; what an activity does not have is 0
 --             set is found or rest; node is asked, ticks or now
 --   message   sender 1, receiver 1, kind 1, call 4, group 4, task 2, yes 1
--- That a table is read back from its bytes is `decode-encode` of proofs/RoundTrip.
-use Prim.Native.Nat.{ℕ, zero, suc, _+_, _*_, _/_, _%_, _^_, _<_}
+-- That a table is read back from its bytes is claimed in Claims.
+use Prim.Native.Nat.{ℕ, zero, suc, _+_, _*_, _/_, _%_, _^_, _≤_, _<_}
 use mathlib.Core.Path.{_≡_}
 use mathlib.Core.Bool.{Bool, true, false}
 use mathlib.Core.List.{List, [], _∷_, _++_}
@@ -138,7 +138,10 @@ messageBytes m =
     bytes 1 (m .sender) ++ bytes 1 (m .receiver) ++ bytes 1 (m .kind) ++ bytes 4 (m .call .number) ++ bytes 4 (m .group .number)
     ++ bytes 2 (m .task .number) ++ bytes 1 (yesNumber (m .yes))
 
--- 1,362 bytes
+-- how many they are
+abbrev pub size : ℕ
+size = 1362
+
 unfoldable pub encoded : Table → List ℕ
 encoded t = bytes 1 (t .n) ++ all nodeBytes (t .nodes) ++ all messageBytes (t .messages) ++ bytes 1 (t .waiting)
 
@@ -146,6 +149,15 @@ encoded t = bytes 1 (t .n) ++ all nodeBytes (t .nodes) ++ all messageBytes (t .m
 unfoldable pub written : List ℕ → ℕ → List ℕ → List ℕ
 written out at [] = out
 written out at (b ∷ l) = written (set out at b) (at + 1) l
+
+-- What writing the table t into a buffer that held b leaves there, o.
+pub record Stored (t : Table) (b o : List ℕ) : Type 0 where
+  -- its bytes over the start of b, as many as b has room for
+  pub bytes : o ≡ written b 0 (encoded t)
+  -- where b has room for all, they stand there whole, and behind them what was there
+  pub whole : size ≤ length b → o ≡ encoded t ++ drop size b
+  -- and the very same table is read back
+  pub back : size ≤ length b → decoded o ≡ t
 
 -- ── what the types of a table's fields hold: every table of the code fits, `table-fits` of proofs/Widths ──
 

@@ -370,9 +370,9 @@ fn put_messages(out: &mut [u8], t: Table)
     }
 }
 
-// The bytes of t over the start of out; where out is shorter, as many as it has room for.
+// The bytes of t over the start of out, and what is behind them stays; where out is shorter, as many as it has room for.
 pub fn encode(t: Table, out: &mut [u8])
-    ensures { λ _. ⌜ now (out .exit) ≡ spec.written (now (out .entry)) 0 (spec.encoded t) ⌝ }
+    ensures { λ _. ⌜ spec.Stored t (now (out .entry)) (now (out .exit)) ⌝ }
 {
     put_one(out, 0, t.n);
     put_nodes(out, t);

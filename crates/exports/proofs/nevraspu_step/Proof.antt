@@ -2,42 +2,42 @@
 use borrow.Author.Needs.{needs}
 use native.Mathlib.Omega.{arith}
 use mathlib.Core.Path.{_≡_, refl, sym, _∙_}
+use Rattle.event_list.specs.declared.Stop.{Stop}
+use Rattle.event_list.specs.declared.Stop.the-variants.{TooLong, CutShort, WrongTag, WrongLength, WrongCount}
+use Rattle.event_list.specs.Format.{stopNumber}
+use Rattle.exports.proofs.Stepping.{short, no-event, event}
 use Rattle.exports.proofs.nevraspu_step.Statement.{statement}
 use Rattle.exports.proofs.nevraspu_step.Tie as tie
 
+refuses : (s : Stop) → stopNumber s ≡ 0 → ⊥
+refuses TooLong z = omega arith
+refuses CutShort z = omega arith
+refuses WrongTag z = omega arith
+refuses WrongLength z = omega arith
+refuses WrongCount z = omega arith
+
 returns : tie.Need-returns
-returns c = record { short = λ _. (refl, refl); long = λ h. absurd (let z : ⊥ = omega arith in z) }
+returns c = short _ _ _ (c .if1 .taken)
 
 returns-2 : tie.Need-returns-2
 returns-2 c =
-    record {
-      short = λ _. (refl, refl);
-      long = λ _. rw (← c .before .before .event-at .ensures, c .enum-told .given .1) (refl, refl);
-    }
+    let v = c .before .before in
+    no-event _ _ _ (v .before .if1 .left) _ (v .event-at .ensures) 3 (rw (c .enum-told .given .1)) (λ z. omega arith)
 
 returns-3 : tie.Need-returns-3
 returns-3 c =
-    record {
-      short = λ _. (refl, refl);
-      long = λ _. rw (← c .before .before .event-at .ensures, c .enum-told2 .given .1) (refl, refl);
-    }
+    let m = c .before .before in
+    let v = m .before .before in
+    let n = c .stop-number .ensures in
+    no-event _ _ _ (v .before .if1 .left) _ (v .event-at .ensures) _ (rw (m .s .given .1) n) (λ z. refuses (m .s .given .0 .0) (sym n ∙ z))
 
 returns-4 : tie.Need-returns-4
 returns-4 c =
-    let s = c .before .before .before .before .before .before in
+    let a = c .before .before in
+    let s = a .before .before .before in
     let m = s .before .before .before in
     let v = m .before .before in
-    record {
-      short = λ h. absurd (let z : ⊥ = omega (arith, h, v .before .if1 .left) in z);
-      long = λ _.
-          rw (← v .event-at .ensures, m .event .given .1)
-          (record {
-            outcome = s .step .result;
-            stepped = rw (s .before .decode .ensures) at (s .step .ensures);
-            number = c .answer-number .ensures;
-            bytes = c .before .before .before .encode .ensures;
-          });
-    }
+    event _ _ _ (v .before .if1 .left) _ (v .event-at .ensures) (m .event .given .1) (s .step .result) (rw (s .before .decode .ensures) at (s .step .ensures)) _ _ (a .answered .ensures)
 
 pub nevraspu-step-spec : {M : Type 1} → statement M
 nevraspu-step-spec =
@@ -47,8 +47,8 @@ nevraspu-step-spec =
     (λ c κs. search needs)
     (λ c. search needs)
     (λ c. search needs)
-    (λ c. search needs)
     (λ c κs. search needs)
+    (λ c. search needs)
     (λ c κs. search needs)
     (λ c κs. search needs)
     (λ c κs. search needs)

@@ -1,0 +1,139 @@
+-- The claims of the step on bytes.
+use Prim.Native.Nat.{ℕ, suc, _+_, _-_, _≤_, _<_}
+use native.Mathlib.Omega.{arith}
+use mathlib.Core.Bool.{Bool, true, false, _||_, true≢false}
+use mathlib.Core.Path.{_≡_, refl, sym, _∙_, ap}
+use mathlib.Core.List.{List, [], _∷_, _++_}
+use lib.Dec.{eqb, ltb}
+use lib.ListN.{length, take, drop, length-append}
+use lib.Seq.{take-append-le, drop-at}
+use borrow.Author.Needs.{needs}
+use borrow.Author.Tests.{lt-leb, lt-ltb, le-ltb, ltb-true, ltb-false, ne-eqb}
+use Rattle.model.specs.Pick.{pick, pick-true, pick-false, by-test}
+use Rattle.model.specs.State.{State, noMessage, startingNode}
+use Rattle.model.specs.Step.{Ground, grounds, Result, refused, accepted, judged, step}
+use Rattle.model.specs.Answers.{resultNumber}
+use Rattle.model.specs.declared.Event.{Event}
+use Rattle.model.specs.declared.Mark.{Mark}
+use Rattle.machine.proofs.Laws.{first-length}
+use Rattle.event_list.specs.Format.{twoBytes, stopNumber, lengthOf, cutShort, checked, nextAt}
+use Rattle.event_list.specs.declared.Stop.{Stop}
+use Rattle.event_list.specs.declared.Stop.the-variants.{TooLong, CutShort, WrongTag, WrongLength, WrongCount}
+use Rattle.event_list.specs.declared.Next.{Next}
+use Rattle.event_list.specs.declared.Next.the-variants.{Done, Stopped, Got}
+use Rattle.table_bytes.specs.Bytes.{size, encoded}
+use Rattle.table_bytes.proofs.RoundTrip.{encoded-size}
+use Rattle.exports.specs.Boundary.{stateOf, tableOf, stateBytes, fieldNumber, fieldAfter, stepNumber, stepBytes}
+use Rattle.exports.specs.Claims.{StepClaims}
+
+-- ── no number of a refusal is 255 ──
+
+abbrev Small : List Ground → Type 0
+Small [] = Unit {0}
+Small (g ∷ gs) = (g .number ≤ 14) × Small gs
+
+judged-small : (u : State) (k : Mark) (gs : List Ground) → Small gs → resultNumber (judged (accepted u k) gs) ≤ 14
+unfolding judged
+judged-small u k [] h = omega arith
+judged-small u k (g ∷ gs) h = by-test (λ (r : Result). resultNumber r ≤ 14) (λ q. h .0) (λ q. judged-small u k gs (h .1))
+
+step-small : (s : State) (e : Event) → resultNumber (step s e) ≤ 14
+unfolding step grounds
+step-small s e = judged-small _ _ _ (search needs)
+
+field-small : (s : State) (x : Next) → fieldNumber s x ≤ 14
+field-small s Done = omega arith
+field-small s (Stopped TooLong) = omega arith
+field-small s (Stopped CutShort) = omega arith
+field-small s (Stopped WrongTag) = omega arith
+field-small s (Stopped WrongLength) = omega arith
+field-small s (Stopped WrongCount) = omega arith
+field-small s (Got e next) = step-small s e
+
+-- ── a field that is no event ──
+
+abbrev Bad : Next → Type 0
+Bad Done = Unit {0}
+Bad (Stopped s) = (3 ≤ stopNumber s) × (stopNumber s ≤ 5)
+Bad (Got e next) = Unit {0}
+
+bad-at : (l : List ℕ) (at : ℕ) → Bad (nextAt l at)
+unfolding nextAt checked
+bad-at l at =
+    by-test Bad (λ m. tt)
+    (λ m. by-test Bad (λ u. omega arith) (λ u. by-test Bad (λ t. omega arith) (λ t. by-test Bad (λ w. omega arith) (λ w. tt))))
+
+-- ── bytes behind a field ──
+
+module _ (a b c : ℕ) where
+  uncut : (r : List ℕ) → twoBytes b c ≤ length r → cutShort (a ∷ b ∷ c ∷ r) 0 ≡ false
+  unfolding cutShort
+  uncut r h = rw (le-ltb (suc (suc (suc (length r))) - 0) 3 (omega arith), le-ltb (suc (suc (suc (length r))) - 3) (twoBytes b c) (omega arith))
+
+  fits : (r : List ℕ) → cutShort (a ∷ b ∷ c ∷ r) 0 ≡ false → twoBytes b c ≤ length r
+  unfolding cutShort
+  fits r e =
+      let k = ltb-false (suc (suc (suc (length r))) - 3) (twoBytes b c) (rw (le-ltb (suc (suc (suc (length r))) - 0) 3 (omega arith)) at e) in
+      omega arith
+
+  same-next : (r g : List ℕ) → twoBytes b c ≤ length r → nextAt (a ∷ b ∷ c ∷ (r ++ g)) 0 ≡ nextAt (a ∷ b ∷ c ∷ r) 0
+  unfolding nextAt checked
+  same-next r g h =
+      let l : twoBytes b c ≤ length (r ++ g) = simp length-append (omega arith) in
+      rw (lt-leb (suc (suc (suc (length r)))) 0 (omega arith), lt-leb (suc (suc (suc (length (r ++ g))))) 0 (omega arith), uncut r h, uncut (r ++ g) l, take-append-le (twoBytes b c) r g h)
+
+same-field : (f g : List ℕ) → cutShort f 0 ≡ false → nextAt (f ++ g) 0 ≡ nextAt f 0
+unfolding cutShort
+same-field [] g h = absurd (true≢false h)
+same-field (a ∷ []) g h = absurd (true≢false h)
+same-field (a ∷ b ∷ []) g h = absurd (true≢false h)
+same-field (a ∷ b ∷ c ∷ r) g h = same-next a b c r g (fits a b c r h)
+
+-- ── the claims ──
+
+module _ (t f b : List ℕ) where
+  short : length b < size → stepNumber t f b ≡ 255
+  unfolding stepNumber
+  short h = rw (lt-ltb (length b) size h, pick-true)
+
+  long : size ≤ length b → stepNumber t f b ≡ fieldNumber (stateOf t) (nextAt f 0)
+  unfolding stepNumber
+  long h = rw (le-ltb (length b) size h, pick-false)
+
+  only-short : stepNumber t f b ≡ 255 → length b < size
+  unfolding stepNumber
+  only-short =
+      by-test (λ (n : ℕ). n ≡ 255 → length b < size) (λ q _. ltb-true (length b) size q) (λ _ z. absurd (omega (arith, field-small (stateOf t) (nextAt f 0))))
+
+  keeps : (stepNumber t f b ≡ 0 → ⊥) → stepBytes t f b ≡ b
+  unfolding stepBytes
+  keeps h = rw (ne-eqb (stepNumber t f b) 0 h, pick-false)
+
+  behind : drop size (stepBytes t f b) ≡ drop size b
+  unfolding stepBytes
+  behind =
+      by-test (λ (l : List ℕ). drop size l ≡ drop size b)
+      (λ _. drop-at (stateBytes (fieldAfter (stateOf t) (nextAt f 0))) (drop size b) size (state-long _))
+      (λ _. refl)
+    where
+      state-long : (s : State) → length (stateBytes s) ≡ size
+      state-long s = encoded-size (tableOf s) (first-length 16 startingNode (s .nodes)) (first-length 64 noMessage (s .queue))
+
+  no-event : (s : Stop) → size ≤ length b → nextAt f 0 ≡ Stopped s → (3 ≤ stepNumber t f b) × (stepNumber t f b ≤ 5)
+  no-event s h q = rw (long h, q) (rw q at (bad-at f 0))
+
+empty : (t b : List ℕ) → size ≤ length b → stepNumber t [] b ≡ 3
+unfolding nextAt pick
+empty t b h = long t [] b h
+
+module _ (t f g b : List ℕ) (h : cutShort f 0 ≡ false) where
+  same-number : stepNumber t (f ++ g) b ≡ stepNumber t f b
+  unfolding stepNumber
+  same-number = rw (same-field f g h)
+
+  same-bytes : stepBytes t (f ++ g) b ≡ stepBytes t f b
+  unfolding stepBytes
+  same-bytes = rw (same-number, same-field f g h)
+
+pub step-claims : StepClaims
+step-claims = record { short = short; only-short = only-short; keeps = keeps; behind = behind; empty = empty; no-event = no-event; first-alone = λ t f g b h. (same-number t f g b h, same-bytes t f g b h) }

@@ -1,0 +1,15 @@
+-- `cleared` meets its contract: as many messages wait as before.
+use borrow.Author.Needs.{needs}
+use mathlib.Core.Path.{_≡_}
+use Rattle.model.specs.State.{noMessage}
+use Rattle.machine.proofs.Laws.{first-length}
+use Rattle.exports.proofs.cleared.Statement.{statement}
+use Rattle.exports.proofs.cleared.Tie as tie
+
+returns : tie.Need-returns
+returns c =
+    let t = c .before .before .args .t in
+    rw (c .cleared-messages .ensures, c .before .cleared-nodes .ensures, first-length (t .waiting) noMessage (t .messages))
+
+pub cleared-spec : {M : Type 1} → statement M
+cleared-spec = tie.close (tie.spec (λ c κs. search needs) (λ c κs. search needs) returns)

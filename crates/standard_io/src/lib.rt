@@ -1,0 +1,61 @@
+// A program's standard input and output: all of the one read into a lent buffer, and bytes written to the other. Where that fails, a line on standard error
+// says why. No contract can say which bytes are read or written.
+use libc::STDIN_FILENO;
+use libc::STDOUT_FILENO;
+ghost use mathlib.Core.Path.{_≡_};
+ghost use Prim.Native.Nat.{_≤_, _-_};
+ghost use lib.ListN.{length};
+ghost use Rattle.standard_io.specs.Input.{Within, Counted};
+ghost use Rattle.standard_io.specs.declared.Input.the-variants as Input;
+
+// What reading gave: so many bytes, or nothing that can be used.
+pub enum Input {
+    Read(usize),
+    Failed,
+}
+
+// One read, into the part of buf from at on.
+fn read_from(buf: &mut [u8], at: usize) -> Input
+    requires { ⌜ at ≤ length (now buf) ⌝ }
+    ensures { λ r. ⌜ Within r (length (now (buf .entry)) - at) ⌝ }
+{
+    let got = libc::read(STDIN_FILENO, &mut buf[at..]);
+    if got < 0 {
+        return Input::Failed;
+    }
+    Input::Read(io::count(got, &buf[at..]))
+}
+
+fn read_failed() -> Input
+    ensures { λ r. ⌜ r ≡ Input.Failed ⌝ }
+{
+    os::fail(b"standard input");
+    Input::Failed
+}
+
+// Reads standard input to its end, or until buf is full: whether there is more is then not known. A read of nothing is the end, so on a terminal it is given once.
+// Where a read fails, standard error is told why, and what was read before counts for nothing.
+pub fn read_all(buf: &mut [u8]) -> Input
+    ensures { λ r. ⌜ Counted r (now (buf .exit)) ⌝ }
+{
+    let mut at: usize = 0;
+    while at < buf.len() {
+        match read_from(buf, at) {
+            Input::Failed => return read_failed(),
+            Input::Read(n) => {
+                if n == 0 {
+                    return Input::Read(at);
+                }
+                at += n;
+            }
+        }
+    }
+    Input::Read(at)
+}
+
+// Writes all of text to standard output. Where that fails, standard error is told why; some of text may have been written.
+pub fn write_all(text: &[u8]) {
+    if !io::write_all(STDOUT_FILENO, text) {
+        os::fail(b"standard output");
+    }
+}
