@@ -15,4 +15,5 @@ pub mod print;
 pub mod proved;
 pub mod shortest;
 pub mod tables;
+pub mod tuned;
 pub mod vectors;
