@@ -5,8 +5,11 @@
 //! What it does otherwise than `machine`:
 //! - Nothing of a run shows in which order messages of different pairs were sent. So the messages of
 //!   each pair are a queue of their own, linked through 64 slots, and no message is searched or moved.
-//! - Status, activity and "its own coordinator" are one byte. With the event, and for a delivery the
-//!   kind of the message, it gives refusals 9 to 11, or what is to be done, by one look into a table.
+//! - Status, activity and "its own coordinator" are one number. With the event, and for a delivery the
+//!   kind of the message, it gives refusals 7 to 11, or what is to be done, by one look into a table.
+//! - Asking, inviting, forwarding and handing are one walk over a set of whom still, in which the two
+//!   sets of inviting are one of 32 bits.
+//! - All deliveries that are replied to at once are one piece of code without branches.
 //! - A coordinator is always its group's owner in a run, and is not kept.
 //! - A delivered message leaves its slot to the one that is sent.
 //!
@@ -16,33 +19,37 @@ use crate::list::MAX_LIST;
 use crate::machine::{MAX_CALL, MAX_COUNTER, MAX_NODES, MIN_TASK};
 use std::hint::select_unpredictable;
 
-/// The status is a state's lowest two bits.
-const STATUS: u8 = 3;
-const DOWN: u8 = 0;
-const ELECTION: u8 = 1;
-const REORGANIZATION: u8 = 2;
-const NORMAL: u8 = 3;
+/// A state is a multiple of this, so that a row of `ACTIONS` is added to it.
+const ROWS: u16 = 32;
+/// The status is a state's lowest two bits above that.
+const STATUS: u16 = 3 * ROWS;
+const DOWN: u16 = 0;
+const ELECTION: u16 = ROWS;
+const REORGANIZATION: u16 = 2 * ROWS;
+const NORMAL: u16 = 3 * ROWS;
 /// "its own coordinator", of a node that isn't Down.
-const OWN: u8 = 4;
-const ACTIVITY: u8 = 15 << 3;
-const IDLE: u8 = 0;
-const ASKING: u8 = 1 << 3;
-const WAITING: u8 = 2 << 3;
-const INVITING: u8 = 3 << 3;
-const COLLECTING: u8 = 4 << 3;
-const HANDING: u8 = 5 << 3;
-const CONTACTING: u8 = 6 << 3;
-const FORWARDING: u8 = 7 << 3;
-const ACCEPTING: u8 = 8 << 3;
+const OWN: u16 = 4 * ROWS;
+const ACTIVITY: u16 = 15 * 8 * ROWS;
+const IDLE: u16 = 0;
+const ASKING: u16 = 8 * ROWS;
+const WAITING: u16 = 2 * 8 * ROWS;
+const INVITING: u16 = 3 * 8 * ROWS;
+const COLLECTING: u16 = 4 * 8 * ROWS;
+const HANDING: u16 = 5 * 8 * ROWS;
+const CONTACTING: u16 = 6 * 8 * ROWS;
+const FORWARDING: u16 = 7 * 8 * ROWS;
+const ACCEPTING: u16 = 8 * 8 * ROWS;
+/// The state of what is no node.
+const OUTSIDE: u16 = 15 * 8 * ROWS;
 
 /// Kinds of messages. A reply has two, so that yes or no is part of it.
-const ARE_YOU_COORDINATOR: u32 = 1;
-const ARE_YOU_THERE: u32 = 2;
-const INVITATION: u32 = 3;
-const ACCEPT: u32 = 4;
-const READY: u32 = 5;
-const YES: u32 = 6;
-const NO: u32 = 7;
+const ARE_YOU_COORDINATOR: u8 = 1;
+const ARE_YOU_THERE: u8 = 2;
+const INVITATION: u8 = 3;
+const ACCEPT: u8 = 4;
+const READY: u8 = 5;
+const YES: u8 = 6;
+const NO: u8 = 7;
 
 #[derive(Clone, Copy)]
 #[repr(align(32))]
@@ -52,58 +59,64 @@ struct Node {
     last_call: u32,
     /// The number of the caller's call.
     call: u32,
+    /// Whom still; in inviting, those set aside are the upper half.
+    rest: u32,
     members: u16,
     task: u16,
-    /// The set found, or of whom still.
-    set: u16,
-    /// The members set aside, of whom still.
-    former: u16,
+    /// The set found, while asking and waiting.
+    found: u16,
+    state: u16,
     /// The node asked or called now; in waiting the ticks left.
     now: u8,
     caller: u8,
-    state: u8,
 }
 
-/// Sender and receiver are those of the queue that it is in.
+/// What is kept of a message beside its kind. Sender and receiver are those of the queue that it is in.
 #[derive(Clone, Copy)]
+#[repr(align(16))]
 struct Message {
-    /// kind × 2^24 + call number
-    head: u32,
+    call: u32,
     group: u32,
     task: u16,
 }
 
-/// A message that is delivered: its queue and its slot.
+/// The oldest message of a pair: its queue and its slot.
 #[derive(Clone, Copy)]
-struct Taken {
-    queue: u8,
+struct Oldest {
+    queue: u16,
     slot: u8,
 }
 
-/// No slot: a message of kind 0 stands there.
-const NONE: u8 = 64;
+/// A link is a slot, and the kind of the message there × 256. No slot has kind 0.
+const NONE: u16 = 64;
+/// The link of what is no pair has kind 8.
+const NO_PAIR: u16 = 8 << 8 | 64;
+/// A queue is sender × 32 + receiver. Node 16 stands for all that are none.
+const SENDER: u16 = 32;
 /// Where the links of the slots begin, behind those of the queues.
-const SLOTS: u16 = 256;
+const SLOTS: u16 = 17 * SENDER;
 
 #[derive(Clone)]
 struct Table {
-    nodes: [Node; 16],
-    /// The oldest slot of queue (sender × 16 + receiver), and from 256 on the slot behind each slot.
-    link: [u8; 512],
-    /// The place in `link` where the next message of each queue goes.
-    end: [u16; 256],
+    nodes: [Node; 32],
+    /// The link to the oldest of each queue, and behind them those from slot to slot.
+    links: [u16; 1024],
+    /// The place in `links` where the next message of each queue goes.
+    ends: [u16; SLOTS as usize],
     messages: [Message; 128],
     /// The slots that are free.
     free: u64,
-    n: u8,
+    /// All nodes.
+    all: u32,
 }
 
-/// "Starting table: all Down and idle, every number 0, every set empty, no messages."
-const START: Table = {
-    let mut end = [0; 256];
+/// "Starting table: all Down and idle, every number 0, every set empty, no messages." Here without
+/// nodes.
+static START: Table = {
+    let mut ends = [0; SLOTS as usize];
     let mut queue = 0;
-    while queue < 256 {
-        end[queue] = queue as u16;
+    while queue < SLOTS {
+        ends[queue as usize] = queue;
         queue += 1;
     }
     Table {
@@ -112,58 +125,61 @@ const START: Table = {
             group: 0,
             last_call: 0,
             call: 0,
+            rest: 0,
             members: 0,
             task: 0,
-            set: 0,
-            former: 0,
+            found: 0,
+            state: OUTSIDE,
             now: 0,
             caller: 0,
-            state: DOWN | IDLE,
-        }; 16],
-        link: [NONE; 512],
-        end,
-        messages: [Message { head: 0, group: 0, task: 0 }; 128],
+        }; 32],
+        links: [NO_PAIR; 1024],
+        ends,
+        messages: [Message { call: 0, group: 0, task: 0 }; 128],
         free: u64::MAX,
-        n: 0,
+        all: 0,
     }
 };
 
-/// What an accepted event does. Numbers below 16 are refusals.
+/// What an accepted event does. Numbers up to 15 are refusals.
 const NOTHING: u8 = 16;
 const CRASH: u8 = 17;
 const RECOVER: u8 = 18;
 const CHECK: u8 = 19;
 const TIMEOUT: u8 = 20;
 const TICK: u8 = 21;
-const ASK_ON: u8 = 22;
-const INVITE_ON: u8 = 23;
-const FORWARD_ON: u8 = 24;
-const FINISH: u8 = 25;
-const LOSE: u8 = 26;
-const REPLY_YES: u8 = 27;
-const REPLY_NO: u8 = 28;
-const THERE: u8 = 29;
-const INVITED: u8 = 30;
-const JOINED: u8 = 31;
-const TASK: u8 = 32;
-const FOUND: u8 = 33;
-const NOT_FOUND: u8 = 34;
-const INVITED_ONE: u8 = 35;
-const HANDED_ONE: u8 = 36;
-const FORWARDED_ONE: u8 = 37;
-const ACCEPTED: u8 = 38;
-const STAYS: u8 = 39;
-const LEAVES: u8 = 40;
+const NEXT: u8 = 22;
+const FINISH: u8 = 23;
+const LOSE: u8 = 24;
+const INVITED: u8 = 25;
+const ANSWERED: u8 = 26;
+const ACCEPTED: u8 = 27;
+const STAYS: u8 = 28;
+const LEAVES: u8 = 29;
+/// From here on a message is replied to; what is done beside it is added.
+const REPLY_NO: u8 = 32;
+const REPLY_YES: u8 = REPLY_NO + IS_YES;
+const IS_YES: u8 = 1;
+/// It is yes for a member of the group.
+const IF_MEMBER: u8 = 2;
+/// The sender joins the members.
+const JOINS: u8 = 4;
+/// The task is taken.
+const TAKES: u8 = 8;
 
-/// What to do, by row and state. Rows 0 to 6 are the events up to finish, 8 to 15 deliver with a
-/// message of kind row - 8, and 16 to 23 lose; kind 0 is no message.
-const fn action(row: u8, state: u8) -> u8 {
+/// What to do, by row and state. Rows 0 to 6 are the events up to finish, 7 finish with a task that is
+/// too low, 8 to 16 deliver with a message of kind row - 8, and 17 to 25 lose the same. Kind 0 is no
+/// message, and kind 8 no pair.
+const fn action(row: u16, state: u16) -> u8 {
     let (status, activity) = (state & STATUS, state & ACTIVITY);
     let own = state & OWN != 0;
-    match row {
-        16 => return 11,
-        17..=23 => return LOSE,
-        1 => return if status == DOWN { RECOVER } else { 9 },
+    match (row, activity) {
+        (_, OUTSIDE) | (16 | 25.., _) => return 7,
+        (7, _) => return 8,
+        (17, _) => return 11,
+        (18..=24, _) => return LOSE,
+        (1, _) if status == DOWN => return RECOVER,
+        (1, _) => return 9,
         _ if status == DOWN => return 9,
         _ => {}
     }
@@ -174,40 +190,42 @@ const fn action(row: u8, state: u8) -> u8 {
         (3, IDLE) if own => NOTHING,
         (3, IDLE) => TIMEOUT,
         (4, WAITING) => TICK,
-        (5, ASKING) => ASK_ON,
-        (5, INVITING) => INVITE_ON,
-        (5, FORWARDING) => FORWARD_ON,
+        (5, ASKING | INVITING | FORWARDING) => NEXT,
         (5, HANDING | ACCEPTING | CONTACTING) => RECOVER,
         (6, COLLECTING) => FINISH,
         (2..=6, _) => 10,
         (8, _) => 11,
         (9, _) if status == NORMAL && own => REPLY_YES,
         (9, _) => REPLY_NO,
-        (10, _) if own => THERE,
+        (10, _) if own => REPLY_NO + IF_MEMBER,
         (10, _) => REPLY_NO,
         (11, _) if status == NORMAL => INVITED,
-        (12, _) if status == ELECTION && own => JOINED,
-        (13, _) if status == REORGANIZATION => TASK,
+        (12, _) if status == ELECTION && own => REPLY_YES + JOINS,
+        (13, _) if status == REORGANIZATION => REPLY_YES + TAKES,
         (11..=13, _) => REPLY_YES,
-        (14, ASKING) => FOUND,
-        (15, ASKING) => NOT_FOUND,
-        (14 | 15, INVITING) => INVITED_ONE,
-        (14 | 15, HANDING) => HANDED_ONE,
-        (14 | 15, FORWARDING) => FORWARDED_ONE,
-        (14 | 15, ACCEPTING) => ACCEPTED,
+        (_, ASKING | INVITING | HANDING | FORWARDING) => ANSWERED,
+        (_, ACCEPTING) => ACCEPTED,
         (14, CONTACTING) => STAYS,
-        (15, CONTACTING) => LEAVES,
+        (_, CONTACTING) => LEAVES,
         // "Otherwise the reply is dropped."
-        (14 | 15, _) => LOSE,
-        _ => 7,
+        _ => LOSE,
     }
 }
 
-static ACTIONS: [u8; 32 * 128] = {
-    let mut actions = [0; 32 * 128];
+/// The kind of the calls of a walk, by its activity.
+static CALLS: [u8; 16] = {
+    let mut calls = [ARE_YOU_COORDINATOR; 16];
+    calls[(INVITING / ASKING) as usize] = INVITATION;
+    calls[(FORWARDING / ASKING) as usize] = INVITATION;
+    calls[(HANDING / ASKING) as usize] = READY;
+    calls
+};
+
+static ACTIONS: [u8; 4096] = {
+    let mut actions = [0; 4096];
     let mut k = 0;
-    while k < actions.len() {
-        actions[k] = action((k >> 7) as u8, k as u8 & 127);
+    while k < 4096 {
+        actions[k as usize] = action(k % ROWS, k - k % ROWS);
         k += 1;
     }
     actions
@@ -219,20 +237,17 @@ struct Field {
     /// Tag and length, as the first three bytes, the first lowest.
     head: u32,
     /// The least task.
-    least: u16,
-    /// Where the node's number is in the field's bits: its first or its second.
+    least: u8,
+    /// Where the receiver's number is in the field's bits. Where there is none, the node stands for it.
     shift: u8,
     /// The first row of the actions.
     row: u8,
-    /// Whether the message's kind is added to the row: 7 or 0.
+    /// Whether the message's kind is added to the row: 15 or 0.
     kinds: u8,
-    /// Whether it has a sender and a receiver.
-    pair: bool,
 }
 
 static FIELDS: [Field; 16] = {
-    let none = Field { head: u32::MAX, least: 0, shift: 24, row: 0, kinds: 0, pair: false };
-    let mut fields = [none; 16];
+    let mut fields = [Field { head: u32::MAX, least: 0, shift: 24, row: 0, kinds: 0 }; 16];
     let mut k = 0;
     while k < 9 {
         let (length, tag) = ([1, 1, 1, 1, 1, 1, 3, 2, 2][k], 0x10 + k as u32);
@@ -240,9 +255,9 @@ static FIELDS: [Field; 16] = {
         fields[k].row = k as u8;
         k += 1;
     }
-    fields[6].least = MIN_TASK;
-    fields[7] = Field { row: 8, shift: 32, kinds: 7, pair: true, ..fields[7] };
-    fields[8] = Field { row: 16, shift: 32, kinds: 7, pair: true, ..fields[8] };
+    fields[6].least = MIN_TASK as u8;
+    fields[7] = Field { row: 8, shift: 32, kinds: 15, ..fields[7] };
+    fields[8] = Field { row: 17, shift: 32, kinds: 15, ..fields[8] };
     fields
 };
 
@@ -284,57 +299,46 @@ fn first_field(list: &[u8]) -> Result<u8, u8> {
 
 /// The events, from the fourth byte on.
 fn run(list: &[u8], n: u8, text: &mut Text) -> Option<()> {
-    let mut table = Table { n, ..START };
     text.cabinets(n)?;
+    let mut table = START.clone();
+    table.set_nodes(n);
+    let mut events = Events::new();
     let mut at = 4;
-    let mut e = 0;
-    while at < list.len() {
-        let field = eight(list, at);
-        let known = FIELDS[usize::from(field as u8 & 15)];
-        // The length stands in the third byte; the test that it is right comes after it.
-        let next = at + 3 + usize::from((field >> 16) as u8);
-        if field as u32 & 0xff_ffff != known.head || next > list.len() {
-            text.stopped(at, stop(&list[at..]))?;
+    loop {
+        let rest = &list[at..];
+        let field = match rest.first_chunk() {
+            Some(bytes) => u64::from_le_bytes(*bytes),
+            None if rest.is_empty() => break,
+            None => rest.iter().rev().fold(0, |word, &byte| word << 8 | u64::from(byte)),
+        };
+        let known = &FIELDS[usize::from(field as u8 & 15)];
+        // The length stands in the third byte; whether it is right is seen with the tag.
+        let length = 3 + usize::from((field >> 16) as u8);
+        if field as u32 & 0xff_ffff != known.head || length > rest.len() {
+            text.stopped(at, stop(rest))?;
             break;
         }
-        at = next;
-        e += 1;
-        let sender = ((field >> 24) as u8).wrapping_sub(1);
-        let receiver = ((field >> known.shift) as u8).wrapping_sub(1);
+        at += length;
+        events.next();
+        let sender = ((field >> 24) as u8).wrapping_sub(1).min(16);
+        let receiver = ((field >> known.shift) as u8).wrapping_sub(1).min(16);
         let task = ((field >> 32) as u16).swap_bytes();
-        let outside =
-            (sender >= n) | (receiver >= n) | ((sender == receiver) & known.pair);
-        let queue = sender << 4 | receiver;
-        let slot = table.link[usize::from(queue)];
-        let kind = (table.messages[usize::from(slot & 127)].head >> 24) as u8;
-        let k = usize::from(receiver & 15);
-        let row = known.row + (kind & known.kinds);
-        let state = table.nodes[k].state;
-        let known_action = ACTIONS[(usize::from(row) << 7 | usize::from(state)) & 4095];
-        let by_task = select_unpredictable(task < known.least, 8, known_action);
-        let action = select_unpredictable(outside, 7, by_task);
-        if action < NOTHING {
-            text.refused(e, action)?;
-            continue;
-        }
-        let r = table.act(action, k, task, Taken { queue, slot });
+        let queue = u16::from(sender) * SENDER + u16::from(receiver);
+        let link = table.links[usize::from(queue & 1023)];
+        let kind = (link >> 8) as u8;
+        let k = usize::from(receiver & 31);
+        let low = u8::from(task < u16::from(known.least));
+        let row = u16::from(known.row + (kind & known.kinds) + low);
+        let action = ACTIONS[usize::from((table.nodes[k].state + row) & 4095)];
+        let r = table.act(action, k, task, kind, Oldest { queue, slot: link as u8 });
         if r != 0 {
-            text.refused(e, r)?;
+            text.refused(&events, r)?;
         }
     }
     for i in 0..n {
-        text.node(i, &table.nodes[usize::from(i & 15)])?;
+        text.node(i, &table.nodes[usize::from(i & 31)])?;
     }
     text.messages(table.free.count_zeros())
-}
-
-/// Eight bytes of a list, the first lowest; behind its end stands 0.
-#[inline(always)]
-fn eight(list: &[u8], at: usize) -> u64 {
-    match list[at..].first_chunk() {
-        Some(bytes) => u64::from_le_bytes(*bytes),
-        None => list[at..].iter().rev().fold(0, |word, &byte| word << 8 | u64::from(byte)),
-    }
 }
 
 /// The number of the refusal of a field that is no event.
@@ -354,28 +358,47 @@ fn stop(rest: &[u8]) -> u8 {
     }
 }
 
-fn lowest(set: u16) -> u8 {
-    set.trailing_zeros() as u8
-}
-
 impl Table {
-    /// Does what an action says at node k; `taken` is the oldest message of the event's pair. Gives 0,
+    /// Nodes 0 to n - 1 and their pairs.
+    fn set_nodes(&mut self, n: u8) {
+        self.all = (1 << n) - 1;
+        for k in 0..usize::from(n) {
+            self.nodes[k & 31].state = DOWN | IDLE;
+            let first = k * usize::from(SENDER);
+            self.links[first..first + usize::from(n)].fill(NONE);
+            self.links[first + k] = NO_PAIR;
+        }
+    }
+
+    /// Does what an action says at node k; `oldest` is of the event's pair, and `kind` its kind. Gives 0,
     /// or the number of a refusal, and then nothing has changed.
     #[inline(always)]
-    fn act(&mut self, action: u8, k: usize, task: u16, taken: Taken) -> u8 {
+    fn act(&mut self, action: u8, k: usize, task: u16, kind: u8, oldest: Oldest) -> u8 {
         let node = &mut self.nodes[k];
-        let message = self.messages[usize::from(taken.slot & 127)];
-        let sender = taken.queue >> 4;
+        let message = self.messages[usize::from(oldest.slot & 127)];
+        let sender = (oldest.queue / SENDER) as u8;
         match action {
+            NOTHING => 0,
             CRASH => {
                 node.state = DOWN | IDLE;
                 0
             }
             RECOVER => self.recover(k, None),
-            CHECK => self.ask(k, 0, 0, None),
+            // "it asks every other cabinet in turn"
+            CHECK => {
+                let others = self.all & !(1 << k);
+                if others == 0 {
+                    return 0;
+                }
+                let r = self.walk(k, ASKING, others, None);
+                if r == 0 {
+                    self.nodes[k].found = 0;
+                }
+                r
+            }
             TIMEOUT => {
-                let (to, group) = ((node.group & 15) as u8, node.group);
-                let r = self.call(k, to, ARE_YOU_THERE, group, 0, None);
+                let to = (node.group & 15) as u8;
+                let r = self.call(k, to, ARE_YOU_THERE, None);
                 if r == 0 {
                     self.set_activity(k, CONTACTING);
                 }
@@ -386,169 +409,147 @@ impl Table {
                     node.now -= 1;
                     return 0;
                 }
-                let found = node.set;
+                let found = node.found;
                 self.merge(k, found, None)
             }
-            ASK_ON => {
-                let (now, found) = (node.now, node.set);
-                self.ask(k, now + 1, found, None)
+            NEXT => {
+                let found = node.found;
+                self.next(k, found, None)
             }
-            INVITE_ON => self.invite(k, None),
-            FORWARD_ON => {
-                let rest = node.set;
-                self.forward(k, rest, None)
-            }
+            // "Reorganization, task t. It hands Ready to each member; after the last, or with none,
+            // Normal and idle."
             FINISH => {
-                let rest = node.members;
-                self.hand(k, rest, task, None)
+                let (members, former) = (u32::from(node.members), node.task);
+                node.task = task;
+                if members == 0 {
+                    node.state = NORMAL | OWN | IDLE;
+                    return 0;
+                }
+                let r = self.walk(k, HANDING, members, None);
+                let node = &mut self.nodes[k];
+                if r == 0 {
+                    node.state = REORGANIZATION | OWN | HANDING;
+                } else {
+                    node.task = former;
+                }
+                r
             }
             LOSE => {
-                self.release(Some(taken));
+                self.release(Some(oldest));
                 0
-            }
-            REPLY_YES => self.reply(k, message.head, YES, taken),
-            REPLY_NO => self.reply(k, message.head, NO, taken),
-            // "yes exactly when the group is equal, it is its own coordinator and the sender is a
-            // member"
-            THERE => {
-                let member = node.group == message.group && node.members >> sender & 1 != 0;
-                self.reply(k, message.head, NO - u32::from(member), taken)
             }
             INVITED => {
                 // "or it owns that group"
                 if (message.group & 15) as usize == k {
-                    return self.reply(k, message.head, YES, taken);
+                    return self.send(k, sender, YES, message, Some(oldest));
                 }
-                // "If it was its own coordinator, it forwards the invitation to each member"
-                let rest = if node.state & OWN != 0 { node.members } else { 0 };
                 let before = *node;
+                // "If it was its own coordinator, it forwards the invitation to each member"
+                let rest = if node.state & OWN != 0 { u32::from(node.members) } else { 0 };
                 node.group = message.group;
-                node.call = message.head & MAX_CALL;
+                node.call = message.call;
                 node.caller = sender;
                 node.state = ELECTION;
-                let r = self.forward(k, rest, Some(taken));
+                let r = if rest == 0 {
+                    self.accept(k, Some(oldest))
+                } else {
+                    self.walk(k, FORWARDING, rest, Some(oldest))
+                };
                 if r != 0 {
                     self.nodes[k] = before;
                 }
                 r
             }
-            // "if in Election, its own coordinator and in that group, the sender joins the members"
-            JOINED => {
-                node.members |= u16::from(node.group == message.group) << sender;
-                self.reply(k, message.head, YES, taken)
-            }
-            // "if in Reorganization and in that group, task taken, Normal"
-            TASK => {
-                if node.group == message.group {
-                    node.task = message.task;
-                    node.state |= NORMAL;
-                }
-                self.reply(k, message.head, YES, taken)
-            }
             // "if a call is open with this number, it goes on"
-            FOUND..=LEAVES if message.head & MAX_CALL != node.last_call => {
-                self.release(Some(taken));
-                0
-            }
-            FOUND => {
-                let (now, found) = (node.now, node.set);
-                self.ask(k, now + 1, found | 1 << (now & 15), Some(taken))
-            }
-            NOT_FOUND => {
-                let (now, found) = (node.now, node.set);
-                self.ask(k, now + 1, found, Some(taken))
-            }
-            INVITED_ONE => self.invite(k, Some(taken)),
-            HANDED_ONE => {
-                let (rest, task) = (node.set, node.task);
-                self.hand(k, rest, task, Some(taken))
-            }
-            FORWARDED_ONE => {
-                let rest = node.set;
-                self.forward(k, rest, Some(taken))
+            ANSWERED => {
+                if message.call != node.last_call {
+                    self.release(Some(oldest));
+                    return 0;
+                }
+                // "asking adds the cabinet asked on yes"
+                let found = node.found | u16::from(kind == YES) << (node.now & 15);
+                self.next(k, found, Some(oldest))
             }
             // "accepting turns to Reorganization, replies to its caller and is idle"
             ACCEPTED => {
+                if message.call != node.last_call {
+                    self.release(Some(oldest));
+                    return 0;
+                }
                 let (caller, call) = (node.caller, node.call);
                 node.state = REORGANIZATION | IDLE;
-                self.take_out(taken);
-                self.put(k, caller, taken.slot, Message { head: YES << 24 | call, ..message });
-                0
+                self.send(k, caller, YES, Message { call, ..message }, Some(oldest))
             }
             STAYS => {
-                self.set_activity(k, IDLE);
-                self.release(Some(taken));
+                if message.call == node.last_call {
+                    self.set_activity(k, IDLE);
+                }
+                self.release(Some(oldest));
                 0
             }
-            LEAVES => self.recover(k, Some(taken)),
-            _ => 0,
+            LEAVES => {
+                if message.call == node.last_call {
+                    return self.recover(k, Some(oldest));
+                }
+                self.release(Some(oldest));
+                0
+            }
+            REPLY_NO..=63 => {
+                let doing = |flag: u8| u16::from(action & flag != 0);
+                let same = u16::from(node.group == message.group);
+                // "the group is equal, it is its own coordinator and the sender is a member"
+                let member = doing(IF_MEMBER) & same & node.members >> (sender & 15);
+                let yes = doing(IS_YES) | member;
+                // "in that group, the sender joins the members"
+                node.members |= (doing(JOINS) & same) << (sender & 15);
+                // "in that group, task taken, Normal"
+                let takes = doing(TAKES) & same;
+                node.task = select_unpredictable(takes != 0, message.task, node.task);
+                node.state |= takes * NORMAL;
+                self.send(k, sender, NO - yes as u8, message, Some(oldest))
+            }
+            refusal => refusal,
         }
     }
 
     #[inline(always)]
-    fn set_activity(&mut self, k: usize, activity: u8) {
+    fn set_activity(&mut self, k: usize, activity: u16) {
         let state = &mut self.nodes[k].state;
         *state = *state & !ACTIVITY | activity;
     }
 
     /// Takes the oldest message out of its queue.
     #[inline(always)]
-    fn take_out(&mut self, taken: Taken) {
-        let queue = usize::from(taken.queue);
-        let next = self.link[usize::from(SLOTS) + usize::from(taken.slot & 127)];
-        self.link[queue] = next;
-        self.end[queue] =
-            select_unpredictable(next == NONE, u16::from(taken.queue), self.end[queue]);
+    fn take_out(&mut self, oldest: Oldest) {
+        let queue = usize::from(oldest.queue).min(usize::from(SLOTS) - 1);
+        let next = self.links[usize::from(SLOTS) + usize::from(oldest.slot & 127)];
+        self.links[queue] = next;
+        self.ends[queue] = select_unpredictable(next == NONE, queue as u16, self.ends[queue]);
     }
 
-    /// Takes a delivered or lost message out, and nothing is sent.
+    /// Takes out a message that is delivered or lost, and nothing is sent.
     #[inline(always)]
-    fn release(&mut self, taken: Option<Taken>) {
-        if let Some(taken) = taken {
-            self.take_out(taken);
-            self.free |= 1 << (taken.slot & 63);
+    fn release(&mut self, oldest: Option<Oldest>) {
+        if let Some(oldest) = oldest {
+            self.take_out(oldest);
+            self.free |= 1 << (oldest.slot & 63);
         }
     }
 
-    /// Adds a message behind the others of its pair.
+    /// Adds a message behind the others of its pair, in the slot of the one delivered if there is one.
     #[inline(always)]
-    fn put(&mut self, k: usize, to: u8, slot: u8, message: Message) {
-        let queue = (k & 15) << 4 | usize::from(to & 15);
-        let place = SLOTS + u16::from(slot & 127);
-        self.messages[usize::from(slot & 127)] = message;
-        self.link[usize::from(self.end[queue] & 511)] = slot;
-        self.link[usize::from(place)] = NONE;
-        self.end[queue] = place;
-    }
-
-    /// Answers a delivered call.
-    #[inline(always)]
-    fn reply(&mut self, k: usize, head: u32, kind: u32, taken: Taken) -> u8 {
-        self.take_out(taken);
-        let message = Message { head: kind << 24 | head & MAX_CALL, group: 0, task: 0 };
-        self.put(k, taken.queue >> 4, taken.slot, message);
-        0
-    }
-
-    /// "last call number plus one, one message added"
-    #[inline(always)]
-    fn call(
+    fn send(
         &mut self,
         k: usize,
         to: u8,
-        kind: u32,
-        group: u32,
-        task: u16,
-        taken: Option<Taken>,
+        kind: u8,
+        message: Message,
+        delivered: Option<Oldest>,
     ) -> u8 {
-        let call = self.nodes[k].last_call;
-        if call >= MAX_CALL {
-            return 13;
-        }
-        let slot = match taken {
-            Some(taken) => {
-                self.take_out(taken);
-                taken.slot
+        let slot = match delivered {
+            Some(oldest) => {
+                self.take_out(oldest);
+                oldest.slot & 63
             }
             None if self.free == 0 => return 14,
             None => {
@@ -557,14 +558,92 @@ impl Table {
                 slot
             }
         };
-        self.nodes[k].last_call = call + 1;
-        self.put(k, to, slot, Message { head: kind << 24 | (call + 1), group, task });
+        let queue = (k & 15) * usize::from(SENDER) + usize::from(to & 15);
+        let place = SLOTS + u16::from(slot);
+        self.messages[usize::from(slot)] = message;
+        self.links[usize::from(self.ends[queue] & 1023)] = u16::from(kind) << 8 | u16::from(slot);
+        self.links[usize::from(place)] = NONE;
+        self.ends[queue] = place;
         0
+    }
+
+    /// "last call number plus one, one message added"
+    #[inline(always)]
+    fn call(&mut self, k: usize, to: u8, kind: u8, delivered: Option<Oldest>) -> u8 {
+        let Node { last_call, group, task, .. } = self.nodes[k];
+        if last_call >= MAX_CALL {
+            return 13;
+        }
+        let call = last_call + 1;
+        let r = self.send(k, to, kind, Message { call, group, task }, delivered);
+        if r == 0 {
+            self.nodes[k].last_call = call;
+        }
+        r
+    }
+
+    /// The next call of an activity that walks the set of whom still, which must not be empty.
+    #[inline(always)]
+    fn walk(&mut self, k: usize, activity: u16, rest: u32, delivered: Option<Oldest>) -> u8 {
+        // "Sets are walked from the lowest number up."
+        let now = (rest.trailing_zeros() & 15) as u8;
+        let kind = CALLS[usize::from(activity / ASKING & 15)];
+        let r = self.call(k, now, kind, delivered);
+        if r == 0 {
+            self.nodes[k].rest = rest & rest.wrapping_sub(1);
+            self.nodes[k].now = now;
+            self.set_activity(k, activity);
+        }
+        r
+    }
+
+    /// A walk goes on, or ends after the last.
+    #[inline(always)]
+    fn next(&mut self, k: usize, found: u16, delivered: Option<Oldest>) -> u8 {
+        let Node { rest, state, .. } = self.nodes[k];
+        if rest != 0 {
+            let r = self.walk(k, state & ACTIVITY, rest, delivered);
+            if r == 0 {
+                self.nodes[k].found = found;
+            }
+            return r;
+        }
+        match state & ACTIVITY {
+            // "After the last: none found, idle. Else let p be the highest found: if i < p it waits
+            // p − i ticks, else it merges."
+            ASKING => {
+                let ticks = (16 - found.leading_zeros() as u8).saturating_sub(k as u8 + 1);
+                if found != 0 && ticks == 0 {
+                    return self.merge(k, found, delivered);
+                }
+                self.nodes[k].found = found;
+                self.nodes[k].now = ticks;
+                self.set_activity(k, if found == 0 { IDLE } else { WAITING });
+            }
+            FORWARDING => return self.accept(k, delivered),
+            // "and then collects"
+            INVITING => self.set_activity(k, COLLECTING),
+            // "after the last ... Normal and idle"
+            _ => self.nodes[k].state = NORMAL | state & OWN | IDLE,
+        }
+        self.release(delivered);
+        0
+    }
+
+    /// "then it calls Accept on the new coordinator"
+    #[inline(always)]
+    fn accept(&mut self, k: usize, delivered: Option<Oldest>) -> u8 {
+        let to = (self.nodes[k].group & 15) as u8;
+        let r = self.call(k, to, ACCEPT, delivered);
+        if r == 0 {
+            self.set_activity(k, ACCEPTING);
+        }
+        r
     }
 
     /// "counter plus one, group from it, coordinator i, members empty, task i, Normal, idle"
     #[inline(always)]
-    fn recover(&mut self, k: usize, taken: Option<Taken>) -> u8 {
+    fn recover(&mut self, k: usize, delivered: Option<Oldest>) -> u8 {
         let node = &mut self.nodes[k];
         if node.counter >= MAX_COUNTER {
             return 12;
@@ -574,121 +653,32 @@ impl Table {
         node.members = 0;
         node.task = k as u16 + 1;
         node.state = NORMAL | OWN | IDLE;
-        self.release(taken);
+        self.release(delivered);
         0
     }
 
-    /// Asks the node `next` or the one behind it. "After the last: none found, idle. Else let p be the
-    /// highest found: if i < p it waits p − i ticks, else it merges."
-    #[inline(always)]
-    fn ask(&mut self, k: usize, next: u8, found: u16, taken: Option<Taken>) -> u8 {
-        let next = next + u8::from(usize::from(next) == k);
-        if next < self.n {
-            let r = self.call(k, next, ARE_YOU_COORDINATOR, 0, 0, taken);
-            if r == 0 {
-                self.nodes[k].now = next;
-                self.nodes[k].set = found;
-                self.set_activity(k, ASKING);
-            }
-            return r;
-        }
-        if found == 0 {
-            self.set_activity(k, IDLE);
-            self.release(taken);
-            return 0;
-        }
-        let highest = 15 - found.leading_zeros() as u8;
-        if k < usize::from(highest) {
-            self.nodes[k].now = highest - k as u8;
-            self.nodes[k].set = found;
-            self.set_activity(k, WAITING);
-            self.release(taken);
-            return 0;
-        }
-        self.merge(k, found, taken)
-    }
-
-    /// "Election; counter plus one, new group, coordinator i; members are set aside and emptied."
-    #[inline(always)]
-    fn merge(&mut self, k: usize, found: u16, taken: Option<Taken>) -> u8 {
+    /// "Election; counter plus one, new group, coordinator i; members are set aside and emptied. It
+    /// invites the cabinets found, then those set aside ... and then collects."
+    #[inline(never)]
+    fn merge(&mut self, k: usize, found: u16, delivered: Option<Oldest>) -> u8 {
         let node = &mut self.nodes[k];
         if node.counter >= MAX_COUNTER {
             return 12;
         }
         let before = *node;
+        let rest = u32::from(found) | u32::from(node.members) << 16;
         node.counter += 1;
         node.group = node.counter << 4 | k as u32;
-        node.set = found;
-        node.former = node.members;
         node.members = 0;
-        node.state = ELECTION | OWN;
-        let r = self.invite(k, taken);
+        node.state = ELECTION | OWN | COLLECTING;
+        let r = if rest == 0 {
+            self.release(delivered);
+            0
+        } else {
+            self.walk(k, INVITING, rest, delivered)
+        };
         if r != 0 {
             self.nodes[k] = before;
-        }
-        r
-    }
-
-    /// "It invites the cabinets found, then those set aside ... and then collects."
-    #[inline(always)]
-    fn invite(&mut self, k: usize, taken: Option<Taken>) -> u8 {
-        let Node { set, former, group, .. } = self.nodes[k];
-        if set | former == 0 {
-            self.set_activity(k, COLLECTING);
-            self.release(taken);
-            return 0;
-        }
-        let now = lowest(if set != 0 { set } else { former });
-        let r = self.call(k, now, INVITATION, group, 0, taken);
-        if r == 0 {
-            let node = &mut self.nodes[k];
-            node.now = now;
-            // The lowest leaves the set that it was in.
-            node.former = if set != 0 { former } else { former & former.wrapping_sub(1) };
-            node.set = set & set.wrapping_sub(1);
-            self.set_activity(k, INVITING);
-        }
-        r
-    }
-
-    /// "It hands Ready to each member; after the last, or with none, Normal and idle."
-    #[inline(always)]
-    fn hand(&mut self, k: usize, rest: u16, task: u16, taken: Option<Taken>) -> u8 {
-        let own = self.nodes[k].state & OWN;
-        if rest == 0 {
-            self.nodes[k].task = task;
-            self.nodes[k].state = NORMAL | own | IDLE;
-            self.release(taken);
-            return 0;
-        }
-        let (now, group) = (lowest(rest), self.nodes[k].group);
-        let r = self.call(k, now, READY, group, task, taken);
-        if r == 0 {
-            let node = &mut self.nodes[k];
-            node.task = task;
-            node.now = now;
-            node.set = rest & rest.wrapping_sub(1);
-            // Only finish, which delivers nothing, turns to Reorganization.
-            let status = if taken.is_none() { REORGANIZATION } else { node.state & STATUS };
-            node.state = status | own | HANDING;
-        }
-        r
-    }
-
-    /// "it forwards the invitation to each member; then it calls Accept on the new coordinator"
-    #[inline(always)]
-    fn forward(&mut self, k: usize, rest: u16, taken: Option<Taken>) -> u8 {
-        let group = self.nodes[k].group;
-        let (to, kind, activity) = if rest == 0 {
-            ((group & 15) as u8, ACCEPT, ACCEPTING)
-        } else {
-            (lowest(rest), INVITATION, FORWARDING)
-        };
-        let r = self.call(k, to, kind, group, 0, taken);
-        if r == 0 {
-            self.nodes[k].set = rest & rest.wrapping_sub(1);
-            self.nodes[k].now = to;
-            self.set_activity(k, activity);
         }
         r
     }
@@ -731,53 +721,81 @@ static SHORT: [u32; 256] = {
     short
 };
 
-/// A space, the number of a refusal, and the line's end.
-static REFUSALS: [[u8; 4]; 16] = {
-    let mut refusals = [[b' ', b'1', b'0', b'\n']; 16];
+/// A space, the number of a refusal and the line's end, behind two bytes, the first lowest.
+static REFUSALS: [u64; 16] = {
+    let mut refusals = [0; 16];
     let mut r = 0;
     while r < 16 {
-        if r < 10 {
-            refusals[r] = [b' ', b'0' + r as u8, b'\n', 0];
-        } else {
-            refusals[r][2] = b'0' + (r as u8 - 10);
-        }
+        let digits =
+            if r < 10 { [b'0' + r as u8, b'\n', 0] } else { [b'1', b'0' + r as u8 - 10, b'\n'] };
+        refusals[r] = u64::from_le_bytes([0, 0, b' ', digits[0], digits[1], digits[2], 0, 0]);
         r += 1;
     }
     refusals
 };
 
+/// Counts events, in a form that is soon written: the hundreds in digits, and the rest of them.
+struct Events {
+    hundreds: u32,
+    rest: u32,
+    /// `refused `, the hundreds and what no one reads.
+    line: [u8; 16],
+    /// How long the line is up to the rest; 0 while there are no hundreds.
+    length: usize,
+}
+
+impl Events {
+    fn new() -> Events {
+        Events { hundreds: 0, rest: 0, line: *b"refused         ", length: 0 }
+    }
+
+    #[inline(always)]
+    fn next(&mut self) {
+        self.rest += 1;
+        if self.rest == 100 {
+            self.next_hundred();
+        }
+    }
+
+    /// There are never more than 16,383 events, so 255 hundreds are enough.
+    #[cold]
+    #[inline(never)]
+    fn next_hundred(&mut self) {
+        self.rest = 0;
+        self.hundreds += 1;
+        let digits = SHORT[self.hundreds as usize & 255];
+        self.line[8..12].copy_from_slice(&digits.to_le_bytes());
+        self.length = 8 + (digits >> 24) as usize;
+    }
+}
+
 /// No line is longer than this less 20.
 const ROOM: usize = 64;
 
 impl Text<'_> {
-    /// "`refused e r` (e counts events from 1, r the number)". There are never more than 16,383 events.
-    /// Where there is room, up to two bytes behind the line are changed: the next line, which then fits
-    /// for sure, is written over them.
+    /// "`refused e r` (e counts events from 1, r the number)". Where there is room, a few bytes behind
+    /// the line are changed: the next line, which then fits for sure, is written over them.
     #[inline(always)]
-    fn refused(&mut self, e: u32, r: u8) -> Option<()> {
-        if e >= 100 {
-            let rest = self.out.get_mut(self.at..).unwrap_or_default();
-            if let Some(room) = rest.first_chunk_mut::<ROOM>() {
-                let high = SHORT[(e / 100) as usize & 255];
-                let low = u64::from(PAIRS[(e % 100) as usize]);
-                let digits = high >> 24;
-                let number = u64::from(high & 0xff_ffff) | low << (8 * digits);
-                room[..8].copy_from_slice(b"refused ");
-                room[8..16].copy_from_slice(&number.to_le_bytes());
-                let end = (10 + digits as usize) & 15;
-                room[end..end + 4].copy_from_slice(&REFUSALS[usize::from(r & 15)]);
-                self.at += end + 3 + usize::from(r >= 10);
-                return Some(());
+    fn refused(&mut self, e: &Events, r: u8) -> Option<()> {
+        let rest = self.out.get_mut(self.at..).unwrap_or_default();
+        match rest.first_chunk_mut::<ROOM>() {
+            Some(room) if e.length > 0 => {
+                room[..16].copy_from_slice(&e.line);
+                let at = e.length & 15;
+                let end = u64::from(PAIRS[(e.rest & 127) as usize]) | REFUSALS[usize::from(r & 15)];
+                room[at..at + 8].copy_from_slice(&end.to_le_bytes());
+                self.at += at + 5 + usize::from(r >= 10);
+                Some(())
             }
+            _ => self.refused_slowly(e, r),
         }
-        self.refused_slowly(e, r)
     }
 
     #[cold]
     #[inline(never)]
-    fn refused_slowly(&mut self, e: u32, r: u8) -> Option<()> {
+    fn refused_slowly(&mut self, e: &Events, r: u8) -> Option<()> {
         let mut line = Line::new(b"refused ");
-        line.number(e);
+        line.number(100 * e.hundreds + e.rest);
         line.space();
         line.number(u32::from(r));
         self.line(line)
@@ -809,7 +827,7 @@ impl Text<'_> {
         let mut line = Line::new(b"");
         line.number(u32::from(k) + 1);
         line.space();
-        line.number(u32::from(node.state & STATUS));
+        line.number(u32::from(node.state & STATUS) / u32::from(ROWS));
         line.space();
         line.number(if node.group == 0 { 0 } else { (node.group & 15) + 1 });
         line.space();

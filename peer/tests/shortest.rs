@@ -39,16 +39,11 @@ impl Library for Machine {
     }
 
     fn step(&self, table: &TableBytes, field: &[u8], out: &mut [u8]) -> u8 {
-        let Some(event) = one_event(field) else {
-            return NO_EVENT;
+        let machine = |table: &mut Table, event: &Event| match table.in_range() {
+            true => (self.0)(table, event),
+            false => Err(1),
         };
-        let Some(out) = out.first_chunk_mut() else {
-            return NO_EVENT;
-        };
-        let mut table = table_from_bytes(table);
-        let answer = if table.in_range() { (self.0)(&mut table, &event) } else { Err(1) };
-        table_to_bytes(&table, out);
-        answer.err().unwrap_or(0)
+        step_by(machine, table, field, out)
     }
 
     fn fold(&self, list: &[u8]) -> u32 {
@@ -213,10 +208,10 @@ fn tables_are_shortened() {
     let m = Message { sender: 1, receiver: 2, call: 1, body: Body::AreYouCoordinator };
     table.messages = vec![m; 63];
     let events = [Crash(1), Check(3), Tick(1), Check(2)];
-    assert!(walk_difference(&library, &table, &events, 7, None).is_some());
-    let words = tell_walk(&library, &table, &events, 7);
+    assert!(walk_difference(&library, &table, &events, Some(7), None).is_some());
+    let words = tell_walk(&library, &table, &events, Some(7));
     assert_eq!(words.matches("\nevent ").count(), 2, "{words}");
-    let words = tell_walk(&Machine(clears_counter), &table, &events, 7);
+    let words = tell_walk(&Machine(clears_counter), &table, &events, None);
     assert!(!words.contains("message "), "{words}");
     assert!(words.contains("cabinet 2 0 0 0 0 0 0 0 idle"), "{words}");
 }

@@ -194,11 +194,7 @@ fn median(values: &[f64]) -> f64 {
 
 /// Times some sides, one pass of each in turn. Gives the seconds for a pass of each side, the least of
 /// each round.
-fn race(
-    rounds: usize,
-    round: Duration,
-    sides: &mut [&mut dyn FnMut() -> usize],
-) -> Vec<Vec<f64>> {
+fn race(rounds: usize, round: Duration, sides: &mut [&mut dyn FnMut() -> usize]) -> Vec<Vec<f64>> {
     let mut times = vec![Vec::new(); sides.len()];
     for _ in 0..rounds {
         let mut least = vec![f64::INFINITY; sides.len()];
