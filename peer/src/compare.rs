@@ -60,11 +60,11 @@ impl Lent {
     pub fn step_difference(
         &mut self,
         library: &impl Library,
-        bytes: &TableBytes,
+        table: &[u8],
         field: &[u8],
         expected: Result<&Table, u8>,
     ) -> Option<String> {
-        let answer = library.step(bytes, field, &mut self.now);
+        let answer = library.step(table, field, &mut self.now);
         self.judge(answer, expected)
     }
 

@@ -78,8 +78,8 @@ impl<L: Library> Fuzz<L> {
         self.seconds = start.elapsed().as_secs_f64();
     }
 
-    /// Prints the counts and gives how many comparisons failed.
-    pub fn tell(&mut self) -> u64 {
+    /// Prints the counts and gives how many comparisons passed and how many failed.
+    pub fn tell(&mut self) -> (u64, u64) {
         print!("{}", self.corners.text());
         for words in self.corners.impossible() {
             self.failed += 1;
@@ -94,8 +94,7 @@ impl<L: Library> Fuzz<L> {
             self.seconds,
             events as f64 / self.seconds
         );
-        println!("{} passed, {} failed", self.passed, self.failed);
-        self.failed
+        (self.passed, self.failed)
     }
 
     fn difference(&mut self, words: String) {

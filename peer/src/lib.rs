@@ -6,6 +6,7 @@ pub mod compare;
 pub mod corners;
 pub mod damage;
 pub mod drive;
+pub mod ending;
 pub mod fuzzing;
 pub mod history;
 pub mod list;

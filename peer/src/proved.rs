@@ -26,11 +26,12 @@ pub trait Library {
     /// then the lines that fit are there. All else in out stays as it was.
     fn print(&self, list: &[u8], out: &mut [u8]) -> Option<usize>;
 
-    /// One event, as a field of a list, on a table. Accepted is 0, and out begins with the table after
+    /// One event, as a field of a list, on a table: zeros are read behind the end of a table that is cut
+    /// short, and what is longer is not looked at. Accepted is 0, and out begins with the table after
     /// it. A refusal is its number, and out stays as it was: 3, 4 or 5 where the field is none; what
     /// stands behind the first field is not looked at. TOO_SHORT, which comes first, is for an out
     /// shorter than a table, and out stays as it was.
-    fn step(&self, table: &TableBytes, field: &[u8], out: &mut [u8]) -> u8;
+    fn step(&self, table: &[u8], field: &[u8], out: &mut [u8]) -> u8;
 
     /// Every event of a list by the step with the range check: how many were accepted.
     fn fold(&self, list: &[u8]) -> u32;
@@ -108,7 +109,7 @@ impl Library for Proved {
         }
     }
 
-    fn step(&self, table: &TableBytes, field: &[u8], out: &mut [u8]) -> u8 {
+    fn step(&self, table: &[u8], field: &[u8], out: &mut [u8]) -> u8 {
         // Safety: as above.
         unsafe {
             linked::nevraspu_step(
@@ -139,7 +140,7 @@ impl Library for Own {
         (length == text.len()).then_some(length)
     }
 
-    fn step(&self, table: &TableBytes, field: &[u8], out: &mut [u8]) -> u8 {
+    fn step(&self, table: &[u8], field: &[u8], out: &mut [u8]) -> u8 {
         step_by(machine::step, table, field, out)
     }
 
@@ -151,14 +152,17 @@ impl Library for Own {
 /// The library's step by any machine, which is to answer 1 on a table that is not in range.
 pub fn step_by(
     machine: impl Fn(&mut Table, &Event) -> Result<(), u8>,
-    table: &TableBytes,
+    table: &[u8],
     field: &[u8],
     out: &mut [u8],
 ) -> u8 {
     let Some(out) = out.first_chunk_mut() else {
         return TOO_SHORT;
     };
-    let mut table = table_from_bytes(table);
+    let mut bytes = [0; TABLE_BYTES];
+    let length = table.len().min(TABLE_BYTES);
+    bytes[..length].copy_from_slice(&table[..length]);
+    let mut table = table_from_bytes(&bytes);
     match first_event(field).and_then(|event| machine(&mut table, &event)) {
         Ok(()) => {
             table_to_bytes(&table, out);

@@ -794,55 +794,46 @@ impl Text<'_> {
     #[cold]
     #[inline(never)]
     fn refused_slowly(&mut self, e: &Events, r: u8) -> Option<()> {
-        let mut line = Line::new(b"refused ");
-        line.number(100 * e.hundreds + e.rest);
-        line.space();
-        line.number(u32::from(r));
-        self.line(line)
+        self.words(b"refused ", &[100 * e.hundreds + e.rest, u32::from(r)])
     }
 
     #[cold]
     fn stopped(&mut self, b: usize, r: u8) -> Option<()> {
-        let mut line = Line::new(b"stopped ");
-        line.number(b as u32);
-        line.space();
-        line.number(u32::from(r));
-        self.line(line)
+        self.words(b"stopped ", &[b as u32, u32::from(r)])
     }
 
     fn cabinets(&mut self, n: u8) -> Option<()> {
-        let mut line = Line::new(b"cabinets ");
-        line.number(u32::from(n));
-        self.line(line)
+        self.words(b"cabinets ", &[u32::from(n)])
     }
 
     fn messages(&mut self, waiting: u32) -> Option<()> {
-        let mut line = Line::new(b"messages ");
-        line.number(waiting);
-        self.line(line)
+        self.words(b"messages ", &[waiting])
     }
 
     /// "number, status, coordinator, group, task, counter, count of members"
     fn node(&mut self, k: u8, node: &Node) -> Option<()> {
-        let mut line = Line::new(b"");
-        line.number(u32::from(k) + 1);
-        line.space();
-        line.number(u32::from(node.state & STATUS) / u32::from(ROWS));
-        line.space();
-        line.number(if node.group == 0 { 0 } else { (node.group & 15) + 1 });
-        line.space();
-        line.number(node.group);
-        line.space();
-        line.number(u32::from(node.task));
-        line.space();
-        line.number(node.counter);
-        line.space();
-        line.number(node.members.count_ones());
-        self.line(line)
+        let numbers = [
+            u32::from(k) + 1,
+            u32::from(node.state & STATUS) / u32::from(ROWS),
+            if node.group == 0 { 0 } else { (node.group & 15) + 1 },
+            node.group,
+            u32::from(node.task),
+            node.counter,
+            node.members.count_ones(),
+        ];
+        self.words(b"", &numbers)
     }
 
-    fn line(&mut self, mut line: Line) -> Option<()> {
-        line.byte(b'\n');
+    /// A line of a word and numbers. "single spaces part the fields ... and 0x0A ends each line"
+    #[inline(always)]
+    fn words(&mut self, word: &[u8], numbers: &[u32]) -> Option<()> {
+        let mut line = Line { bytes: [0; ROOM], length: word.len() };
+        line.bytes[..word.len()].copy_from_slice(word);
+        for &number in numbers {
+            line.number(number);
+            line.byte(b' ');
+        }
+        line.bytes[(line.length - 1) & (ROOM - 1)] = b'\n';
         let end = self.at + line.length;
         self.out.get_mut(self.at..end)?.copy_from_slice(&line.bytes[..line.length]);
         self.at = end;
@@ -857,21 +848,9 @@ struct Line {
 
 impl Line {
     #[inline(always)]
-    fn new(words: &[u8]) -> Line {
-        let mut bytes = [0; ROOM];
-        bytes[..words.len()].copy_from_slice(words);
-        Line { bytes, length: words.len() }
-    }
-
-    #[inline(always)]
     fn byte(&mut self, byte: u8) {
         self.bytes[self.length & (ROOM - 1)] = byte;
         self.length += 1;
-    }
-
-    #[inline(always)]
-    fn space(&mut self) {
-        self.byte(b' ');
     }
 
     /// A number of at most eight digits, two at a time from the last on.

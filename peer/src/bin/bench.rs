@@ -7,6 +7,7 @@
 //! The last line is `N passed, M failed`, where each list on which all answer the same passes.
 
 use peer::drive::{full_run, Manner, FULL, QUIET, REFUSED};
+use peer::ending::ended;
 use peer::list::{read_list, write_list, MAX_LIST};
 use peer::machine::Event;
 use peer::numbers::Numbers;
@@ -35,21 +36,8 @@ fn main() -> ExitCode {
         [rounds] => rounds.parse().ok().filter(|&rounds| rounds > 0),
         _ => None,
     };
-    let Some(rounds) = rounds else {
-        eprintln!("bench [ROUNDS]");
-        return ExitCode::from(2);
-    };
-    match Proved::linked() {
-        Ok(library) => {
-            let (passed, failed) = bench(&library, rounds);
-            println!("{passed} passed, {failed} failed");
-            ExitCode::from(u8::from(failed > 0))
-        }
-        Err(words) => {
-            eprintln!("{words}");
-            ExitCode::from(2)
-        }
-    }
+    let rounds = rounds.ok_or("bench [ROUNDS]".to_string());
+    ended(rounds.and_then(|rounds| Ok(bench(&Proved::linked()?, rounds))))
 }
 
 /// A list of the benchmark, with the name of its kind.
@@ -60,7 +48,7 @@ struct Case {
     list: Vec<u8>,
 }
 
-fn bench(library: &impl Library, rounds: usize) -> (u32, u32) {
+fn bench(library: &impl Library, rounds: usize) -> (u64, u64) {
     let (mut passed, mut failed) = (0, 0);
     let mut out = vec![0; 1 << 20];
     let mut cases = Vec::new();

@@ -4,42 +4,24 @@
 //! read.
 
 use peer::compare::walk_difference;
+use peer::ending::{counted, ended};
 use peer::machine::step;
 use peer::proved::{Library, Proved};
 use peer::vectors::{read_steps, table_text, StepCase};
 use std::process::ExitCode;
 
 fn main() -> ExitCode {
+    ended(run())
+}
+
+fn run() -> Result<(u64, u64), String> {
     let arguments: Vec<String> = std::env::args().skip(1).collect();
     let [file] = arguments.as_slice() else {
-        eprintln!("check-steps FILE");
-        return ExitCode::from(2);
+        return Err("check-steps FILE".to_string());
     };
-    let read = Proved::linked().and_then(|library| {
-        let text = std::fs::read_to_string(file).map_err(|e| format!("{file}: {e}"))?;
-        let cases = read_steps(&text)?;
-        if cases.is_empty() {
-            return Err(format!("{file}: no cases"));
-        }
-        Ok((library, cases))
-    });
-    match read {
-        Ok((library, cases)) => {
-            let mut failed = 0;
-            for case in &cases {
-                if let Some(words) = difference(&library, case) {
-                    failed += 1;
-                    println!("{words}");
-                }
-            }
-            println!("{} passed, {failed} failed", cases.len() - failed);
-            ExitCode::from(u8::from(failed > 0))
-        }
-        Err(words) => {
-            eprintln!("{words}");
-            ExitCode::from(2)
-        }
-    }
+    let library = Proved::linked()?;
+    let text = std::fs::read_to_string(file).map_err(|e| format!("{file}: {e}"))?;
+    counted(&read_steps(&text)?, |case| difference(&library, case))
 }
 
 /// The case on this program's machine; then through the library's step, on a table with zeros in what is no
