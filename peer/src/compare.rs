@@ -3,20 +3,95 @@
 
 use crate::corners::{Before, Corners, Source};
 use crate::history::Checker;
-use crate::list::{read_list, write_event, write_list};
+use crate::list::{first_event, read_list, write_event, write_list};
 use crate::machine::{step, Event, Node, Table, MAX_NODES};
+use crate::numbers::Numbers;
 use crate::print::run_list;
 use crate::proved::{
-    fitting, fold, same_table, table_from_bytes, table_to_bytes, Library, TABLE_BYTES,
+    fill_unused, fitting, fold, same_table, table_from_bytes, table_to_bytes, Library, TableBytes,
+    TABLE_BYTES, TOO_SHORT,
 };
 use crate::shortest::shortest;
+use crate::tuned;
 use crate::vectors::table_text;
 use std::fmt::Write;
 
-/// What stands in a buffer before a text is printed into it.
-const UNTOUCHED: u8 = 0xa5;
-/// How many bytes behind a text are looked at.
+/// How many bytes behind a text or a table are looked at.
 const BEHIND: usize = 64;
+
+/// A buffer that is lent to a library with random bytes in it, and what it held before.
+pub struct Lent {
+    before: Vec<u8>,
+    now: Vec<u8>,
+}
+
+impl Lent {
+    pub fn new(room: usize, numbers: &mut Numbers) -> Lent {
+        let mut before = vec![0; room];
+        numbers.fill(&mut before);
+        Lent { now: before.clone(), before }
+    }
+
+    /// A buffer that is a little longer than a table.
+    fn for_table(numbers: &mut Numbers) -> Lent {
+        Lent::new(TABLE_BYTES + BEHIND, numbers)
+    }
+
+    /// Other random bytes.
+    fn renew(&mut self, numbers: &mut Numbers) {
+        numbers.fill(&mut self.before);
+        self.now.copy_from_slice(&self.before);
+    }
+
+    /// The first byte from a place on that is not as it was.
+    fn changed(&self, from: usize) -> Option<usize> {
+        if self.now[from..] == self.before[from..] {
+            return None;
+        }
+        (from..self.now.len()).find(|&place| self.now[place] != self.before[place])
+    }
+
+    fn table(&self) -> Option<&TableBytes> {
+        self.now.first_chunk()
+    }
+
+    /// Lends the buffer to a library's step and gives in words what is not as it must be: the answer, the
+    /// table after an accepted event, and all else in the buffer. An expected error is the answer.
+    pub fn step_difference(
+        &mut self,
+        library: &impl Library,
+        table: &[u8],
+        field: &[u8],
+        expected: Result<&Table, u8>,
+    ) -> Option<String> {
+        let answer = library.step(table, field, &mut self.now);
+        self.judge(answer, expected)
+    }
+
+    /// The same for a call that was made.
+    fn judge(&self, answer: u8, expected: Result<&Table, u8>) -> Option<String> {
+        let number = expected.err().unwrap_or(0);
+        if answer != number {
+            return Some(format!("{}, {} here", answer_words(answer), answer_words(number)));
+        }
+        match (expected, self.table()) {
+            (Ok(table), Some(after)) => {
+                let mut bytes = [0; TABLE_BYTES];
+                table_to_bytes(table, &mut bytes);
+                if !same_table(after, &bytes) {
+                    let words = two_tables(&table_from_bytes(after), table);
+                    return Some(format!("another table\n{words}"));
+                }
+                let place = self.changed(TABLE_BYTES)?;
+                Some(format!("byte {place} of the buffer, behind the table, has changed"))
+            }
+            _ => {
+                let place = self.changed(0)?;
+                Some(format!("{}: byte {place} of the buffer has changed", answer_words(answer)))
+            }
+        }
+    }
+}
 
 /// Where in a run a difference showed, and what it is.
 #[derive(Clone, Debug)]
@@ -27,8 +102,8 @@ pub struct Difference {
 }
 
 /// Runs the events from the starting table of n through the library's step, each on the table that it
-/// gave before, and compares answer and table with this program's. Demand 3 and the range are checked
-/// on each of the library's tables. The events are counted in the corners.
+/// gave before, and compares answer, table and buffer with this program's. Demand 3 and the range are
+/// checked on each of the library's tables. The events are counted in the corners.
 pub fn run_difference(
     library: &impl Library,
     n: u8,
@@ -38,33 +113,34 @@ pub fn run_difference(
     let mut checker = Checker::new(n);
     let mut bytes = [0; TABLE_BYTES];
     table_to_bytes(&Table::start(n), &mut bytes);
-    let (mut out, mut expected) = ([0; TABLE_BYTES], [0; TABLE_BYTES]);
+    let mut numbers = Numbers::new(u64::from(n));
+    let mut lent = Lent::for_table(&mut numbers);
     let mut field = Vec::with_capacity(8);
     for (k, event) in events.iter().enumerate() {
-        let fault = |words: String| Some(Difference { events: k + 1, words });
+        let fault = |words: String| {
+            Some(Difference { events: k + 1, words: format!("{} {words}", at(k, event)) })
+        };
         field.clear();
         write_event(&mut field, event);
-        let answer = library.step(&bytes, &field, &mut out);
+        let answer = library.step(&bytes, &field, &mut lent.now);
         let before = Before::of(checker.history().table(), event);
-        let table = table_from_bytes(&out);
-        let entry = match checker.check(event, &table) {
+        if answer == 0 {
+            bytes = *lent.table()?;
+        }
+        let entry = match checker.check(event, &table_from_bytes(&bytes)) {
             Ok(entry) => entry,
-            Err(words) => return fault(format!("{} {words}", at(k, event))),
+            Err(words) => return fault(words),
         };
         let own = checker.history().table();
-        if answer != entry.answer.err().unwrap_or(0) {
-            let own = answer_words(entry.answer.err().unwrap_or(0));
-            return fault(format!("{} {}, {own} here", at(k, event), answer_words(answer)));
-        }
-        table_to_bytes(own, &mut expected);
-        if !same_table(&out, &expected) {
-            let words = two_tables(&table, own);
-            return fault(format!("{} another table\n{words}", at(k, event)));
+        if let Some(words) = lent.judge(answer, entry.answer.map(|()| own)) {
+            return fault(words);
         }
         if let Some(corners) = &mut corners {
             corners.event(Source::Run, &before, event, entry.answer, own);
         }
-        std::mem::swap(&mut bytes, &mut out);
+        if answer == 0 {
+            lent.renew(&mut numbers);
+        }
     }
     None
 }
@@ -76,6 +152,7 @@ fn at(k: usize, event: &Event) -> String {
 fn answer_words(answer: u8) -> String {
     match answer {
         0 => "accepted".to_string(),
+        TOO_SHORT => format!("answered {TOO_SHORT}"),
         r => format!("refused {r}"),
     }
 }
@@ -90,38 +167,53 @@ fn two_tables(library: &Table, own: &Table) -> String {
     )
 }
 
-/// Prints and folds a list in both, and compares.
+/// Prints and folds a list, and compares: the library and this program's machine, and the program
+/// written for speed.
 pub fn list_difference(library: &impl Library, list: &[u8]) -> Option<String> {
     let text = run_list(list);
     printed_difference(library, list, &text, text.len() + BEHIND)
         .or_else(|| fold_difference(library, list))
 }
 
-/// Prints a list into a buffer of so many bytes and compares with the text: all of it, or refusal 15
-/// and its lines up to the first that does not fit. All else in the buffer must be as it was.
+/// Prints a list into buffers of so many bytes, by the library and by the program written for speed, and
+/// compares each with the text.
 pub fn printed_difference(
     library: &impl Library,
     list: &[u8],
     text: &[u8],
     room: usize,
 ) -> Option<String> {
-    let mut out = vec![UNTOUCHED; room];
-    let length = library.print(list, &mut out);
+    text_difference(|out| library.print(list, out), text, room).or_else(|| {
+        let words = text_difference(|out| tuned::print(list, out), text, room)?;
+        Some(format!("the program written for speed, {words}"))
+    })
+}
+
+/// Prints into a buffer of so many bytes with random ones in it, and compares with the text: all of it, or
+/// refusal 15 and its lines up to the first that does not fit. All else must be as it was.
+fn text_difference(
+    print: impl FnOnce(&mut [u8]) -> Option<usize>,
+    text: &[u8],
+    room: usize,
+) -> Option<String> {
+    let mut lent = Lent::new(room, &mut Numbers::new((room + text.len()) as u64));
+    let length = print(&mut lent.now);
     let written = fitting(text, room);
     let expected = (written == text.len()).then_some(written);
     if length != expected {
         return Some(format!(
             "into {room} bytes: printed length {length:?}, here {expected:?}\n{}",
-            two_texts(&out[..length.unwrap_or(0).min(room)], text)
+            two_texts(&lent.now[..length.unwrap_or(0).min(room)], text)
         ));
     }
-    if out[..written] != text[..written] {
-        return Some(format!("another text\n{}", two_texts(&out[..written], &text[..written])));
+    if lent.now[..written] != text[..written] {
+        return Some(format!(
+            "another text\n{}",
+            two_texts(&lent.now[..written], &text[..written])
+        ));
     }
-    if out[written..].iter().any(|&byte| byte != UNTOUCHED) {
-        return Some(format!("into {room} bytes: a byte behind the {written} printed has changed"));
-    }
-    None
+    let place = lent.changed(written)?;
+    Some(format!("into {room} bytes: byte {place}, behind the {written} printed, has changed"))
 }
 
 fn two_texts(library: &[u8], own: &[u8]) -> String {
@@ -138,44 +230,71 @@ fn fold_difference(library: &impl Library, list: &[u8]) -> Option<String> {
 }
 
 /// Events from any table, which may be out of range, through the library's step, each on the table
-/// that it gave before. The filler stands in the places that are no part of the first table.
+/// that it gave before. The noise is a seed: then random bytes stand in all places that are no part of
+/// the tables, also in what a message's kind does not carry.
 pub fn walk_difference(
     library: &impl Library,
     start: &Table,
     events: &[Event],
-    filler: u8,
+    noise: Option<u64>,
     mut corners: Option<&mut Corners>,
 ) -> Option<Difference> {
     let mut own = start.clone();
+    let mut numbers = Numbers::new(noise.unwrap_or(0));
     let mut bytes = [0; TABLE_BYTES];
     table_to_bytes(start, &mut bytes);
-    crate::proved::fill_unused(&mut bytes, || filler);
-    let (mut out, mut expected) = ([0; TABLE_BYTES], [0; TABLE_BYTES]);
+    let mut lent = Lent::for_table(&mut numbers);
     let mut field = Vec::with_capacity(8);
     for (k, event) in events.iter().enumerate() {
+        if noise.is_some() {
+            fill_unused(&mut bytes, || numbers.byte());
+        }
         field.clear();
         write_event(&mut field, event);
-        let answer = library.step(&bytes, &field, &mut out);
         let before = Before::of(&own, event);
-        let expected_answer = step(&mut own, event);
-        let number = expected_answer.err().unwrap_or(0);
-        table_to_bytes(&own, &mut expected);
-        if answer != number || !same_table(&out, &expected) {
-            let words = format!(
-                "{} {}, {} here\n{}",
-                at(k, event),
-                answer_words(answer),
-                answer_words(number),
-                two_tables(&table_from_bytes(&out), &own)
-            );
-            return Some(Difference { events: k + 1, words });
+        let answer = step(&mut own, event);
+        if let Some(words) = lent.step_difference(library, &bytes, &field, answer.map(|()| &own)) {
+            return Some(Difference { events: k + 1, words: format!("{} {words}", at(k, event)) });
         }
         if let Some(corners) = &mut corners {
-            corners.event(Source::Table, &before, event, expected_answer, &own);
+            corners.event(Source::Table, &before, event, answer, &own);
         }
-        std::mem::swap(&mut bytes, &mut out);
+        if answer.is_ok() {
+            bytes = *lent.table()?;
+            lent.renew(&mut numbers);
+        }
     }
     None
+}
+
+/// Any bytes as a field, on any table, into a buffer of so many bytes. Document 01 puts ground 1 above
+/// those of a field; where both apply either answer passes.
+pub fn field_difference(
+    library: &impl Library,
+    table: &Table,
+    field: &[u8],
+    room: usize,
+    noise: u64,
+) -> Option<String> {
+    let mut numbers = Numbers::new(noise);
+    let mut bytes = [0; TABLE_BYTES];
+    table_to_bytes(table, &mut bytes);
+    fill_unused(&mut bytes, || numbers.byte());
+    let mut lent = Lent::new(room, &mut numbers);
+    let answer = library.step(&bytes, field, &mut lent.now);
+    let mut own = table.clone();
+    let expected = match first_event(field) {
+        _ if room < TABLE_BYTES => Err(TOO_SHORT),
+        Err(_) if answer == 1 && !table.in_range() => Err(1),
+        Err(number) => Err(number),
+        Ok(event) => step(&mut own, &event),
+    };
+    let words = lent.judge(answer, expected.map(|()| &own))?;
+    Some(format!(
+        "field {field:02x?} into {room} bytes: {words}\non a table, n {}:\n{}",
+        table.n,
+        table_text(table)
+    ))
 }
 
 /// The shortest run found that still shows a difference, by its step, its text or its count.
@@ -287,9 +406,14 @@ pub fn event_words(event: &Event) -> String {
 }
 
 /// A walk's difference in words: the events shortened, and the table with fewer messages and nodes.
-pub fn tell_walk(library: &impl Library, start: &Table, events: &[Event], filler: u8) -> String {
+pub fn tell_walk(
+    library: &impl Library,
+    start: &Table,
+    events: &[Event],
+    noise: Option<u64>,
+) -> String {
     let found =
-        |start: &Table, events: &[Event]| walk_difference(library, start, events, filler, None);
+        |start: &Table, events: &[Event]| walk_difference(library, start, events, noise, None);
     let events = shortest(events.to_vec(), |events| found(start, events).is_some());
     let mut start = start.clone();
     start.messages = shortest(start.messages.clone(), |messages| {

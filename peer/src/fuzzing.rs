@@ -2,17 +2,17 @@
 //! tables, the same ones for the same seed, and counts what they met.
 
 use crate::compare::{
-    list_difference, printed_difference, run_difference, tell_list, tell_run, tell_walk,
-    walk_difference,
+    field_difference, list_difference, printed_difference, run_difference, tell_list, tell_run,
+    tell_walk, walk_difference,
 };
 use crate::corners::Corners;
 use crate::damage::{damage, no_event};
 use crate::drive::{any_event, any_manner, pick, run};
-use crate::list::{read_list, write_list, MAX_LIST};
+use crate::list::{first_event, read_list, write_event, write_list, MAX_LIST};
 use crate::machine::{step, Event, Table, MAX_NODES};
 use crate::numbers::Numbers;
 use crate::print::run_list;
-use crate::proved::{one_event, table_to_bytes, Library, NO_EVENT, TABLE_BYTES};
+use crate::proved::{Library, TABLE_BYTES};
 use crate::tables::{in_range, move_to_ends, scramble, spoil};
 use std::time::{Duration, Instant};
 
@@ -78,8 +78,8 @@ impl<L: Library> Fuzz<L> {
         self.seconds = start.elapsed().as_secs_f64();
     }
 
-    /// Prints the counts and gives how many comparisons failed.
-    pub fn tell(&mut self) -> u64 {
+    /// Prints the counts and gives how many comparisons passed and how many failed.
+    pub fn tell(&mut self) -> (u64, u64) {
         print!("{}", self.corners.text());
         for words in self.corners.impossible() {
             self.failed += 1;
@@ -94,8 +94,7 @@ impl<L: Library> Fuzz<L> {
             self.seconds,
             events as f64 / self.seconds
         );
-        println!("{} passed, {} failed", self.passed, self.failed);
-        self.failed
+        (self.passed, self.failed)
     }
 
     fn difference(&mut self, words: String) {
@@ -242,14 +241,15 @@ impl<L: Library> Fuzz<L> {
             _ => 12,
         };
         let events = self.events(&table, most);
-        let filler = self.numbers.byte();
+        // In most cases random bytes stand in what is no part of the tables.
+        let noise = self.numbers.next();
+        let noise = (!self.numbers.one_in(4)).then_some(noise);
         self.tables += 1;
         self.table_events += events.len() as u64;
-        let found =
-            walk_difference(&self.library, &table, &events, filler, Some(&mut self.corners));
+        let found = walk_difference(&self.library, &table, &events, noise, Some(&mut self.corners));
         if let Some(found) = found {
             self.passed += found.events as u64 - 1;
-            let words = tell_walk(&self.library, &table, &events, filler);
+            let words = tell_walk(&self.library, &table, &events, noise);
             return self.difference(words);
         }
         self.passed += events.len() as u64;
@@ -272,23 +272,34 @@ impl<L: Library> Fuzz<L> {
             .collect()
     }
 
-    /// A field that is no event, or too little room for the table.
+    /// A field that is no event, or has bytes behind it, on any table, or too little room for the table.
     fn field(&mut self) {
         self.fields += 1;
-        let table = in_range(&mut self.numbers);
-        let mut bytes = [0; TABLE_BYTES];
-        table_to_bytes(&table, &mut bytes);
-        let field = no_event(&mut self.numbers);
-        let mut out = [0; TABLE_BYTES];
-        let room = match self.numbers.below(4) {
+        let mut table = in_range(&mut self.numbers);
+        if self.numbers.one_in(8) {
+            spoil(&mut table, &mut self.numbers);
+        }
+        let mut field = no_event(&mut self.numbers);
+        if self.numbers.one_in(4) {
+            field.clear();
+            write_event(&mut field, &any_event(table.n, &mut self.numbers));
+        }
+        if self.numbers.one_in(3) {
+            let mut behind = vec![0; self.numbers.place(40)];
+            self.numbers.fill(&mut behind);
+            field.extend(behind);
+        }
+        let room = match self.numbers.below(8) {
             0 => self.numbers.place(TABLE_BYTES),
             1 => TABLE_BYTES - 1,
-            _ => TABLE_BYTES,
+            2 => TABLE_BYTES,
+            _ => TABLE_BYTES + self.numbers.place(100),
         };
-        let answer = self.library.step(&bytes, &field, &mut out[..room]);
-        let none = one_event(&field).is_none() || room < TABLE_BYTES;
-        if none != (answer == NO_EVENT) {
-            let words = format!("field {field:02x?} into {room} bytes: answer {answer}");
+        if let (Err(number), true) = (first_event(&field), room >= TABLE_BYTES) {
+            self.corners.refusal(number);
+        }
+        let noise = self.numbers.next();
+        if let Some(words) = field_difference(&self.library, &table, &field, room, noise) {
             return self.difference(words);
         }
         self.passed += 1;

@@ -92,6 +92,12 @@ fn read_event(field: &Field) -> Result<Event, u8> {
     }
 }
 
+/// The event of the first field of some bytes, or refusal 3, 4 or 5. What stands behind that field is
+/// not looked at.
+pub fn first_event(bytes: &[u8]) -> Result<Event, u8> {
+    read_event(&read_field(bytes, 0).map_err(|stop| stop.number)?)
+}
+
 /// Adds the field of an event to a list.
 pub fn write_event(list: &mut Vec<u8>, event: &Event) {
     match *event {

@@ -36,6 +36,13 @@ impl Numbers {
         self.next() as u8
     }
 
+    /// Puts random bytes everywhere.
+    pub fn fill(&mut self, bytes: &mut [u8]) {
+        for part in bytes.chunks_mut(8) {
+            part.copy_from_slice(&self.next().to_le_bytes()[..part.len()]);
+        }
+    }
+
     /// True once in so many times.
     pub fn one_in(&mut self, times: u32) -> bool {
         self.below(times) == 0

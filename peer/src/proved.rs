@@ -1,7 +1,7 @@
 //! The boundary of the proved library: a table in bytes, and the library's functions behind safe
 //! ones. `Own` is this program's own machine behind the same boundary.
 
-use crate::list::read_list;
+use crate::list::{first_event, read_list};
 use crate::machine::{
     self, Activity, Body, Event, Message, Node, Status, Table, MAX_MESSAGES, MAX_NODES,
 };
@@ -17,17 +17,21 @@ pub const TABLE_BYTES: usize = WAITING_AT + 1;
 /// A table in bytes, numbers high byte first: n, 16 nodes, 64 messages, how many of them wait.
 pub type TableBytes = [u8; TABLE_BYTES];
 
-/// The answer when the field is no event or there is no room for the table.
-pub const NO_EVENT: u8 = 255;
+/// The answer when there is no room for the table.
+pub const TOO_SHORT: u8 = 255;
 
 /// What the library does: the proved one, this program's own, or a wrong one in the tests.
 pub trait Library {
-    /// Prints a list's text at the start of out and gives its length; None when it does not fit.
+    /// Prints a list's text at the start of out and gives its length; None when it does not fit, and
+    /// then the lines that fit are there. All else in out stays as it was.
     fn print(&self, list: &[u8], out: &mut [u8]) -> Option<usize>;
 
-    /// One event, as a field of a list, on a table: 0 accepted, or the refusal's number, or
-    /// NO_EVENT. The table after it is written to out.
-    fn step(&self, table: &TableBytes, field: &[u8], out: &mut [u8]) -> u8;
+    /// One event, as a field of a list, on a table: zeros are read behind the end of a table that is cut
+    /// short, and what is longer is not looked at. Accepted is 0, and out begins with the table after
+    /// it. A refusal is its number, and out stays as it was: 3, 4 or 5 where the field is none; what
+    /// stands behind the first field is not looked at. TOO_SHORT, which comes first, is for an out
+    /// shorter than a table, and out stays as it was.
+    fn step(&self, table: &[u8], field: &[u8], out: &mut [u8]) -> u8;
 
     /// Every event of a list by the step with the range check: how many were accepted.
     fn fold(&self, list: &[u8]) -> u32;
@@ -105,7 +109,7 @@ impl Library for Proved {
         }
     }
 
-    fn step(&self, table: &TableBytes, field: &[u8], out: &mut [u8]) -> u8 {
+    fn step(&self, table: &[u8], field: &[u8], out: &mut [u8]) -> u8 {
         // Safety: as above.
         unsafe {
             linked::nevraspu_step(
@@ -136,17 +140,8 @@ impl Library for Own {
         (length == text.len()).then_some(length)
     }
 
-    fn step(&self, table: &TableBytes, field: &[u8], out: &mut [u8]) -> u8 {
-        let Some(out) = out.first_chunk_mut::<TABLE_BYTES>() else {
-            return NO_EVENT;
-        };
-        let Some(event) = one_event(field) else {
-            return NO_EVENT;
-        };
-        let mut table = table_from_bytes(table);
-        let answer = machine::step(&mut table, &event);
-        table_to_bytes(&table, out);
-        answer.err().unwrap_or(0)
+    fn step(&self, table: &[u8], field: &[u8], out: &mut [u8]) -> u8 {
+        step_by(machine::step, table, field, out)
     }
 
     fn fold(&self, list: &[u8]) -> u32 {
@@ -154,12 +149,26 @@ impl Library for Own {
     }
 }
 
-/// The event of a field, if it is one.
-pub fn one_event(field: &[u8]) -> Option<Event> {
-    let list = read_list(&[&[0x01, 0, 1, MAX_NODES], field].concat()).ok()?;
-    match (list.events.as_slice(), list.stop) {
-        (&[event], None) => Some(event),
-        _ => None,
+/// The library's step by any machine, which is to answer 1 on a table that is not in range.
+pub fn step_by(
+    machine: impl Fn(&mut Table, &Event) -> Result<(), u8>,
+    table: &[u8],
+    field: &[u8],
+    out: &mut [u8],
+) -> u8 {
+    let Some(out) = out.first_chunk_mut() else {
+        return TOO_SHORT;
+    };
+    let mut bytes = [0; TABLE_BYTES];
+    let length = table.len().min(TABLE_BYTES);
+    bytes[..length].copy_from_slice(&table[..length]);
+    let mut table = table_from_bytes(&bytes);
+    match first_event(field).and_then(|event| machine(&mut table, &event)) {
+        Ok(()) => {
+            table_to_bytes(&table, out);
+            0
+        }
+        Err(number) => number,
     }
 }
 
@@ -217,20 +226,39 @@ pub fn table_from_bytes(bytes: &TableBytes) -> Table {
     table
 }
 
-/// Whether the bytes are the same in all that is part of the table.
+/// Whether the bytes are the same in all that is part of the table. What a message's kind does not
+/// carry is no part of it.
 pub fn same_table(a: &TableBytes, b: &TableBytes) -> bool {
     let (nodes, messages) = parts(a);
+    let message = |bytes: &[u8]| message_from_bytes(bytes.try_into().expect("a message's place"));
+    let (ours, theirs) = (&a[MESSAGES_AT..messages], &b[MESSAGES_AT..messages]);
     a[0] == b[0]
         && a[WAITING_AT] == b[WAITING_AT]
         && a[NODES_AT..nodes] == b[NODES_AT..nodes]
-        && a[MESSAGES_AT..messages] == b[MESSAGES_AT..messages]
+        && ours
+            .chunks_exact(MESSAGE_BYTES)
+            .zip(theirs.chunks_exact(MESSAGE_BYTES))
+            .all(|(ours, theirs)| message(ours) == message(theirs))
 }
 
-/// Puts something into every place that is no part of the table.
+/// Puts something into every place that is no part of the table: behind the nodes and the messages, and
+/// what a message's kind does not carry.
 pub fn fill_unused(bytes: &mut TableBytes, mut filler: impl FnMut() -> u8) {
     let (nodes, messages) = parts(bytes);
     bytes[nodes..MESSAGES_AT].fill_with(&mut filler);
     bytes[messages..WAITING_AT].fill_with(&mut filler);
+    for message in bytes[MESSAGES_AT..messages].chunks_exact_mut(MESSAGE_BYTES) {
+        let kind = message[2];
+        if matches!(kind, 1 | 6) {
+            message[7..11].fill_with(&mut filler);
+        }
+        if kind != 5 {
+            message[11..13].fill_with(&mut filler);
+        }
+        if kind != 6 {
+            message[13] = filler();
+        }
+    }
 }
 
 /// Where the nodes and the messages of a table end.

@@ -1,6 +1,6 @@
 //! A table in bytes and back, and this program's own machine behind the library's boundary.
 
-use peer::list::write_event;
+use peer::list::{first_event, write_event};
 use peer::machine::*;
 use peer::numbers::Numbers;
 use peer::proved::*;
@@ -130,15 +130,23 @@ fn tables_come_back() {
 #[test]
 fn what_is_part_of_a_table_is_compared() {
     let mut numbers = Numbers::new(2);
-    let table = in_range(&mut numbers);
+    let mut table = in_range(&mut numbers);
+    while table.messages.len() < 20 || table.n == MAX_NODES {
+        table = in_range(&mut numbers);
+    }
     let bytes = bytes_of(&table);
     let n = usize::from(table.n);
     let waiting = table.messages.len();
     for place in 0..TABLE_BYTES {
         let mut other = bytes;
         other[place] ^= 1;
+        // What each kind carries behind its call number: group, task, yes.
+        let carried = |at: usize| match (bytes[465 + at / 14 * 14 + 2], at % 14) {
+            (1, 7..) | (2..=4, 11..) | (5, 13) | (6, 7..=12) => false,
+            _ => true,
+        };
         let part = place < 1 + 29 * n
-            || (465..465 + 14 * waiting).contains(&place)
+            || (465..465 + 14 * waiting).contains(&place) && carried(place - 465)
             || place == TABLE_BYTES - 1;
         assert_eq!(same_table(&bytes, &other), !part, "{place}");
     }
@@ -153,13 +161,11 @@ fn own_machine_behind_the_boundary() {
         let event = peer::drive::any_event(table.n, &mut numbers);
         let mut field = Vec::new();
         write_event(&mut field, &event);
-        assert_eq!(one_event(&field), Some(event));
+        assert_eq!(first_event(&field), Ok(event));
         let mut out = [0; TABLE_BYTES];
         let answer = Own.step(&bytes, &field, &mut out);
         assert_eq!(answer, step(&mut table, &event).err().unwrap_or(0));
-        assert_eq!(out, bytes_of(&table));
-        assert_eq!(Own.step(&bytes, &field, &mut out[1..]), NO_EVENT);
-        assert_eq!(Own.step(&bytes, &field[..2], &mut out), NO_EVENT);
+        assert_eq!(out, if answer == 0 { bytes_of(&table) } else { [0; TABLE_BYTES] });
     }
 }
 
@@ -190,5 +196,5 @@ fn n_and_waiting_out_of_range_come_back() {
     assert_eq!(same.messages[..64], table.messages[..64]);
     let mut out = [0; TABLE_BYTES];
     assert_eq!(Own.step(&bytes, &[0x10, 0, 1, 1], &mut out), 1);
-    assert!(same_table(&bytes, &out));
+    assert_eq!(out, [0; TABLE_BYTES]);
 }

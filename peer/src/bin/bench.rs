@@ -1,25 +1,31 @@
-//! bench [ROUNDS]: times the proved library against this program's machine on the same lists, in one
-//! process: printing a list, and folding its events by the step with the range check. Prints events a
-//! second and the ratio proved/peer (the peer's time over the library's; 1.0 is as fast), then the
-//! time against the length of the list, and last `N passed, M failed`, where each list on which both
-//! answer the same passes.
+//! bench [ROUNDS]: times the proved library against this program's machine and against the program
+//! written for speed (`tuned`), in one process, in turn, on the same lists. Prints three tables: the
+//! time against the length of the list; folding the events by the step with the range check, against
+//! the machine alone; and last printing the list, against both. Times are nanoseconds of the
+//! processor's time an event, the median of the rounds. A ratio is the other's time over the
+//! library's, so 1.0 is as fast and 0.5 takes twice its time: median (least to most) of the rounds.
+//! The last line is `N passed, M failed`, where each list on which all answer the same passes.
 
 use peer::drive::{full_run, Manner, FULL, QUIET, REFUSED};
+use peer::ending::ended;
 use peer::list::{read_list, write_list, MAX_LIST};
 use peer::machine::Event;
 use peer::numbers::Numbers;
 use peer::print::run_list;
 use peer::proved::{fold, Library, Proved};
+use peer::tuned;
 use std::hint::black_box;
 use std::process::ExitCode;
 use std::time::{Duration, Instant};
 
 const ROUNDS: usize = 9;
 /// How long a round takes.
-const ROUND: Duration = Duration::from_millis(120);
+const ROUND: Duration = Duration::from_millis(100);
 
-/// The lists of the second part are as long as this, or a few bytes shorter.
-const LENGTHS: [usize; 7] = [1024, 2048, 4096, 8192, 16_384, 32_768, MAX_LIST];
+/// The lists of the first part are as long as this, or a few bytes shorter.
+const LENGTHS: [usize; 4] = [1024, 4096, 16_384, MAX_LIST];
+/// A round of them takes less.
+const SHORT_ROUND: Duration = Duration::from_millis(15);
 
 const MANNERS: [(&str, &Manner); 3] = [("quiet", &QUIET), ("busy", &FULL), ("refused", &REFUSED)];
 
@@ -30,32 +36,22 @@ fn main() -> ExitCode {
         [rounds] => rounds.parse().ok().filter(|&rounds| rounds > 0),
         _ => None,
     };
-    let Some(rounds) = rounds else {
-        eprintln!("bench [ROUNDS]");
-        return ExitCode::from(2);
-    };
-    match Proved::linked() {
-        Ok(library) => {
-            let (passed, failed) = bench(&library, rounds);
-            println!("{passed} passed, {failed} failed");
-            ExitCode::from(u8::from(failed > 0))
-        }
-        Err(words) => {
-            eprintln!("{words}");
-            ExitCode::from(2)
-        }
-    }
+    let rounds = rounds.ok_or("bench [ROUNDS]".to_string());
+    ended(rounds.and_then(|rounds| Ok(bench(&Proved::linked()?, rounds))))
 }
 
-fn bench(library: &impl Library, rounds: usize) -> (u32, u32) {
+/// A list of the benchmark, with the name of its kind.
+struct Case {
+    n: u8,
+    name: &'static str,
+    events: Vec<Event>,
+    list: Vec<u8>,
+}
+
+fn bench(library: &impl Library, rounds: usize) -> (u64, u64) {
     let (mut passed, mut failed) = (0, 0);
     let mut out = vec![0; 1 << 20];
-    println!("full lists, {rounds} rounds; million events a second, ratio: median (least to most)");
-    println!(
-        "{:<6} {:<3} {:<8} {:>6} {:>8} {:>8}  ratio",
-        "", "n", "list", "events", "proved", "peer"
-    );
-    let mut long = Vec::new();
+    let mut cases = Vec::new();
     for n in [2, 5, 16] {
         for (name, manner) in MANNERS {
             let events = full_run(n, manner, &mut Numbers::new(u64::from(n)));
@@ -66,98 +62,116 @@ fn bench(library: &impl Library, rounds: usize) -> (u32, u32) {
                 failed += 1;
                 println!("n {n}, {name}: the answers differ");
             }
-            for what in ["print", "fold"] {
-                let pair = rival(library, what, &list, &mut out, rounds);
-                println!(
-                    "{what:<6} {n:<3} {name:<8} {:>6} {:>8.2} {:>8.2}  {}",
-                    events.len(),
-                    events.len() as f64 / pair.proved() * 1e-6,
-                    events.len() as f64 / pair.peer() * 1e-6,
-                    pair.ratio_words()
-                );
-            }
-            long.push((n, name, events));
+            cases.push(Case { n, name, events, list });
         }
     }
-    println!("time against length; nanoseconds an event");
-    println!(
-        "{:<6} {:<3} {:<8} {:>6} {:>6} {:>8} {:>8}  ratio",
-        "", "n", "list", "bytes", "events", "proved", "peer"
-    );
     // In the refused lists more messages wait as the list goes on, so they tell less here.
-    let even = |n: u8, name: &str| name == "busy" || (name == "quiet" && n == 5);
-    for (n, name, events) in long.iter().filter(|(n, name, _)| even(*n, name)) {
-        for what in ["print", "fold"] {
-            let lists: Vec<Vec<u8>> = LENGTHS.iter().map(|&limit| cut(*n, events, limit)).collect();
-            for list in &lists {
-                if agree(library, list, &mut out) {
-                    passed += 1;
-                } else {
-                    failed += 1;
-                    println!("n {n}, {name}, {} bytes: the answers differ", list.len());
-                }
-            }
-            // The lengths take turns, so that a slow moment of the machine meets them all.
-            let mut least = vec![(f64::INFINITY, f64::INFINITY); lists.len()];
-            for _ in 0..3 * rounds {
-                for (list, (proved, peer)) in lists.iter().zip(&mut least) {
-                    let pass = both(library, what, list, &mut out);
-                    (*proved, *peer) = (proved.min(pass.0), peer.min(pass.1));
-                }
-            }
-            for (list, (proved, peer)) in lists.iter().zip(&least) {
-                let count = read_list(list).map_or(0, |list| list.events.len());
-                println!(
-                    "{what:<6} {n:<3} {name:<8} {:>6} {count:>6} {:>8.1} {:>8.1}  {:.2}",
-                    list.len(),
-                    proved / count as f64 * 1e9,
-                    peer / count as f64 * 1e9,
-                    peer / proved
-                );
+    let even = |case: &&Case| case.name == "busy" || (case.name == "quiet" && case.n == 5);
+    for case in cases.iter().filter(even) {
+        for limit in LENGTHS {
+            let list = cut(case, limit);
+            if agree(library, &list, &mut out) {
+                passed += 1;
+            } else {
+                failed += 1;
+                println!("n {}, {}, {limit} bytes: the answers differ", case.n, case.name);
             }
         }
+    }
+    println!("time of the proved library against the length of the list, {rounds} rounds\n");
+    println!("|  | n | list | {} bytes |", LENGTHS.map(|limit| limit.to_string()).join(" | "));
+    println!("|---|---|---|{}", "---|".repeat(LENGTHS.len()));
+    for case in cases.iter().filter(even) {
+        lengths(library, case, rounds, &mut out);
+    }
+    println!("\nfold, {rounds} rounds\n");
+    println!("| n | list | events | proved | peer | ratio to peer |");
+    println!("|---|---|---|---|---|---|");
+    for case in &cases {
+        let list = black_box(&case.list[..]);
+        let times =
+            race(rounds, ROUND, &mut [&mut || sum(library.fold(list)), &mut || sum(fold(list))]);
+        println!("{}", row(case, &times));
+    }
+    println!("\nprint, {rounds} rounds\n");
+    println!("| n | list | events | proved | peer | tuned | ratio to peer | ratio to tuned |");
+    println!("|---|---|---|---|---|---|---|---|");
+    let mut second = out.clone();
+    for case in &cases {
+        let list = black_box(&case.list[..]);
+        let times = race(
+            rounds,
+            ROUND,
+            &mut [
+                &mut || length(library.print(list, &mut out)),
+                &mut || run_list(list).len(),
+                &mut || length(tuned::print(list, &mut second)),
+            ],
+        );
+        println!("{}", row(case, &times));
     }
     (passed, failed)
 }
 
-/// The list of the first events, as many as fit.
-fn cut(n: u8, events: &[Event], limit: usize) -> Vec<u8> {
+fn sum(accepted: u32) -> usize {
+    accepted as usize
+}
+
+fn length(printed: Option<usize>) -> usize {
+    printed.unwrap_or(usize::MAX)
+}
+
+/// The library's times on the first events of a case.
+fn lengths(library: &impl Library, case: &Case, rounds: usize, out: &mut [u8]) {
+    let lists: Vec<Vec<u8>> = LENGTHS.iter().map(|&limit| cut(case, limit)).collect();
+    let mut rows = [String::new(), String::new()];
+    for list in &lists {
+        let list = black_box(&list[..]);
+        // So many passes at a time that the clock's own time is small.
+        let passes = MAX_LIST / list.len();
+        let events = read_list(list).map_or(0, |list| list.events.len());
+        let mut print = || (0..passes).map(|_| length(library.print(list, out))).max().unwrap_or(0);
+        let mut folds = || (0..passes).map(|_| sum(library.fold(list))).max().unwrap_or(0);
+        let times = race(rounds, SHORT_ROUND, &mut [&mut print, &mut folds]);
+        for (row, times) in rows.iter_mut().zip(&times) {
+            *row += &format!(" {:.1} |", median(times) / (events * passes) as f64 * 1e9);
+        }
+    }
+    for (what, row) in ["print", "fold"].iter().zip(rows) {
+        println!("| {what} | {} | {} |{row}", case.n, case.name);
+    }
+}
+
+/// The list of a case's first events, as many as fit.
+fn cut(case: &Case, limit: usize) -> Vec<u8> {
     let mut bytes = 4;
-    let fitting = events.iter().take_while(|event| {
+    let fitting = case.events.iter().take_while(|event| {
         bytes += peer::drive::field_bytes(event);
         bytes <= limit
     });
-    write_list(n, &fitting.copied().collect::<Vec<_>>())
+    write_list(case.n, &fitting.copied().collect::<Vec<_>>())
 }
 
 fn agree(library: &impl Library, list: &[u8], out: &mut [u8]) -> bool {
     let text = run_list(list);
-    library.print(list, out) == Some(text.len())
-        && out[..text.len()] == text
-        && library.fold(list) == fold(list)
+    let proved = library.print(list, out) == Some(text.len()) && out[..text.len()] == text;
+    let tuned = tuned::print(list, out) == Some(text.len()) && out[..text.len()] == text;
+    proved && tuned && library.fold(list) == fold(list)
 }
 
-/// Seconds for one pass over a list, the least of each round.
-struct Pair {
-    proved: Vec<f64>,
-    peer: Vec<f64>,
-}
-
-impl Pair {
-    fn proved(&self) -> f64 {
-        median(&self.proved)
+/// A row of a table: the times of all sides, the library's first, and the ratios of the others to it.
+fn row(case: &Case, times: &[Vec<f64>]) -> String {
+    let mut row = format!("| {} | {} | {} |", case.n, case.name, case.events.len());
+    for times in times {
+        row += &format!(" {:.1} |", median(times) / case.events.len() as f64 * 1e9);
     }
-
-    fn peer(&self) -> f64 {
-        median(&self.peer)
-    }
-
-    fn ratio_words(&self) -> String {
-        let ratios: Vec<f64> = self.peer.iter().zip(&self.proved).map(|(b, a)| b / a).collect();
+    for other in &times[1..] {
+        let ratios: Vec<f64> = other.iter().zip(&times[0]).map(|(b, a)| b / a).collect();
         let least = ratios.iter().copied().fold(f64::INFINITY, f64::min);
         let most = ratios.iter().copied().fold(0.0, f64::max);
-        format!("{:.2} ({least:.2} to {most:.2})", median(&ratios))
+        row += &format!(" {:.3} ({least:.3} to {most:.3}) |", median(&ratios));
     }
+    row
 }
 
 fn median(values: &[f64]) -> f64 {
@@ -166,38 +180,27 @@ fn median(values: &[f64]) -> f64 {
     sorted[sorted.len() / 2]
 }
 
-/// Times both sides, one pass of each in turn, and takes the least time of each in a round.
-fn rival(library: &impl Library, what: &str, list: &[u8], out: &mut [u8], rounds: usize) -> Pair {
-    let mut pair = Pair { proved: Vec::new(), peer: Vec::new() };
+/// Times some sides, one pass of each in turn. Gives the seconds for a pass of each side, the least of
+/// each round.
+fn race(rounds: usize, round: Duration, sides: &mut [&mut dyn FnMut() -> usize]) -> Vec<Vec<f64>> {
+    let mut times = vec![Vec::new(); sides.len()];
     for _ in 0..rounds {
-        let (mut proved, mut peer) = (f64::INFINITY, f64::INFINITY);
+        let mut least = vec![f64::INFINITY; sides.len()];
         let start = Instant::now();
-        while start.elapsed() < ROUND || proved == f64::INFINITY {
-            let pass = both(library, what, list, out);
-            (proved, peer) = (proved.min(pass.0), peer.min(pass.1));
+        let mut first = true;
+        while first || start.elapsed() < round {
+            first = false;
+            for (side, least) in sides.iter_mut().zip(&mut least) {
+                let start = processor_time();
+                black_box(side());
+                *least = least.min(processor_time() - start);
+            }
         }
-        pair.proved.push(proved);
-        pair.peer.push(peer);
+        for (times, least) in times.iter_mut().zip(least) {
+            times.push(least);
+        }
     }
-    pair
-}
-
-/// Seconds for one pass of each side.
-fn both(library: &impl Library, what: &str, list: &[u8], out: &mut [u8]) -> (f64, f64) {
-    if what == "print" {
-        (time(|| library.print(black_box(list), out)), time(|| run_list(black_box(list))))
-    } else {
-        (time(|| library.fold(black_box(list))), time(|| fold(black_box(list))))
-    }
-}
-
-/// Seconds of the processor's time for one pass.
-fn time<T>(pass: impl FnOnce() -> T) -> f64 {
-    let start = processor_time();
-    let answer = black_box(pass());
-    let seconds = processor_time() - start;
-    drop(answer);
-    seconds
+    times
 }
 
 /// How long this thread has run, in seconds. What other programs take is not in it.

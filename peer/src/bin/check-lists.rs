@@ -1,9 +1,10 @@
-//! check-lists DIR: runs each NAME.list of a directory through the proved library and through this
-//! program's machine, and compares both with each other and with NAME.txt where it is there. Prints
-//! each difference, and last `N passed, M failed`. The exit code is 1 if a list failed and 2 if
-//! the lists could not be read.
+//! check-lists DIR: runs each NAME.list of a directory through the proved library, through this
+//! program's machine and through the program written for speed, and compares them with each other and
+//! with NAME.txt where it is there. Prints each difference, and last `N passed, M failed`. The exit code
+//! is 1 if a list failed and 2 if the lists could not be read.
 
 use peer::compare::{list_difference, run_difference};
+use peer::ending::{counted, ended};
 use peer::list::read_list;
 use peer::print::run_list;
 use peer::proved::{Library, Proved};
@@ -12,41 +13,23 @@ use std::path::Path;
 use std::process::ExitCode;
 
 fn main() -> ExitCode {
-    let arguments: Vec<String> = std::env::args().skip(1).collect();
-    let [directory] = arguments.as_slice() else {
-        eprintln!("check-lists DIR");
-        return ExitCode::from(2);
-    };
-    let read = Proved::linked().and_then(|library| {
-        let cases = read_lists(Path::new(directory))?;
-        if cases.is_empty() {
-            return Err(format!("{directory}: no lists"));
-        }
-        Ok((library, cases))
-    });
-    match read {
-        Ok((library, cases)) => {
-            let mut failed = 0;
-            for case in &cases {
-                if let Some(words) = difference(&library, case) {
-                    failed += 1;
-                    println!("list {}: {words}", case.name);
-                }
-            }
-            let without = cases.iter().filter(|case| case.text.is_none()).count();
-            println!("{} lists, {without} of them without a text", cases.len());
-            println!("{} passed, {failed} failed", cases.len() - failed);
-            ExitCode::from(u8::from(failed > 0))
-        }
-        Err(words) => {
-            eprintln!("{words}");
-            ExitCode::from(2)
-        }
-    }
+    ended(run())
 }
 
-/// The text against this program's, the library's text and count against this program's, and every
-/// event through the library's step.
+fn run() -> Result<(u64, u64), String> {
+    let arguments: Vec<String> = std::env::args().skip(1).collect();
+    let [directory] = arguments.as_slice() else {
+        return Err("check-lists DIR".to_string());
+    };
+    let library = Proved::linked()?;
+    let cases = read_lists(Path::new(directory))?;
+    let without = cases.iter().filter(|case| case.text.is_none()).count();
+    println!("{} lists, {without} of them without a text", cases.len());
+    counted(&cases, |case| Some(format!("list {}: {}", case.name, difference(&library, case)?)))
+}
+
+/// The text against this program's; against that the library's text and count, and the text of the program
+/// written for speed; and every event through the library's step.
 fn difference(library: &impl Library, case: &ListCase) -> Option<String> {
     if let Some(text) = &case.text {
         let printed = run_list(&case.list);

@@ -2,6 +2,7 @@
 //! difference, and last `N passed, M failed`. The run of each list is also checked against its
 //! history. The exit code is 1 if a vector failed and 2 if the vectors could not be read.
 
+use peer::ending::{counted, ended};
 use peer::history::check_run;
 use peer::list::read_list;
 use peer::machine::step;
@@ -11,35 +12,18 @@ use std::path::Path;
 use std::process::ExitCode;
 
 fn main() -> ExitCode {
-    let arguments: Vec<String> = std::env::args().skip(1).collect();
-    let [lists, steps] = arguments.as_slice() else {
-        eprintln!("peer-vectors LISTS_DIR STEPS_FILE");
-        return ExitCode::from(2);
-    };
-    match run(Path::new(lists), Path::new(steps)) {
-        Ok((passed, failed)) => {
-            println!("{passed} passed, {failed} failed");
-            ExitCode::from(u8::from(failed > 0))
-        }
-        Err(words) => {
-            eprintln!("{words}");
-            ExitCode::from(2)
-        }
-    }
+    ended(run())
 }
 
-fn run(lists: &Path, steps: &Path) -> Result<(usize, usize), String> {
-    let lists = read_lists(lists)?;
-    let text = std::fs::read_to_string(steps).map_err(|e| format!("{}: {e}", steps.display()))?;
-    let steps = read_steps(&text)?;
-    let differences =
-        lists.iter().map(list_difference).chain(steps.iter().map(step_difference)).flatten();
-    let mut failed = 0;
-    for words in differences {
-        failed += 1;
-        println!("{words}");
-    }
-    Ok((lists.len() + steps.len() - failed, failed))
+fn run() -> Result<(u64, u64), String> {
+    let arguments: Vec<String> = std::env::args().skip(1).collect();
+    let [lists, steps] = arguments.as_slice() else {
+        return Err("peer-vectors LISTS_DIR STEPS_FILE".to_string());
+    };
+    let text = std::fs::read_to_string(steps).map_err(|e| format!("{steps}: {e}"))?;
+    let lists = counted(&read_lists(Path::new(lists))?, list_difference)?;
+    let steps = counted(&read_steps(&text)?, step_difference)?;
+    Ok((lists.0 + steps.0, lists.1 + steps.1))
 }
 
 fn list_difference(case: &ListCase) -> Option<String> {

@@ -1,0 +1,129 @@
+//! The program written for speed prints what the machine prints: on random runs, damaged lists, short ones
+//! of every n, and into every room. The fuzzer compares it on each of its lists too.
+
+use peer::compare::printed_difference;
+use peer::damage::damage;
+use peer::drive::{full_run, run, FULL, QUIET, REFUSED};
+use peer::list::{write_list, MAX_LIST};
+use peer::machine::Event;
+use peer::numbers::Numbers;
+use peer::print::run_list;
+use peer::proved::Own;
+use peer::tuned;
+
+fn printed(list: &[u8]) -> Vec<u8> {
+    let mut out = vec![0; 1 << 19];
+    let length = tuned::print(list, &mut out).expect("the text fits");
+    out.truncate(length);
+    out
+}
+
+fn assert_same(list: &[u8]) {
+    let text = run_list(list);
+    // Own prints by run_list, so a difference is tuned's.
+    if let Some(words) = printed_difference(&Own, list, &text, text.len() + 9) {
+        panic!("{words}\n{}", peer::compare::list_words(list));
+    }
+}
+
+#[test]
+fn random_runs_and_damaged_lists() {
+    let mut numbers = Numbers::new(11);
+    for k in 0..3000 {
+        let n = numbers.between(1, 16) as u8;
+        let list = write_list(n, &run(n, 20 + k % 400, &mut numbers));
+        assert_same(&list);
+        for _ in 0..4 {
+            let mut damaged = list.clone();
+            damage(&mut damaged, &mut numbers);
+            assert_same(&damaged);
+        }
+    }
+}
+
+#[test]
+fn full_lists() {
+    let mut numbers = Numbers::new(12);
+    for n in 1..=16 {
+        for manner in [&QUIET, &FULL, &REFUSED] {
+            assert_same(&write_list(n, &full_run(n, manner, &mut numbers)));
+        }
+    }
+}
+
+/// The most events that a list can have, all of them refused: the longest text.
+#[test]
+fn most_events() {
+    let list = write_list(16, &vec![Event::Crash(16); (MAX_LIST - 4) / 4]);
+    assert_eq!(list.len(), MAX_LIST);
+    assert_same(&list);
+    assert!(String::from_utf8(printed(&list)).unwrap().contains("\nrefused 16383 9\n"));
+}
+
+/// Every event on every node and number, after a run.
+#[test]
+fn every_event_after_a_run() {
+    let mut numbers = Numbers::new(13);
+    for n in 1..=16 {
+        let list = write_list(n, &run(n, 200, &mut numbers));
+        for tag in 0x10..=0x18 {
+            for i in [0, 1, 2, n - 1, n, n + 1, 16, 17, 18, 32, 33, 255] {
+                for j in [0, 1, 2, n - 1, n, n + 1, 16, 17, 18, 32, 33, 255] {
+                    let mut list = list.clone();
+                    match tag {
+                        0x16 => {
+                            list.extend([tag, 0, 3, i, 0, j]);
+                            list.extend([tag, 0, 3, i, j, 99]);
+                        }
+                        0x17 | 0x18 => list.extend([tag, 0, 2, i, j]),
+                        _ => list.extend([tag, 0, 1, i]),
+                    }
+                    assert_same(&list);
+                }
+            }
+        }
+    }
+}
+
+/// A list cut after each of its bytes, and every tag and length as its second field.
+#[test]
+fn every_cut_and_every_field() {
+    let list = write_list(2, &[Event::Recover(1), Event::Finish(1, 100), Event::Deliver(1, 2)]);
+    for length in 0..=list.len() {
+        assert_same(&list[..length]);
+    }
+    for tag in 0..=255 {
+        for length in 0..=9u8 {
+            for left in 0..=length {
+                let field = [&[tag, 0, length][..], &vec![1; usize::from(left)]].concat();
+                assert_same(&field);
+                assert_same(&[&list[..4], &field].concat());
+                assert_same(&[&list[..4], &field, &[0x11, 0, 1, 2]].concat());
+            }
+        }
+        assert_same(&[&list[..4], &[tag, 1, 1, 1]].concat());
+        assert_same(&[1, 0, 1, tag]);
+    }
+    for length in [MAX_LIST - 1, MAX_LIST, MAX_LIST + 1, 200_000] {
+        let mut long = list.clone();
+        long.resize(length, 0);
+        assert_same(&long);
+    }
+}
+
+#[test]
+fn every_room() {
+    let mut numbers = Numbers::new(14);
+    let lists = [
+        write_list(2, &[Event::Recover(2); 120]),
+        write_list(16, &run(16, 150, &mut numbers)),
+        vec![],
+        vec![1, 0, 1, 17],
+    ];
+    for list in lists {
+        let text = run_list(&list);
+        for room in 0..text.len() + 70 {
+            assert_eq!(printed_difference(&Own, &list, &text, room), None);
+        }
+    }
+}
