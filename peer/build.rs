@@ -1,4 +1,4 @@
-//! Finds the archive of the proved library and links it: ../target/staticlib/libexports.a, or the
+//! Finds the archive of the proved library and links it: ../target/staticlib/libnevraspu.a, or the
 //! path in PROVED_LIBRARY. Without it the crate is built all the same, and the programs that need
 //! it say so.
 
@@ -14,19 +14,13 @@ fn main() {
     let crate_folder = std::env::var_os("CARGO_MANIFEST_DIR").expect("cargo sets it");
     let archive = named
         .clone()
-        .unwrap_or_else(|| Path::new(&crate_folder).join("../target/staticlib/libexports.a"));
+        .unwrap_or_else(|| Path::new(&crate_folder).join("../target/staticlib/libnevraspu.a"));
     println!("cargo:rerun-if-changed={}", archive.display());
     if archive.is_file() {
         let folder = archive.parent().expect("a file stands in a folder");
         let name = archive.file_name().expect("a file has a name").to_string_lossy();
         println!("cargo:rustc-link-search=native={}", folder.display());
         println!("cargo:rustc-link-lib=static:+verbatim={name}");
-        // printing is a library of its own, beside it
-        let print = folder.join("libexports_print.a");
-        println!("cargo:rerun-if-changed={}", print.display());
-        if print.is_file() {
-            println!("cargo:rustc-link-lib=static:+verbatim=libexports_print.a");
-        }
         println!("cargo:rustc-cfg=proved");
     } else if named.is_some() {
         panic!("{VARIABLE} names no file: {}", archive.display());
@@ -34,7 +28,7 @@ fn main() {
         // Looks again in the next build, however old the archive is that it finds then.
         println!("cargo:rerun-if-changed=no-such-file");
         println!(
-            "cargo:warning=target/staticlib/libexports.a is missing: run `rt staticlib exports` \
+            "cargo:warning=target/staticlib/libnevraspu.a is missing: run `tools/archive` \
              at the root of the repository, or set {VARIABLE} to the archive's path, and build again"
         );
     }

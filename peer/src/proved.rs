@@ -89,7 +89,7 @@ impl Proved {
         if cfg!(proved) {
             Ok(Proved(()))
         } else {
-            Err("built without the proved library: run `rt staticlib exports` at the root of the \
+            Err("built without the proved library: run `tools/archive` at the root of the \
                  repository, or set PROVED_LIBRARY to the archive's path, and build again"
                 .to_string())
         }
