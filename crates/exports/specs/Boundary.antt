@@ -23,7 +23,7 @@ use Rattle.table_bytes.specs.Bytes.{decoded, size, encoded}
 abbrev pub stateOf : List ℕ → State
 stateOf t = view (decoded t)
 
--- the code's table of a state: past its n records stands the starting record, and past its waiting messages none
+-- the code's table of a state. Nothing of it is free: past its n records stands the starting record, and past its waiting messages none
 abbrev pub tableOf : State → Table
 tableOf s = record {
   n = s .n;

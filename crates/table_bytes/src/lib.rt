@@ -17,7 +17,7 @@ use model::Table;
 use model::TaskNo;
 ghost use mathlib.Core.Path.{_≡_};
 ghost use Prim.Native.Nat.{_≤_};
-ghost use lib.ListN.{length, getD, drop, set};
+ghost use lib.ListN.{getD, drop, set};
 ghost use Rattle.model.specs.Answers.{statusNumber};
 ghost use Rattle.table_bytes.specs.Bytes as spec;
 
@@ -378,20 +378,4 @@ pub fn encode(t: Table, out: &mut [u8])
     put_nodes(out, t);
     put_messages(out, t);
     put_one(out, 1361, t.waiting)
-}
-
-// Room for a table's bytes.
-fn zeros() -> [u8; SIZE]
-    ensures { λ r. ⌜ length r ≡ 1362 ⌝ }
-{
-    [0u8; SIZE]
-}
-
-// A table through its bytes and back is the same table.
-pub fn round_trip(t: Table) -> Table
-    ensures { λ r. ⌜ r ≡ t ⌝ }
-{
-    let mut bytes = zeros();
-    encode(t, &mut bytes);
-    decode(&bytes)
 }
