@@ -93,12 +93,12 @@ alone = record { status = Normal; counter = 3; group = groupNo 49; coordinator =
 abbrev pub first : Node → List Message → State
 first c q = record { n = 3; nodes = c ∷ startingNode ∷ startingNode ∷ []; queue = q }
 
--- node 1 as the coordinator of its group 16, with the members 2 and 3
+-- node 1 as the coordinator of its group 16, with the members 2 and 3 and the last call number k
 abbrev pub leader : Status → ℕ → Activity → Node
 leader s k a =
     record { status = s; counter = 1; group = groupNo 16; coordinator = 1; task = taskNo 100; members = setOf (2 ∷ 3 ∷ []); last = callNo k; activity = a }
 
--- ── messages from node 1 to node 2, with its call number 3, and the plain reply ──
+-- ── messages: node 1's third call, to node 2, and the plain reply to it ──
 
 abbrev pub invitation : ℕ → List Message
 invitation g = calls 1 3 2 (callNo 3) (groupNo g) ∷ []

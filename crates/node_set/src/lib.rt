@@ -1,4 +1,4 @@
-// Sets of nodes as 16-bit masks: bit i - 1 is node i. What each function answers is in specs/NodeSet, and the laws in proofs/Laws.
+// Sets of nodes as 16-bit masks: bit i - 1 is node i. What each function answers is in specs/NodeSet, and the laws are in specs/Claims.
 ghost use mathlib.Core.Path.{_≡_};
 ghost use Prim.Native.Nat.{_≤_};
 ghost use Rattle.node_set.specs.NodeSet as spec;
