@@ -141,21 +141,21 @@ static START: Table = {
     }
 };
 
-/// What an accepted event does. Numbers up to 15 are refusals.
-const NOTHING: u8 = 16;
-const CRASH: u8 = 17;
-const RECOVER: u8 = 18;
-const CHECK: u8 = 19;
-const TIMEOUT: u8 = 20;
-const TICK: u8 = 21;
-const NEXT: u8 = 22;
-const FINISH: u8 = 23;
-const LOSE: u8 = 24;
-const INVITED: u8 = 25;
-const ANSWERED: u8 = 26;
-const ACCEPTED: u8 = 27;
-const STAYS: u8 = 28;
-const LEAVES: u8 = 29;
+/// What an event does. 7 to 11 are refusals. The numbers leave few gaps, so that one jump is enough.
+const NOTHING: u8 = 12;
+const CRASH: u8 = 13;
+const RECOVER: u8 = 14;
+const CHECK: u8 = 15;
+const TIMEOUT: u8 = 16;
+const TICK: u8 = 17;
+const NEXT: u8 = 18;
+const FINISH: u8 = 19;
+const LOSE: u8 = 20;
+const INVITED: u8 = 21;
+const ANSWERED: u8 = 22;
+const ACCEPTED: u8 = 23;
+const STAYS: u8 = 24;
+const LEAVES: u8 = 25;
 /// From here on a message is replied to; what is done beside it is added.
 const REPLY_NO: u8 = 32;
 const REPLY_YES: u8 = REPLY_NO + IS_YES;
@@ -166,6 +166,9 @@ const IF_MEMBER: u8 = 2;
 const JOINS: u8 = 4;
 /// The task is taken.
 const TAKES: u8 = 8;
+const REPLY_IF_MEMBER: u8 = REPLY_NO + IF_MEMBER;
+const REPLY_AND_JOIN: u8 = REPLY_YES + JOINS;
+const REPLY_AND_TAKE: u8 = REPLY_YES + TAKES;
 
 /// What to do, by row and state. Rows 0 to 6 are the events up to finish, 7 finish with a task that is
 /// too low, 8 to 16 deliver with a message of kind row - 8, and 17 to 25 lose the same. Kind 0 is no
@@ -197,11 +200,11 @@ const fn action(row: u16, state: u16) -> u8 {
         (8, _) => 11,
         (9, _) if status == NORMAL && own => REPLY_YES,
         (9, _) => REPLY_NO,
-        (10, _) if own => REPLY_NO + IF_MEMBER,
+        (10, _) if own => REPLY_IF_MEMBER,
         (10, _) => REPLY_NO,
         (11, _) if status == NORMAL => INVITED,
-        (12, _) if status == ELECTION && own => REPLY_YES + JOINS,
-        (13, _) if status == REORGANIZATION => REPLY_YES + TAKES,
+        (12, _) if status == ELECTION && own => REPLY_AND_JOIN,
+        (13, _) if status == REORGANIZATION => REPLY_AND_TAKE,
         (11..=13, _) => REPLY_YES,
         (_, ASKING | INVITING | HANDING | FORWARDING) => ANSWERED,
         (_, ACCEPTING) => ACCEPTED,
@@ -371,94 +374,90 @@ impl Table {
     }
 
     /// Does what an action says at node k; `oldest` is of the event's pair, and `kind` its kind. Gives 0,
-    /// or the number of a refusal, and then nothing has changed.
+    /// or the number of a refusal, and then nothing has changed: what can be refused is seen first.
     #[inline(always)]
     fn act(&mut self, action: u8, k: usize, task: u16, kind: u8, oldest: Oldest) -> u8 {
         let node = &mut self.nodes[k];
-        let message = self.messages[usize::from(oldest.slot & 127)];
+        let message = &self.messages[usize::from(oldest.slot & 127)];
         let sender = (oldest.queue / SENDER) as u8;
         match action {
-            NOTHING => 0,
-            CRASH => {
-                node.state = DOWN | IDLE;
-                0
-            }
-            RECOVER => self.recover(k, None),
+            // Each by itself: a range would be a branch of its own before the jump.
+            7 | 8 | 9 | 10 | 11 => return action,
+            NOTHING => {}
+            CRASH => node.state = DOWN | IDLE,
+            RECOVER => return self.recover(k, None),
             // "it asks every other cabinet in turn"
             CHECK => {
                 let others = self.all & !(1 << k);
-                if others == 0 {
-                    return 0;
-                }
-                let r = self.walk(k, ASKING, others, None);
-                if r == 0 {
+                if others != 0 {
+                    let r = self.no_call(k, None);
+                    if r != 0 {
+                        return r;
+                    }
                     self.nodes[k].found = 0;
+                    self.walk(k, ASKING, others, None);
                 }
-                r
             }
             TIMEOUT => {
-                let to = (node.group & 15) as u8;
-                let r = self.call(k, to, ARE_YOU_THERE, None);
-                if r == 0 {
-                    self.set_activity(k, CONTACTING);
+                let r = self.no_call(k, None);
+                if r != 0 {
+                    return r;
                 }
-                r
+                self.set_activity(k, CONTACTING);
+                let to = (self.nodes[k].group & 15) as u8;
+                self.call(k, to, ARE_YOU_THERE, None);
             }
             TICK => {
                 if node.now > 1 {
                     node.now -= 1;
-                    return 0;
+                } else {
+                    let found = node.found;
+                    return self.merge(k, found, None);
                 }
-                let found = node.found;
-                self.merge(k, found, None)
             }
             NEXT => {
                 let found = node.found;
-                self.next(k, found, None)
+                return self.next(k, found, None);
             }
             // "Reorganization, task t. It hands Ready to each member; after the last, or with none,
             // Normal and idle."
             FINISH => {
-                let (members, former) = (u32::from(node.members), node.task);
-                node.task = task;
+                let members = u32::from(node.members);
                 if members == 0 {
+                    node.task = task;
                     node.state = NORMAL | OWN | IDLE;
                     return 0;
                 }
-                let r = self.walk(k, HANDING, members, None);
-                let node = &mut self.nodes[k];
-                if r == 0 {
-                    node.state = REORGANIZATION | OWN | HANDING;
-                } else {
-                    node.task = former;
+                let r = self.no_call(k, None);
+                if r != 0 {
+                    return r;
                 }
-                r
+                self.nodes[k].task = task;
+                self.nodes[k].state = REORGANIZATION | OWN;
+                self.walk(k, HANDING, members, None);
             }
-            LOSE => {
-                self.release(Some(oldest));
-                0
-            }
+            LOSE => self.release(Some(oldest)),
             INVITED => {
                 // "or it owns that group"
                 if (message.group & 15) as usize == k {
-                    return self.send(k, sender, YES, message, Some(oldest));
+                    self.take_out(oldest);
+                    self.put(k, sender, YES, oldest.slot);
+                    return 0;
                 }
-                let before = *node;
+                if node.last_call >= MAX_CALL {
+                    return 13;
+                }
                 // "If it was its own coordinator, it forwards the invitation to each member"
                 let rest = if node.state & OWN != 0 { u32::from(node.members) } else { 0 };
                 node.group = message.group;
                 node.call = message.call;
                 node.caller = sender;
                 node.state = ELECTION;
-                let r = if rest == 0 {
-                    self.accept(k, Some(oldest))
+                if rest == 0 {
+                    self.accept(k, Some(oldest));
                 } else {
-                    self.walk(k, FORWARDING, rest, Some(oldest))
-                };
-                if r != 0 {
-                    self.nodes[k] = before;
+                    self.walk(k, FORWARDING, rest, Some(oldest));
                 }
-                r
             }
             // "if a call is open with this number, it goes on"
             ANSWERED => {
@@ -468,7 +467,7 @@ impl Table {
                 }
                 // "asking adds the cabinet asked on yes"
                 let found = node.found | u16::from(kind == YES) << (node.now & 15);
-                self.next(k, found, Some(oldest))
+                return self.next(k, found, Some(oldest));
             }
             // "accepting turns to Reorganization, replies to its caller and is idle"
             ACCEPTED => {
@@ -478,23 +477,23 @@ impl Table {
                 }
                 let (caller, call) = (node.caller, node.call);
                 node.state = REORGANIZATION | IDLE;
-                self.send(k, caller, YES, Message { call, ..message }, Some(oldest))
+                self.take_out(oldest);
+                self.messages[usize::from(oldest.slot & 127)].call = call;
+                self.put(k, caller, YES, oldest.slot);
             }
             STAYS => {
                 if message.call == node.last_call {
-                    self.set_activity(k, IDLE);
+                    node.state &= !ACTIVITY;
                 }
                 self.release(Some(oldest));
-                0
             }
             LEAVES => {
                 if message.call == node.last_call {
                     return self.recover(k, Some(oldest));
                 }
                 self.release(Some(oldest));
-                0
             }
-            REPLY_NO..=63 => {
+            REPLY_NO | REPLY_YES | REPLY_IF_MEMBER | REPLY_AND_JOIN | REPLY_AND_TAKE => {
                 let doing = |flag: u8| u16::from(action & flag != 0);
                 let same = u16::from(node.group == message.group);
                 // "the group is equal, it is its own coordinator and the sender is a member"
@@ -506,10 +505,12 @@ impl Table {
                 let takes = doing(TAKES) & same;
                 node.task = select_unpredictable(takes != 0, message.task, node.task);
                 node.state |= takes * NORMAL;
-                self.send(k, sender, NO - yes as u8, message, Some(oldest))
+                self.take_out(oldest);
+                self.put(k, sender, NO - yes as u8, oldest.slot);
             }
-            refusal => refusal,
+            _ => {}
         }
+        0
     }
 
     #[inline(always)]
@@ -536,65 +537,62 @@ impl Table {
         }
     }
 
-    /// Adds a message behind the others of its pair, in the slot of the one delivered if there is one.
+    /// Adds the message of a slot behind the others of its pair. A reply to the message that was there has
+    /// its call number.
     #[inline(always)]
-    fn send(
-        &mut self,
-        k: usize,
-        to: u8,
-        kind: u8,
-        message: Message,
-        delivered: Option<Oldest>,
-    ) -> u8 {
-        let slot = match delivered {
-            Some(oldest) => {
-                self.take_out(oldest);
-                oldest.slot & 63
-            }
-            None if self.free == 0 => return 14,
-            None => {
-                let slot = self.free.trailing_zeros() as u8;
-                self.free &= self.free - 1;
-                slot
-            }
-        };
+    fn put(&mut self, k: usize, to: u8, kind: u8, slot: u8) {
         let queue = (k & 15) * usize::from(SENDER) + usize::from(to & 15);
-        let place = SLOTS + u16::from(slot);
-        self.messages[usize::from(slot)] = message;
+        let place = SLOTS + u16::from(slot & 63);
         self.links[usize::from(self.ends[queue] & 1023)] = u16::from(kind) << 8 | u16::from(slot);
         self.links[usize::from(place)] = NONE;
         self.ends[queue] = place;
-        0
     }
 
-    /// "last call number plus one, one message added"
+    /// Grounds 13 and 14 of a call, or 0. A delivered message is already out.
     #[inline(always)]
-    fn call(&mut self, k: usize, to: u8, kind: u8, delivered: Option<Oldest>) -> u8 {
-        let Node { last_call, group, task, .. } = self.nodes[k];
-        if last_call >= MAX_CALL {
-            return 13;
+    fn no_call(&self, k: usize, delivered: Option<Oldest>) -> u8 {
+        if self.nodes[k].last_call >= MAX_CALL {
+            13
+        } else if delivered.is_none() && self.free == 0 {
+            14
+        } else {
+            0
         }
-        let call = last_call + 1;
-        let r = self.send(k, to, kind, Message { call, group, task }, delivered);
-        if r == 0 {
-            self.nodes[k].last_call = call;
-        }
-        r
+    }
+
+    /// "last call number plus one, one message added", where no ground is met. The message's slot is that
+    /// of the one delivered, if there is one.
+    #[inline(always)]
+    fn call(&mut self, k: usize, to: u8, kind: u8, delivered: Option<Oldest>) {
+        let slot = match delivered {
+            Some(oldest) => {
+                self.take_out(oldest);
+                oldest.slot
+            }
+            None => {
+                let slot = self.free.trailing_zeros() as u8;
+                self.free &= self.free.wrapping_sub(1);
+                slot
+            }
+        };
+        let node = &mut self.nodes[k];
+        node.last_call += 1;
+        let message = &mut self.messages[usize::from(slot & 127)];
+        message.call = node.last_call;
+        message.group = node.group;
+        message.task = node.task;
+        self.put(k, to, kind, slot);
     }
 
     /// The next call of an activity that walks the set of whom still, which must not be empty.
     #[inline(always)]
-    fn walk(&mut self, k: usize, activity: u16, rest: u32, delivered: Option<Oldest>) -> u8 {
+    fn walk(&mut self, k: usize, activity: u16, rest: u32, delivered: Option<Oldest>) {
         // "Sets are walked from the lowest number up."
         let now = (rest.trailing_zeros() & 15) as u8;
-        let kind = CALLS[usize::from(activity / ASKING & 15)];
-        let r = self.call(k, now, kind, delivered);
-        if r == 0 {
-            self.nodes[k].rest = rest & rest.wrapping_sub(1);
-            self.nodes[k].now = now;
-            self.set_activity(k, activity);
-        }
-        r
+        self.nodes[k].rest = rest & rest.wrapping_sub(1);
+        self.nodes[k].now = now;
+        self.set_activity(k, activity);
+        self.call(k, now, CALLS[usize::from(activity / ASKING & 15)], delivered);
     }
 
     /// A walk goes on, or ends after the last.
@@ -602,9 +600,10 @@ impl Table {
     fn next(&mut self, k: usize, found: u16, delivered: Option<Oldest>) -> u8 {
         let Node { rest, state, .. } = self.nodes[k];
         if rest != 0 {
-            let r = self.walk(k, state & ACTIVITY, rest, delivered);
+            let r = self.no_call(k, delivered);
             if r == 0 {
                 self.nodes[k].found = found;
+                self.walk(k, state & ACTIVITY, rest, delivered);
             }
             return r;
         }
@@ -620,7 +619,13 @@ impl Table {
                 self.nodes[k].now = ticks;
                 self.set_activity(k, if found == 0 { IDLE } else { WAITING });
             }
-            FORWARDING => return self.accept(k, delivered),
+            FORWARDING => {
+                let r = self.no_call(k, delivered);
+                if r == 0 {
+                    self.accept(k, delivered);
+                }
+                return r;
+            }
             // "and then collects"
             INVITING => self.set_activity(k, COLLECTING),
             // "after the last ... Normal and idle"
@@ -632,13 +637,10 @@ impl Table {
 
     /// "then it calls Accept on the new coordinator"
     #[inline(always)]
-    fn accept(&mut self, k: usize, delivered: Option<Oldest>) -> u8 {
+    fn accept(&mut self, k: usize, delivered: Option<Oldest>) {
+        self.set_activity(k, ACCEPTING);
         let to = (self.nodes[k].group & 15) as u8;
-        let r = self.call(k, to, ACCEPT, delivered);
-        if r == 0 {
-            self.set_activity(k, ACCEPTING);
-        }
-        r
+        self.call(k, to, ACCEPT, delivered);
     }
 
     /// "counter plus one, group from it, coordinator i, members empty, task i, Normal, idle"
@@ -661,26 +663,26 @@ impl Table {
     /// invites the cabinets found, then those set aside ... and then collects."
     #[inline(never)]
     fn merge(&mut self, k: usize, found: u16, delivered: Option<Oldest>) -> u8 {
-        let node = &mut self.nodes[k];
+        let node = &self.nodes[k & 31];
         if node.counter >= MAX_COUNTER {
             return 12;
         }
-        let before = *node;
         let rest = u32::from(found) | u32::from(node.members) << 16;
+        let r = if rest != 0 { self.no_call(k & 31, delivered) } else { 0 };
+        if r != 0 {
+            return r;
+        }
+        let node = &mut self.nodes[k & 31];
         node.counter += 1;
         node.group = node.counter << 4 | k as u32;
         node.members = 0;
         node.state = ELECTION | OWN | COLLECTING;
-        let r = if rest == 0 {
+        if rest == 0 {
             self.release(delivered);
-            0
         } else {
-            self.walk(k, INVITING, rest, delivered)
-        };
-        if r != 0 {
-            self.nodes[k] = before;
+            self.walk(k & 31, INVITING, rest, delivered);
         }
-        r
+        0
     }
 }
 
