@@ -376,6 +376,7 @@ impl Table {
     /// Does what an action says at node k; `oldest` is of the event's pair, and `kind` its kind. Gives 0,
     /// or the number of a refusal, and then nothing has changed: what can be refused is seen first.
     #[inline(always)]
+    #[allow(clippy::manual_range_patterns)]
     fn act(&mut self, action: u8, k: usize, task: u16, kind: u8, oldest: Oldest) -> u8 {
         let node = &mut self.nodes[k];
         let message = &self.messages[usize::from(oldest.slot & 127)];
@@ -592,7 +593,7 @@ impl Table {
         self.nodes[k].rest = rest & rest.wrapping_sub(1);
         self.nodes[k].now = now;
         self.set_activity(k, activity);
-        self.call(k, now, CALLS[usize::from(activity / ASKING & 15)], delivered);
+        self.call(k, now, CALLS[usize::from((activity / ASKING) & 15)], delivered);
     }
 
     /// A walk goes on, or ends after the last.

@@ -141,9 +141,9 @@ fn what_is_part_of_a_table_is_compared() {
         let mut other = bytes;
         other[place] ^= 1;
         // What each kind carries behind its call number: group, task, yes.
-        let carried = |at: usize| match (bytes[465 + at / 14 * 14 + 2], at % 14) {
-            (1, 7..) | (2..=4, 11..) | (5, 13) | (6, 7..=12) => false,
-            _ => true,
+        let carried = |at: usize| {
+            let kind = bytes[465 + at / 14 * 14 + 2];
+            !matches!((kind, at % 14), (1, 7..) | (2..=4, 11..) | (5, 13) | (6, 7..=12))
         };
         let part = place < 1 + 29 * n
             || (465..465 + 14 * waiting).contains(&place) && carried(place - 465)
