@@ -1,16 +1,10 @@
 -- "Named cases": K1 to K13 jointly, with K1 and K10 also from the bytes of a list to the printed text.
 use Prim.Native.Nat.{ℕ}
-use Prim.Native.Char.{code}
-use Prim.Native.String.{String, [] as empty, _∷_ as _then_}
 use mathlib.Core.Path.{_≡_}
 use mathlib.Core.List.{List, [], _∷_, _++_}
 use Rattle.model.specs.Cases.{NamedCases}
+use Rattle.listing.specs.Ascii.{bytes}
 use Rattle.run_list.specs.Text.{textOf}
-
--- the bytes of a text in ASCII
-unfoldable pub bytes : String → List ℕ
-bytes empty = []
-bytes (c then s) = code c ∷ bytes s
 
 -- the first field of n nodes
 abbrev pub nodes : ℕ → List ℕ
