@@ -8,7 +8,8 @@ use lib.ListN.{length, getD, length-append}
 use lib.Dec.{ltb}
 use borrow.Author.Tests.{ltb-true, ltb-false}
 use Rattle.model.specs.Pick.{pick, by-test}
-use Rattle.listing.specs.Decimal.{digits, decimal, valueFrom, valueOf, Denotes}
+use Rattle.listing.specs.Decimal.{digits, decimal, valueFrom, valueOf}
+use Rattle.listing.specs.Claims.{DecimalDenotes}
 
 pub tenth : (p : ℕ) {x : ℕ} → x < 10 ^ suc p → x / 10 < 10 ^ p
 tenth p h = omega (arith, pow-suc 10 p)
@@ -78,8 +79,11 @@ pub decimal-long : (x : ℕ) → length (decimal x) ≤ 10
 unfolding decimal
 decimal-long x = digits-long 10 x
 
--- The digits of every number of 32 bits denote it.
-pub decimal-denotes : (x : ℕ) → x < 2 ^ 32 → Denotes (decimal x) x
+pub decimal-each : (x k : ℕ) → k < length (decimal x) → (48 ≤ getD (decimal x) k 0) × (getD (decimal x) k 0 ≤ 57)
+unfolding decimal
+decimal-each x = digits-each 10 x
+
+pub decimal-denotes : DecimalDenotes
 unfolding decimal digits pick
 decimal-denotes x h =
     let b : x < 10 ^ 10 = omega arith in

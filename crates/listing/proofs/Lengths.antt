@@ -53,7 +53,7 @@ pub stopped-long : (b r : ℕ) → b ≤ 65536 → r ≤ 22 → length (stoppedL
 unfolding stoppedLine
 stopped-long b r h i = two-long (bytes "stopped") 5 2 (omega arith) (omega arith) (omega arith) (omega arith)
 
-status-small : (s : Status) → statusNumber s ≤ 9
+pub status-small : (s : Status) → statusNumber s ≤ 9
 status-small Down = omega arith
 status-small Election = omega arith
 status-small Reorganization = omega arith

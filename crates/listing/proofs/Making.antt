@@ -16,7 +16,6 @@ use Rattle.listing.specs.declared.Line.{Line}
 use Rattle.listing.proofs.Line as line
 use Rattle.listing.specs.Decimal.{digits, decimal}
 use Rattle.listing.specs.Lines.{row}
-use Rattle.listing.specs.Printing.{written}
 use Rattle.listing.proofs.Decimal.{tenth}
 
 -- the digits of y before its last, at most p of them

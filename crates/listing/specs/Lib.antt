@@ -2,3 +2,4 @@ pub mod Ascii
 pub mod Decimal
 pub mod Printing
 pub mod Lines
+pub mod Claims
