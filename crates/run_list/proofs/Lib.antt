@@ -3,3 +3,4 @@ pub mod Bound
 pub mod Behind
 pub mod NamedCases
 pub mod Turns
+pub mod Shows
