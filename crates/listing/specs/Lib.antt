@@ -2,4 +2,5 @@ pub mod Ascii
 pub mod Decimal
 pub mod Printing
 pub mod Lines
+pub mod Parts
 pub mod Claims
