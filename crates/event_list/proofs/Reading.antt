@@ -1,7 +1,7 @@
 -- Laws of the definitions for a loop that reads a list: where the next field starts, what is left there, and that the count of fields in `rest` never ends a list.
 use Prim.Native.Nat.{ℕ, zero, suc, _+_, _-_, _*_, _≤_, _<_}
 use native.Mathlib.Omega.{arith}
-use mathlib.Core.Path.{_≡_, refl, sym, _∙_}
+use mathlib.Core.Path.{_≡_, refl, sym, _∙_, subst}
 use mathlib.Core.Bool.{Bool, true, false, not, _&&_, _||_}
 use mathlib.Core.List.{List}
 use lib.ListN.{length, getD}
@@ -15,7 +15,8 @@ use Rattle.event_list.specs.declared.Next.{Next}
 use Rattle.event_list.specs.declared.Next.the-variants as Next
 use Rattle.event_list.specs.declared.First.{First}
 use Rattle.event_list.specs.declared.First.the-variants as First
-use Rattle.event_list.specs.Format.{maxBytes, between, tagAt, lengthAt, contentsAt, behind, firstTag, eventTag, lengthOf, cutShort, checked, nextAt, nodesOf, firstOf, complete, stopped, ended, after, onward, readFrom, rest, failed, begun, reading}
+use Rattle.event_list.specs.Format.{maxBytes, between, tagAt, lengthAt, contentsAt, behind, firstTag, eventTag, lengthOf, cutShort, checked, nextAt, nodesOf, firstOf, Ending, complete, stopped, ended, after, onward, readFrom, rest, failed, begun, reading}
+use Rattle.event_list.specs.Claims.{ReadsAll}
 use Rattle.event_list.proofs.Fields.{next-end}
 
 -- Tests taken apart.
@@ -133,6 +134,14 @@ pub rest-step : (l : List ℕ) (at : ℕ) → rest l at ≡ onward at (nextAt l 
 unfolding rest readFrom
 rest-step l at = enough (length l) (suc (length l)) l at (omega arith) (omega arith)
 
+-- What stops stands before the end.
+stop-inside : (l : List ℕ) (at : ℕ) (s : Stop) → nextAt l at ≡ Next.Stopped s → at < length l
+stop-inside l at s e = by (leb (length l) at) refl
+  where
+    by : (t : Bool) → leb (length l) at ≡ t → at < length l
+    by true q = let d = next-end l at (leb-true (length l) at q) in let z : _≡_ {A = ℕ} 0 1 = cc in absurd (omega arith)
+    by false q = leb-false (length l) at q
+
 -- The same for an answer x of `event_at`.
 module _ (l : List ℕ) (at : ℕ) {x : Next} (i : x ≡ nextAt l at) where
   pub rest-done : x ≡ Next.Done → rest l at ≡ ended complete
@@ -181,3 +190,25 @@ few-events (suc k) l at h = by (nextAt l at) (past-at l at) (λ n u. few-events 
 pub rest-few : (l : List ℕ) (at : ℕ) → at ≤ length l → at + 4 * length (rest l at .events) ≤ length l
 unfolding rest
 rest-few l at h = few-events (length l) l at h
+
+-- A list stops at one of its bytes.
+abbrev Before : ℕ → Ending → Type 0
+Before m complete = Unit {0}
+Before m (stopped b s) = b < m
+
+ends-before : (k : ℕ) (l : List ℕ) (at : ℕ) → Before (length l) (readFrom k l at .ending)
+unfolding readFrom
+ends-before zero l at = tt
+ends-before (suc k) l at = by (nextAt l at) refl (ends-before k l)
+  where
+    by : (x : Next) → nextAt l at ≡ x → ((n : ℕ) → Before (length l) (readFrom k l n .ending)) → Before (length l) (onward at x (readFrom k l) .ending)
+    by Next.Done i f = tt
+    by (Next.Stopped s) i f = stop-inside l at s i
+    by (Next.Got v n) i f = f n
+
+rest-before : (l : List ℕ) (at b : ℕ) (s : Stop) → rest l at .ending ≡ stopped b s → b < length l
+unfolding rest
+rest-before l at b s e = subst (Before (length l)) e (ends-before (length l) l at)
+
+pub reads-all : ReadsAll
+reads-all = record { next = rest-step; few = rest-few; before = rest-before }

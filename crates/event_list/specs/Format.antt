@@ -146,7 +146,7 @@ unfoldable pub readFrom : ℕ → List ℕ → ℕ → Reading
 readFrom zero l at = ended complete
 readFrom (suc k) l at = onward at (nextAt l at) (readFrom k l)
 
--- what all fields from an offset on say. A list has no more fields than bytes, so none is left: `rest-step` of proofs/Reading
+-- what all fields from an offset on say. A list has no more fields than bytes, so none is left: `ReadsAll` in specs/Claims
 unfoldable pub rest : List ℕ → ℕ → Reading
 rest l at = readFrom (length l) l at
 

@@ -1,2 +1,4 @@
 pub mod Format
 pub mod Parts
+pub mod Claims
+pub mod Cases

@@ -1,14 +1,15 @@
 -- The digits of a number denote it, without leading zeros, and are as few as its size allows.
 use Prim.Native.Nat.{ℕ, zero, suc, _+_, _-_, _*_, _/_, _%_, _^_, _≤_, _<_}
-use native.Mathlib.Nat.{pow-suc}
+use native.Mathlib.Nat.{pow-suc, one-le-pow}
 use native.Mathlib.Omega.{arith}
 use mathlib.Core.Path.{_≡_, refl, _∙_}
 use mathlib.Core.List.{List, [], _∷_, _++_}
 use lib.ListN.{length, getD, length-append}
 use lib.Dec.{ltb}
-use borrow.Author.Tests.{ltb-true, ltb-false}
+use borrow.Author.Tests.{ltb-true, ltb-false, lt-ltb}
 use Rattle.model.specs.Pick.{pick, by-test}
-use Rattle.listing.specs.Decimal.{digits, decimal, valueFrom, valueOf, Denotes}
+use Rattle.listing.specs.Decimal.{digits, decimal, valueFrom, valueOf}
+use Rattle.listing.specs.Claims.{DecimalDenotes}
 
 pub tenth : (p : ℕ) {x : ℕ} → x < 10 ^ suc p → x / 10 < 10 ^ p
 tenth p h = omega (arith, pow-suc 10 p)
@@ -69,6 +70,29 @@ unfolding decimal
 decimal-short zero o h = let v : ⊥ = omega arith in absurd v
 decimal-short (suc k) {x} o h = digits-short 10 k x h
 
+-- From 10 ^ k on more than k digits.
+digits-many : (p k x : ℕ) → 10 ^ k ≤ x → suc k ≤ p → suc k ≤ length (digits p x)
+unfolding digits
+digits-many zero k x h q = let v : ⊥ = omega arith in absurd v
+digits-many (suc p) zero x h q = simp length-append (omega arith)
+digits-many (suc p) (suc k) x h q =
+    let o = one-le-pow k 10 (omega arith) in
+    let m : 10 ^ k ≤ x / 10 = omega (arith, pow-suc 10 k) in
+    let i = digits-many p k (x / 10) m (omega arith) in
+    simp length-append (by-test (λ (l : List ℕ). suc (suc k) ≤ length l + 1) (λ t. let s = ltb-true x 10 t in let v : ⊥ = omega arith in absurd v) (λ t. omega arith))
+
+-- How many digits a number has.
+pub decimal-one : (x : ℕ) → x < 10 → (1 ≡ length (decimal x)) × (1 ≤ 10)
+unfolding decimal digits pick
+decimal-one x h = (rw (lt-ltb x 10 h), omega arith)
+
+pub decimal-count : (k x : ℕ) → k ≤ 9 → 10 ^ k ≤ x → x < 10 ^ suc k → (suc k ≡ length (decimal x)) × (suc k ≤ 10)
+unfolding decimal
+decimal-count k x q h i =
+    let a = digits-many 10 k x h (omega arith) in
+    let b = digits-short 10 k x i in
+    (omega arith, omega arith)
+
 digits-long : (p x : ℕ) → length (digits p x) ≤ p
 unfolding digits
 digits-long zero x = omega arith
@@ -78,8 +102,11 @@ pub decimal-long : (x : ℕ) → length (decimal x) ≤ 10
 unfolding decimal
 decimal-long x = digits-long 10 x
 
--- The digits of every number of 32 bits denote it.
-pub decimal-denotes : (x : ℕ) → x < 2 ^ 32 → Denotes (decimal x) x
+pub decimal-each : (x k : ℕ) → k < length (decimal x) → (48 ≤ getD (decimal x) k 0) × (getD (decimal x) k 0 ≤ 57)
+unfolding decimal
+decimal-each x = digits-each 10 x
+
+pub decimal-denotes : DecimalDenotes
 unfolding decimal digits pick
 decimal-denotes x h =
     let b : x < 10 ^ 10 = omega arith in

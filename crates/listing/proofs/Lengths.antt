@@ -16,7 +16,8 @@ use Rattle.model.specs.Range.{nodeInRange}
 use Rattle.model.specs.State.{State, every, inRange}
 use Rattle.model.proofs.Local.{both-left, both-right}
 use Rattle.model.proofs.Fields.{NodeFacts, node-facts, in-range-size, in-range-nodes}
-use Rattle.listing.specs.Lines.{row, cabinetsWord, refusedWord, stoppedWord, messagesWord, cabinetsLine, refusedLine, stoppedLine, nodeLine, messagesLine, nodeLines, tableLines}
+use Rattle.listing.specs.Ascii.{bytes}
+use Rattle.listing.specs.Lines.{row, cabinetsLine, refusedLine, stoppedLine, nodeLine, messagesLine, nodeLines, tableLines}
 use Rattle.listing.specs.Printing.{joined}
 use Rattle.listing.proofs.Decimal.{decimal-short}
 
@@ -38,21 +39,21 @@ two-long w j k {x} {y} o h u i = let r = row-more j (y ∷ []) o h (row-more k [
 
 pub cabinets-long : (n : ℕ) → n ≤ 16 → length (cabinetsLine n) ≤ 12
 unfolding cabinetsLine
-cabinets-long n h = one-long cabinetsWord 2 (omega arith) (omega arith)
+cabinets-long n h = one-long (bytes "cabinets") 2 (omega arith) (omega arith)
 
 pub messages-long : (k : ℕ) → k ≤ 64 → length (messagesLine k) ≤ 12
 unfolding messagesLine
-messages-long k h = one-long messagesWord 2 (omega arith) (omega arith)
+messages-long k h = one-long (bytes "messages") 2 (omega arith) (omega arith)
 
 pub refused-long : (e r : ℕ) → e ≤ 65536 → r ≤ 22 → length (refusedLine e r) ≤ 17
 unfolding refusedLine
-refused-long e r h i = two-long refusedWord 5 2 (omega arith) (omega arith) (omega arith) (omega arith)
+refused-long e r h i = two-long (bytes "refused") 5 2 (omega arith) (omega arith) (omega arith) (omega arith)
 
 pub stopped-long : (b r : ℕ) → b ≤ 65536 → r ≤ 22 → length (stoppedLine b r) ≤ 17
 unfolding stoppedLine
-stopped-long b r h i = two-long stoppedWord 5 2 (omega arith) (omega arith) (omega arith) (omega arith)
+stopped-long b r h i = two-long (bytes "stopped") 5 2 (omega arith) (omega arith) (omega arith) (omega arith)
 
-status-small : (s : Status) → statusNumber s ≤ 9
+pub status-small : (s : Status) → statusNumber s ≤ 9
 status-small Down = omega arith
 status-small Election = omega arith
 status-small Reorganization = omega arith

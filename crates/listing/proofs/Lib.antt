@@ -3,3 +3,5 @@ pub mod Printing
 pub mod Lengths
 pub mod Making
 pub mod Table
+pub mod Parted
+pub mod Claims

@@ -54,7 +54,7 @@ module _ (b x : List ℕ) (p : ℕ) (h : p + length x ≤ length b) where
   pub written-long : length (written b p x) ≡ length b
   written-long = simp (length-append, before-long, length-drop) (omega arith)
 
-  written-twice : (y : List ℕ) → written (written b p x) (p + length x) y ≡ written b p (x ++ y)
+  pub written-twice : (y : List ℕ) → written (written b p x) (p + length x) y ≡ written b p (x ++ y)
   written-twice y =
       let e : length (take p b ++ x) ≡ p + length x = simp (length-append, before-long) in
       let t : take (p + length x) (written b p x) ≡ take p b ++ x = rw (← append-assoc) (take-at (take p b ++ x) _ (p + length x) e) in

@@ -1,3 +1,6 @@
+pub mod Ascii
 pub mod Decimal
 pub mod Printing
 pub mod Lines
+pub mod Parts
+pub mod Claims

@@ -6,37 +6,25 @@ use Rattle.node_set.specs.NodeSet.{count}
 use Rattle.model.specs.declared.Node.{Node}
 use Rattle.model.specs.Answers.{statusNumber}
 use Rattle.model.specs.State.{State}
+use Rattle.listing.specs.Ascii.{bytes}
 use Rattle.listing.specs.Decimal.{decimal}
 
--- the fields after a line's first, which are numbers, and the line's end
+-- the fields after a line's first, which are numbers, each behind a space, and the line's end: 0x0A is "\n"
 unfoldable pub row : List ℕ → List ℕ
-row [] = 10 ∷ []
-row (x ∷ xs) = 32 ∷ (decimal x ++ row xs)
-
--- the leading words in ASCII: cabinets, refused, stopped, messages
-abbrev pub cabinetsWord : List ℕ
-cabinetsWord = 99 ∷ 97 ∷ 98 ∷ 105 ∷ 110 ∷ 101 ∷ 116 ∷ 115 ∷ []
-
-abbrev pub refusedWord : List ℕ
-refusedWord = 114 ∷ 101 ∷ 102 ∷ 117 ∷ 115 ∷ 101 ∷ 100 ∷ []
-
-abbrev pub stoppedWord : List ℕ
-stoppedWord = 115 ∷ 116 ∷ 111 ∷ 112 ∷ 112 ∷ 101 ∷ 100 ∷ []
-
-abbrev pub messagesWord : List ℕ
-messagesWord = 109 ∷ 101 ∷ 115 ∷ 115 ∷ 97 ∷ 103 ∷ 101 ∷ 115 ∷ []
+row [] = bytes "\n"
+row (x ∷ xs) = bytes " " ++ (decimal x ++ row xs)
 
 -- "It prints `cabinets n`"
 unfoldable pub cabinetsLine : ℕ → List ℕ
-cabinetsLine n = cabinetsWord ++ row (n ∷ [])
+cabinetsLine n = bytes "cabinets" ++ row (n ∷ [])
 
 -- "for each event refused `refused e r` (e counts events from 1, r the number)"
 unfoldable pub refusedLine : ℕ → ℕ → List ℕ
-refusedLine e r = refusedWord ++ row (e ∷ r ∷ [])
+refusedLine e r = bytes "refused" ++ row (e ∷ r ∷ [])
 
 -- "A list refusal prints `stopped b r` at the offset b of its field's tag"
 unfoldable pub stoppedLine : ℕ → ℕ → List ℕ
-stoppedLine b r = stoppedWord ++ row (b ∷ r ∷ [])
+stoppedLine b r = bytes "stopped" ++ row (b ∷ r ∷ [])
 
 -- "a line per cabinet: number, status, coordinator, group, task, counter, count of members"
 unfoldable pub nodeLine : ℕ → Node → List ℕ
@@ -44,7 +32,7 @@ nodeLine i c = decimal i ++ row (statusNumber (c .status) ∷ c .coordinator ∷
 
 -- "last `messages` and how many wait"
 unfoldable pub messagesLine : ℕ → List ℕ
-messagesLine k = messagesWord ++ row (k ∷ [])
+messagesLine k = bytes "messages" ++ row (k ∷ [])
 
 -- the lines of nodes, the first of which is node i
 unfoldable pub nodeLines : ℕ → List Node → List (List ℕ)

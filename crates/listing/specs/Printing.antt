@@ -5,7 +5,6 @@ use Prim.Native.Nat.{ℕ, _+_, _-_}
 use lib.ListN.{length, take, drop}
 use lib.Dec.{leb}
 use Rattle.model.specs.Pick.{pick}
-use Rattle.listing.specs.declared.Line.{Line}
 use Rattle.listing.specs.declared.Put.{Put}
 use Rattle.listing.specs.declared.Put.the-variants.{Next, NoRoom}
 
@@ -45,7 +44,3 @@ printed b p (x ∷ xs) = pick (room b p x) (printed (written b p x) (p + length 
 unfoldable pub joined : List (List ℕ) → List ℕ
 joined [] = []
 joined (x ∷ xs) = x ++ joined xs
-
--- the bytes of a line that is being made
-abbrev pub text : Line → List ℕ
-text l = take (l .len) (l .bytes)

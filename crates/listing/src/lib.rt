@@ -15,24 +15,13 @@ ghost use Rattle.model.specs.Answers.{statusNumber};
 ghost use Rattle.model.specs.State.{startingNode, view};
 ghost use Rattle.listing.specs.Decimal.{decimal};
 ghost use Rattle.listing.specs.Lines.{row, cabinetsLine, refusedLine, stoppedLine, nodeLine, messagesLine, tableLines};
-ghost use Rattle.listing.specs.Printing.{text, shown, printed};
+ghost use Rattle.listing.specs.Printing.{shown, written, printed};
+ghost use Rattle.listing.specs.Parts.{padded};
 
 // Written, and the offset after it; or refusal 15.
 pub enum Put {
     Next(usize),
     NoRoom,
-}
-
-// The digits of a number: those of bytes from start on.
-struct Digits {
-    bytes: [u8; 10],
-    start: usize,
-}
-
-// A line that is being made: the first len of bytes.
-struct Line {
-    bytes: [u8; 80],
-    len: usize,
 }
 
 // The last digit of x.
@@ -42,22 +31,50 @@ fn digit(x: u32) -> u8
     (48 + x % 10) as u8
 }
 
-// The digits of x, from the last to the first.
-fn digits_of(x: u32) -> Digits
-    ensures { λ r. ⌜ (drop (r .start) (r .bytes) ≡ decimal x) × (r .start ≤ 9) × (length (r .bytes) ≡ 10) ⌝ }
+// How many digits x has.
+fn digit_count(x: u32) -> usize
+    ensures { λ r. ⌜ (r ≡ length (decimal x)) × (r ≤ 10) ⌝ }
 {
-    let mut bytes = [48u8; 10];
-    let mut p: usize = 9;
-    let mut y = x;
-    bytes[9] = digit(y);
-    while 10 <= y {
-        y = y / 10;
-        p = p - 1;
-        bytes[p] = digit(y);
+    if x < 10 {
+        return 1;
     }
-    Digits {
-        bytes: bytes,
-        start: p,
+    if x < 100 {
+        return 2;
+    }
+    if x < 1000 {
+        return 3;
+    }
+    if x < 10000 {
+        return 4;
+    }
+    if x < 100000 {
+        return 5;
+    }
+    if x < 1000000 {
+        return 6;
+    }
+    if x < 10000000 {
+        return 7;
+    }
+    if x < 100000000 {
+        return 8;
+    }
+    if x < 1000000000 {
+        return 9;
+    }
+    10
+}
+
+// The last digits of x, as many as d has places.
+fn digits_into(d: &mut [u8], x: u32)
+    ensures { λ _. ⌜ now (d .exit) ≡ padded (length (now (d .entry))) x ⌝ }
+{
+    let mut p = d.len();
+    let mut y = x;
+    while 0 < p {
+        p -= 1;
+        d[p] = digit(y);
+        y = y / 10;
     }
 }
 
@@ -73,132 +90,111 @@ fn copy_in(out: &mut [u8], s: &[u8])
     }
 }
 
-// A line with nothing in it.
-fn no_line() -> Line
-    ensures { λ r. ⌜ (text r ≡ []) × (r .len ≡ 0) ⌝ }
+// The last k digits of x from p on.
+fn number_at(free: &mut [u8], p: usize, k: usize, x: u32)
+    requires { ⌜ (p + k ≤ length (now free)) × (k ≤ 10) ⌝ }
+    ensures { λ _. ⌜ (now (free .exit) ≡ written (now (free .entry)) p (padded k x)) × (length (now (free .exit)) ≡ length (now (free .entry))) ⌝ }
 {
-    Line {
-        bytes: [0u8; 80],
-        len: 0,
-    }
+    let e = p + k;
+    digits_into(&mut free[p..e], x);
 }
 
-// The line with w after it.
-fn with_word(l: Line, w: &[u8]) -> Line
-    requires { ⌜ l .len + length (now w) ≤ 80 ⌝ }
-    ensures { λ r. ⌜ (text r ≡ text l ++ now (w .entry)) × (r .len ≡ l .len + length (now (w .entry))) ⌝ }
+// A space from p on, and the last k digits of x behind it.
+fn field_at(free: &mut [u8], p: usize, k: usize, x: u32)
+    requires { ⌜ (p + 1 + k ≤ length (now free)) × (k ≤ 10) ⌝ }
+    ensures { λ _. ⌜ (now (free .exit) ≡ written (now (free .entry)) p (32 ∷ padded k x)) × (length (now (free .exit)) ≡ length (now (free .entry))) ⌝ }
 {
-    let at = l.len;
-    let mut bytes = l.bytes;
-    copy_in(&mut bytes[at..], w);
-    Line {
-        bytes: bytes,
-        len: at + w.len(),
-    }
+    free[p] = b' ';
+    number_at(free, p + 1, k, x)
 }
 
-// The line with x in decimal after it.
-fn with_number(l: Line, x: u32) -> Line
-    requires { ⌜ l .len + 10 ≤ 80 ⌝ }
-    ensures { λ r. ⌜ (text r ≡ text l ++ decimal x) × (r .len ≤ l .len + 10) ⌝ }
+// The line of a word, which has its space behind it, and a number, at the start of free, which is the free end of a buffer.
+fn write_one(free: &mut [u8], w: &[u8; 9], x: u32) -> Put
+    ensures { λ r. ⌜ shown r (now (free .exit)) ≡ printed (now (free .entry)) 0 ((now (w .entry) ++ (decimal x ++ row [])) ∷ []) ⌝ }
 {
-    let d = digits_of(x);
-    let start = d.start;
-    let bytes = d.bytes;
-    with_word(l, &bytes[start..])
-}
-
-// The line with a space and x in decimal after it.
-fn with_field(l: Line, x: u32) -> Line
-    requires { ⌜ l .len + 11 ≤ 80 ⌝ }
-    ensures { λ r. ⌜ (text r ≡ text l ++ (32 ∷ decimal x)) × (r .len ≤ l .len + 11) ⌝ }
-{
-    with_number(with_word(l, b" "), x)
-}
-
-// The line with its end.
-fn ended(l: Line) -> Line
-    requires { ⌜ l .len + 1 ≤ 80 ⌝ }
-    ensures { λ r. ⌜ (text r ≡ text l ++ (10 ∷ [])) × (r .len ≤ 80) ⌝ }
-{
-    with_word(l, b"\n")
-}
-
-// The line at the start of free, which is the free end of a buffer.
-fn write_line(free: &mut [u8], l: Line) -> Put
-    requires { ⌜ l .len ≤ 80 ⌝ }
-    ensures { λ r. ⌜ shown r (now (free .exit)) ≡ printed (now (free .entry)) 0 (text l ∷ []) ⌝ }
-{
-    let n = l.len;
-    let bytes = l.bytes;
-    if free.len() < n {
+    let word: &[u8] = w;
+    let a = digit_count(x);
+    let e = 9 + a;
+    if free.len() <= e {
         return Put::NoRoom;
     }
-    copy_in(free, &bytes[..n]);
-    Put::Next(n)
+    copy_in(free, word);
+    number_at(free, 9, a, x);
+    free[e] = b'\n';
+    Put::Next(e + 1)
 }
 
-// The line into buf from at on.
-fn put_line(buf: &mut [u8], at: usize, l: Line) -> Put
-    requires { ⌜ l .len ≤ 80 ⌝ }
-    ensures { λ r. ⌜ shown r (now (buf .exit)) ≡ printed (now (buf .entry)) at (text l ∷ []) ⌝ }
+// The same with two numbers.
+fn write_two(free: &mut [u8], w: &[u8; 8], x: u32, y: u32) -> Put
+    ensures { λ r. ⌜ shown r (now (free .exit)) ≡ printed (now (free .entry)) 0 ((now (w .entry) ++ (decimal x ++ row (y ∷ []))) ∷ []) ⌝ }
+{
+    let word: &[u8] = w;
+    let a = digit_count(x);
+    let b = digit_count(y);
+    let p = 8 + a;
+    let e = p + 1 + b;
+    if free.len() <= e {
+        return Put::NoRoom;
+    }
+    copy_in(free, word);
+    number_at(free, 8, a, x);
+    field_at(free, p, b, y);
+    free[e] = b'\n';
+    Put::Next(e + 1)
+}
+
+// The line of a word and a number into buf from at on.
+fn put_one(buf: &mut [u8], at: usize, w: &[u8; 9], x: u32) -> Put
+    ensures { λ r. ⌜ shown r (now (buf .exit)) ≡ printed (now (buf .entry)) at ((now (w .entry) ++ (decimal x ++ row [])) ∷ []) ⌝ }
 {
     if buf.len() < at {
         return Put::NoRoom;
     }
-    match write_line(&mut buf[at..], l) {
+    match write_one(&mut buf[at..], w, x) {
         Put::NoRoom => Put::NoRoom,
         Put::Next(n) => Put::Next(at + n),
     }
 }
 
-// The line of a word and a number.
-fn put_one(out: &mut [u8], at: usize, w: &[u8], x: u32) -> Put
-    requires { ⌜ length (now w) ≤ 10 ⌝ }
-    ensures { λ r. ⌜ shown r (now (out .exit)) ≡ printed (now (out .entry)) at ((now (w .entry) ++ row (x ∷ [])) ∷ []) ⌝ }
+// The line of a word and two numbers into buf from at on.
+fn put_two(buf: &mut [u8], at: usize, w: &[u8; 8], x: u32, y: u32) -> Put
+    ensures { λ r. ⌜ shown r (now (buf .exit)) ≡ printed (now (buf .entry)) at ((now (w .entry) ++ (decimal x ++ row (y ∷ []))) ∷ []) ⌝ }
 {
-    let l = with_word(no_line(), w);
-    let l1 = with_field(l, x);
-    put_line(out, at, ended(l1))
-}
-
-// The line of a word and two numbers.
-fn put_two(out: &mut [u8], at: usize, w: &[u8], x: u32, y: u32) -> Put
-    requires { ⌜ length (now w) ≤ 10 ⌝ }
-    ensures { λ r. ⌜ shown r (now (out .exit)) ≡ printed (now (out .entry)) at ((now (w .entry) ++ row (x ∷ y ∷ [])) ∷ []) ⌝ }
-{
-    let l = with_word(no_line(), w);
-    let l1 = with_field(l, x);
-    let l2 = with_field(l1, y);
-    put_line(out, at, ended(l2))
+    if buf.len() < at {
+        return Put::NoRoom;
+    }
+    match write_two(&mut buf[at..], w, x, y) {
+        Put::NoRoom => Put::NoRoom,
+        Put::Next(n) => Put::Next(at + n),
+    }
 }
 
 // How many nodes there are.
 pub fn put_cabinets(out: &mut [u8], at: usize, n: u8) -> Put
     ensures { λ r. ⌜ shown r (now (out .exit)) ≡ printed (now (out .entry)) at (cabinetsLine n ∷ []) ⌝ }
 {
-    put_one(out, at, b"cabinets", n as u32)
+    put_one(out, at, b"cabinets ", n as u32)
 }
 
 // Event e was refused by r.
 pub fn put_refused(out: &mut [u8], at: usize, e: u32, r: u8) -> Put
     ensures { λ a. ⌜ shown a (now (out .exit)) ≡ printed (now (out .entry)) at (refusedLine e r ∷ []) ⌝ }
 {
-    put_two(out, at, b"refused", e, r as u32)
+    put_two(out, at, b"refused ", e, r as u32)
 }
 
 // The list stopped at b by r.
 pub fn put_stopped(out: &mut [u8], at: usize, b: u32, r: u8) -> Put
     ensures { λ a. ⌜ shown a (now (out .exit)) ≡ printed (now (out .entry)) at (stoppedLine b r ∷ []) ⌝ }
 {
-    put_two(out, at, b"stopped", b, r as u32)
+    put_two(out, at, b"stopped ", b, r as u32)
 }
 
 // How many messages wait.
 pub fn put_messages(out: &mut [u8], at: usize, k: u32) -> Put
     ensures { λ r. ⌜ shown r (now (out .exit)) ≡ printed (now (out .entry)) at (messagesLine k ∷ []) ⌝ }
 {
-    put_one(out, at, b"messages", k)
+    put_one(out, at, b"messages ", k)
 }
 
 // The status as it is printed.
@@ -213,18 +209,58 @@ fn status_number(s: Status) -> u32
     }
 }
 
-// A number and six more, and the line's end.
-fn seven_numbers(a: u32, b: u32, c: u32, d: u32, e: u32, f: u32, g: u32) -> Line
-    ensures { λ r. ⌜ (text r ≡ decimal a ++ row (b ∷ c ∷ d ∷ e ∷ f ∷ g ∷ [])) × (r .len ≤ 80) ⌝ }
+// The line of seven numbers at the start of free, which is the free end of a buffer.
+fn write_seven(free: &mut [u8], a: u32, b: u32, c: u32, d: u32, e: u32, f: u32, g: u32) -> Put
+    ensures { λ r. ⌜ shown r (now (free .exit)) ≡ printed (now (free .entry)) 0 ((decimal a ++ row (b ∷ c ∷ d ∷ e ∷ f ∷ g ∷ [])) ∷ []) ⌝ }
 {
-    let l = with_number(no_line(), a);
-    let l1 = with_field(l, b);
-    let l2 = with_field(l1, c);
-    let l3 = with_field(l2, d);
-    let l4 = with_field(l3, e);
-    let l5 = with_field(l4, f);
-    let l6 = with_field(l5, g);
-    ended(l6)
+    let ka = digit_count(a);
+    let kb = digit_count(b);
+    let kc = digit_count(c);
+    let kd = digit_count(d);
+    let ke = digit_count(e);
+    let kf = digit_count(f);
+    let kg = digit_count(g);
+    let pc = ka + 1 + kb;
+    let pd = pc + 1 + kc;
+    let pe = pd + 1 + kd;
+    let pf = pe + 1 + ke;
+    let pg = pf + 1 + kf;
+    let end = pg + 1 + kg;
+    if free.len() <= end {
+        return Put::NoRoom;
+    }
+    number_at(free, 0, ka, a);
+    field_at(free, ka, kb, b);
+    field_at(free, pc, kc, c);
+    field_at(free, pd, kd, d);
+    field_at(free, pe, ke, e);
+    field_at(free, pf, kf, f);
+    field_at(free, pg, kg, g);
+    free[end] = b'\n';
+    Put::Next(end + 1)
+}
+
+// The line of seven numbers into buf from at on.
+fn put_seven(
+    buf: &mut [u8],
+    at: usize,
+    a: u32,
+    b: u32,
+    c: u32,
+    d: u32,
+    e: u32,
+    f: u32,
+    g: u32,
+) -> Put
+    ensures { λ r. ⌜ shown r (now (buf .exit)) ≡ printed (now (buf .entry)) at ((decimal a ++ row (b ∷ c ∷ d ∷ e ∷ f ∷ g ∷ [])) ∷ []) ⌝ }
+{
+    if buf.len() < at {
+        return Put::NoRoom;
+    }
+    match write_seven(&mut buf[at..], a, b, c, d, e, f, g) {
+        Put::NoRoom => Put::NoRoom,
+        Put::Next(n) => Put::Next(at + n),
+    }
 }
 
 // Node i.
@@ -234,7 +270,9 @@ pub fn put_node(out: &mut [u8], at: usize, i: u8, node: Node) -> Put
     let status = node.status;
     let group = node.group;
     let task = node.task;
-    let l = seven_numbers(
+    put_seven(
+        out,
+        at,
         i as u32,
         status_number(status),
         node.coordinator as u32,
@@ -242,8 +280,7 @@ pub fn put_node(out: &mut [u8], at: usize, i: u8, node: Node) -> Put
         task.number as u32,
         node.counter,
         node_set::count(node.members),
-    );
-    put_line(out, at, l)
+    )
 }
 
 // What stands for a record that the table does not have.

@@ -4,3 +4,4 @@ pub mod Behind
 pub mod NamedCases
 pub mod Mutants
 pub mod Turns
+pub mod Shows

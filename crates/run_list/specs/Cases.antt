@@ -1,34 +1,11 @@
 -- "Named cases": K1 to K13 jointly, with K1 and K10 also from the bytes of a list to the printed text.
 use Prim.Native.Nat.{ℕ}
-use Prim.Native.Char.{code}
-use Prim.Native.String.{String, [] as empty, _∷_ as _then_}
 use mathlib.Core.Path.{_≡_}
-use mathlib.Core.List.{List, [], _∷_, _++_}
+use mathlib.Core.List.{List, _++_}
 use Rattle.model.specs.Cases.{NamedCases}
+use Rattle.event_list.specs.Cases.{nodes, recover, check, finish, deliver}
+use Rattle.listing.specs.Ascii.{bytes}
 use Rattle.run_list.specs.Text.{textOf}
-
--- the bytes of a text in ASCII
-unfoldable pub bytes : String → List ℕ
-bytes empty = []
-bytes (c then s) = code c ∷ bytes s
-
--- the first field of n nodes
-abbrev pub nodes : ℕ → List ℕ
-nodes n = 0x01 ∷ 0 ∷ 1 ∷ n ∷ []
-
--- fields of events
-abbrev pub recover : ℕ → List ℕ
-recover i = 0x11 ∷ 0 ∷ 1 ∷ i ∷ []
-
-abbrev pub check : ℕ → List ℕ
-check i = 0x12 ∷ 0 ∷ 1 ∷ i ∷ []
-
-abbrev pub deliver : ℕ → ℕ → List ℕ
-deliver a b = 0x17 ∷ 0 ∷ 2 ∷ a ∷ b ∷ []
-
--- of a task below 256
-abbrev pub finish : ℕ → ℕ → List ℕ
-finish i t = 0x16 ∷ 0 ∷ 3 ∷ i ∷ 0 ∷ t ∷ []
 
 -- "Case K10. Events: recover 1, recover 2, check 2, deliver 2 1, deliver 1 2, .. finish 2 task 100, deliver 2 1, deliver 1 2, with n = 2"
 abbrev pub k10-list : List ℕ
@@ -36,7 +13,7 @@ k10-list =
     nodes 2
     ++ (recover 1 ++ (recover 2 ++ (check 2
     ++ (deliver 2 1 ++ (deliver 1 2 ++ (deliver 2 1 ++ (deliver 1 2 ++ (deliver 2 1 ++ (deliver 1 2
-    ++ (finish 2 100 ++ (deliver 2 1 ++ deliver 1 2)))))))))))
+    ++ (finish 2 0 100 ++ (deliver 2 1 ++ deliver 1 2)))))))))))
 
 pub record ListCases : Type 0 where
   -- K2 to K13, and the numbers behind K1 and K10

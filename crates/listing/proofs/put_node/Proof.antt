@@ -9,12 +9,11 @@ returns : tie.Need-returns
 unfolding nodeLine
 returns c =
     let p = c .before .before in
-    let l = p .before .before in
-    let n = l .before in
+    let n = p .before in
     let s = n .before .before .before in
-    p .put-line .ensures ∙ rw (l .seven-numbers .ensures .0, n .count .ensures, s .status-number .ensures)
+    p .put-seven .ensures ∙ rw (n .count .ensures, s .status-number .ensures)
 
 pub put-node-spec : {M : Type 1} → statement M
 put-node-spec =
     tie.close
-    (tie.spec (λ c κs. search needs) (λ c. search needs) (λ c. search needs) (λ c κs. search needs) (λ c κs. search needs) (λ c κs. search needs) (λ c. search needs) returns)
+    (tie.spec (λ c κs. search needs) (λ c. search needs) (λ c. search needs) (λ c κs. search needs) (λ c κs. search needs) (λ c. search needs) returns)

@@ -1,0 +1,250 @@
+-- Equal lines show equal numbers, and a table's bytes show one table only: fields end at the first byte that is no digit, lines at the first 0x0A.
+use Prim.Native.Nat.{ℕ, zero, suc, _+_, _-_, _^_, _≤_, _<_}
+use native.Mathlib.Omega.{arith}
+use mathlib.Core.Path.{_≡_, refl, sym, _∙_, ap}
+use mathlib.Core.Bool.{Bool, true, _&&_}
+use mathlib.Core.Logic.{⊎-elim}
+use mathlib.Core.List.{List, [], _∷_, _++_, append-cancel-left, head-eq-of-cons-eq, tail-eq-of-cons-eq}
+use lib.ListN.{length, getD}
+use lib.Dec.{ltb}
+use borrow.Author.Tests.{ltb-true}
+use Rattle.node_set.specs.NodeSet.{count}
+use Rattle.node_set.proofs.Laws.{count-within}
+use Rattle.model.specs.declared.Node.{Node}
+use Rattle.model.specs.declared.Status.{Status}
+use Rattle.model.specs.declared.Status.the-variants.{Down, Election, Reorganization, Normal}
+use Rattle.model.specs.Answers.{statusNumber}
+use Rattle.model.specs.Range.{nodeInRange}
+use Rattle.model.specs.State.{State, startingNode, every, inRange}
+use Rattle.model.proofs.Local.{both-left, both-right}
+use Rattle.model.proofs.Fields.{node-facts, in-range-size, in-range-nodes}
+use Rattle.listing.specs.Ascii.{bytes}
+use Rattle.listing.specs.Decimal.{decimal, valueOf}
+use Rattle.listing.specs.Lines.{row, cabinetsLine, refusedLine, stoppedLine, nodeLine, messagesLine, nodeLines, tableLines}
+use Rattle.listing.specs.Printing.{joined}
+use Rattle.listing.specs.Claims.{SameShown, SameTable, LinesDetermine, BufferKept}
+use Rattle.listing.proofs.Decimal.{decimal-each, decimal-denotes}
+use Rattle.listing.proofs.Printing.{printed-before, printed-long}
+use Rattle.listing.proofs.Lengths.{status-small}
+use Rattle.listing.proofs.Parted.{Each, Stops, each-map, each-append, each-at, parted, Inside, IsLine, line-after, joined-same}
+
+-- ── numbers ──
+
+abbrev Small : ℕ → Type 0
+Small x = x < 2 ^ 32
+
+abbrev Digit : ℕ → Type 0
+Digit b = (48 ≤ b) × (b ≤ 57)
+
+decimal-digits : (x : ℕ) → Each Digit (decimal x)
+decimal-digits x = each-at Digit (decimal x) (decimal-each x)
+
+pub decimal-same : (x y : ℕ) → Small x → Small y → decimal x ≡ decimal y → x ≡ y
+decimal-same x y h k e = sym (decimal-denotes x h .value) ∙ ap (λ (l : List ℕ). valueOf l) e ∙ decimal-denotes y k .value
+
+-- ── a row of numbers ──
+
+row-stops : (xs : List ℕ) → Stops Digit (row xs)
+unfolding row
+row-stops [] = λ d. omega arith
+row-stops (x ∷ xs) = λ d. omega arith
+
+number-row : (x y : ℕ) (xs ys : List ℕ) → Small x → Small y → decimal x ++ row xs ≡ decimal y ++ row ys → (x ≡ y) × (row xs ≡ row ys)
+number-row x y xs ys h k e =
+    let r = parted Digit (decimal x) (decimal y) (decimal-digits x) (decimal-digits y) (row-stops xs) (row-stops ys) e in
+    (decimal-same x y h k (r .0), r .1)
+
+row-same : (xs ys : List ℕ) → Each Small xs → Each Small ys → row xs ≡ row ys → xs ≡ ys
+unfolding row
+row-same [] [] f g e = refl
+row-same [] (y ∷ ys) f g e = let z = head-eq-of-cons-eq e in absurd (omega arith)
+row-same (x ∷ xs) [] f g e = let z = head-eq-of-cons-eq e in absurd (omega arith)
+row-same (x ∷ xs) (y ∷ ys) f g e =
+    let r = number-row x y xs ys (f .0) (g .0) (tail-eq-of-cons-eq e) in
+    let t = row-same xs ys (f .1) (g .1) (r .1) in
+    rw (r .0, t)
+
+word-same : (w xs ys : List ℕ) → Each Small xs → Each Small ys → w ++ row xs ≡ w ++ row ys → xs ≡ ys
+word-same w xs ys f g e = row-same xs ys f g (append-cancel-left w (row xs) (row ys) e)
+
+one-same : (w : List ℕ) {x y : ℕ} → Small x → Small y → w ++ row (x ∷ []) ≡ w ++ row (y ∷ []) → x ≡ y
+one-same w {x} {y} h k e = head-eq-of-cons-eq (word-same w (x ∷ []) (y ∷ []) (h, tt) (k, tt) e)
+
+two-same : (w : List ℕ) {x y u v : ℕ} → Small x → Small y → Small u → Small v → w ++ row (x ∷ y ∷ []) ≡ w ++ row (u ∷ v ∷ []) → (x ≡ u) × (y ≡ v)
+two-same w {x} {y} {u} {v} h k i j e =
+    let r = word-same w (x ∷ y ∷ []) (u ∷ v ∷ []) (h, (k, tt)) (i, (j, tt)) e in
+    (head-eq-of-cons-eq r, head-eq-of-cons-eq (tail-eq-of-cons-eq r))
+
+-- ── each is one line ──
+
+digits-inside : (x : ℕ) → Each Inside (decimal x)
+digits-inside x = each-map Digit Inside (λ b d e. omega arith) (decimal x) (decimal-digits x)
+
+-- all bytes are above 0x0A
+abbrev above : List ℕ → Bool
+above [] = true
+above (x ∷ l) = ltb 10 x && above l
+
+word-inside : (w : List ℕ) → above w ≡ true → Each Inside w
+word-inside [] e = tt
+word-inside (x ∷ w) e = let h = ltb-true 10 x (both-left _ (above w) e) in (λ f. omega arith, word-inside w (both-right (ltb 10 x) _ e))
+
+row-line : (xs : List ℕ) → IsLine (row xs)
+unfolding row
+row-line [] = record { body = []; ends = refl; inside = tt }
+row-line (x ∷ xs) = line-after (32 ∷ decimal x) (row xs) (λ e. omega arith, digits-inside x) (row-line xs)
+
+pub cabinets-line : (n : ℕ) → IsLine (cabinetsLine n)
+unfolding cabinetsLine
+cabinets-line n = line-after (bytes "cabinets") _ (word-inside (bytes "cabinets") refl) (row-line (n ∷ []))
+
+pub refused-line : (e r : ℕ) → IsLine (refusedLine e r)
+unfolding refusedLine
+refused-line e r = line-after (bytes "refused") _ (word-inside (bytes "refused") refl) (row-line (e ∷ r ∷ []))
+
+pub stopped-line : (b r : ℕ) → IsLine (stoppedLine b r)
+unfolding stoppedLine
+stopped-line b r = line-after (bytes "stopped") _ (word-inside (bytes "stopped") refl) (row-line (b ∷ r ∷ []))
+
+messages-line : (k : ℕ) → IsLine (messagesLine k)
+unfolding messagesLine
+messages-line k = line-after (bytes "messages") _ (word-inside (bytes "messages") refl) (row-line (k ∷ []))
+
+nodes-lines : (i : ℕ) (cs : List Node) → Each IsLine (nodeLines i cs)
+unfolding nodeLines nodeLine
+nodes-lines i [] = tt
+nodes-lines i (c ∷ cs) = (line-after (decimal i) _ (digits-inside i) (row-line _), nodes-lines (i + 1) cs)
+
+pub table-lines : (s : State) → Each IsLine (tableLines s)
+unfolding tableLines
+table-lines s = each-append IsLine (nodeLines 1 (s .nodes)) _ (nodes-lines 1 (s .nodes)) (messages-line (length (s .queue)), tt)
+
+-- ── a node ──
+
+status-same : (a b : Status) → statusNumber a ≡ statusNumber b → a ≡ b
+status-same a b e = sym (back a) ∙ ap (λ (n : ℕ). of n) e ∙ back b
+  where
+    of : ℕ → Status
+    of zero = Down
+    of (suc zero) = Election
+    of (suc (suc zero)) = Reorganization
+    of (suc (suc (suc n))) = Normal
+
+    back : (s : Status) → of (statusNumber s) ≡ s
+    back Down = refl
+    back Election = refl
+    back Reorganization = refl
+    back Normal = refl
+
+-- the numbers of a node's line behind its first
+abbrev numbers : Node → List ℕ
+numbers c = statusNumber (c .status) ∷ c .coordinator ∷ c .group .number ∷ c .task .number ∷ c .counter ∷ count (c .members) ∷ []
+
+numbers-small : (n i : ℕ) (c : Node) → n ≤ 16 → nodeInRange n i c ≡ true → Each Small (numbers c)
+numbers-small n i c h e =
+    let f = node-facts n i c e in
+    let s = status-small (c .status) in
+    let g : c .group .number ≤ 16777215 = ⊎-elim (λ e. omega arith) (λ e. omega arith) (f .group) in
+    let m = count-within n (c .members) (f .members .inside) in
+    (omega arith, (omega arith, (omega arith, (omega arith, (omega arith, (omega arith, tt))))))
+
+numbers-same : (c d : Node) → numbers c ≡ numbers d → SameShown c d
+numbers-same c d e =
+    let t1 = tail-eq-of-cons-eq e in
+    let t2 = tail-eq-of-cons-eq t1 in
+    let t3 = tail-eq-of-cons-eq t2 in
+    let t4 = tail-eq-of-cons-eq t3 in
+    let t5 = tail-eq-of-cons-eq t4 in
+    record {
+      status = status-same _ _ (head-eq-of-cons-eq e);
+      coordinator = head-eq-of-cons-eq t1;
+      group = head-eq-of-cons-eq t2;
+      task = head-eq-of-cons-eq t3;
+      counter = head-eq-of-cons-eq t4;
+      members = head-eq-of-cons-eq t5;
+    }
+
+node-same : (n i : ℕ) (c : Node) (m j : ℕ) (d : Node) → n ≤ 16 → i ≤ n → nodeInRange n i c ≡ true → m ≤ 16 → j ≤ m → nodeInRange m j d ≡ true → nodeLine i c ≡ nodeLine j d → (i ≡ j) × SameShown c d
+unfolding nodeLine
+node-same n i c m j d h k f h' k' g e =
+    let r = number-row i j (numbers c) (numbers d) (omega arith) (omega arith) e in
+    (r .0, numbers-same c d (row-same (numbers c) (numbers d) (numbers-small n i c h f) (numbers-small m j d h' g) (r .1)))
+
+-- ── a table ──
+
+-- A line's first byte tells its kind: 109 of `messages`, at most 57 of a node's.
+row-low : (xs : List ℕ) → getD (row xs) 0 0 ≤ 57
+unfolding row
+row-low [] = omega arith
+row-low (x ∷ xs) = omega arith
+
+pub node-low : (i : ℕ) (c : Node) → getD (nodeLine i c) 0 0 ≤ 57
+unfolding nodeLine
+node-low i c = first (decimal i) (decimal-digits i)
+  where
+    first : (a : List ℕ) → Each Digit a → getD (a ++ row (numbers c)) 0 0 ≤ 57
+    first [] f = row-low (numbers c)
+    first (x ∷ a) f = f .0 .1
+
+not-messages : (i : ℕ) (c : Node) (k : ℕ) → nodeLine i c ≡ messagesLine k → ⊥
+unfolding messagesLine
+not-messages i c k e = let h = node-low i c in let f = ap (λ (l : List ℕ). getD l 0 0) e in omega arith
+
+-- two lists of records of which their lines show the same
+record SameNodes (cs ds : List Node) (k j : ℕ) : Type 0 where
+  pub long : length cs ≡ length ds
+  pub at : (q : ℕ) → q < length cs → SameShown (getD cs q startingNode) (getD ds q startingNode)
+  pub waiting : k ≡ j
+
+more : (c d : Node) (cs ds : List Node) (k j : ℕ) → SameShown c d → SameNodes cs ds k j → SameNodes (c ∷ cs) (d ∷ ds) k j
+more c d cs ds k j h r = record { long = ap suc (r .long); at = at; waiting = r .waiting }
+  where
+    at : (q : ℕ) → q < length (c ∷ cs) → SameShown (getD (c ∷ cs) q startingNode) (getD (d ∷ ds) q startingNode)
+    at zero l = h
+    at (suc q) l = r .at q (omega arith)
+
+module _ (n m : ℕ) (h : n ≤ 16) (h' : m ≤ 16) (k j : ℕ) (u : Small k) (v : Small j) where
+  nodes-same : (i : ℕ) (cs ds : List Node) → i + length cs ≤ n + 1 → i + length ds ≤ m + 1 → every (nodeInRange n) i cs ≡ true → every (nodeInRange m) i ds ≡ true →
+      nodeLines i cs ++ (messagesLine k ∷ []) ≡ nodeLines i ds ++ (messagesLine j ∷ []) → SameNodes cs ds k j
+  unfolding nodeLines every messagesLine
+  nodes-same i [] [] a b f g e = record { long = refl; at = λ q l. absurd (omega arith); waiting = one-same (bytes "messages") u v (head-eq-of-cons-eq e) }
+  nodes-same i [] (d ∷ ds) a b f g e = absurd (not-messages i d k (sym (head-eq-of-cons-eq e)))
+  nodes-same i (c ∷ cs) [] a b f g e = absurd (not-messages i c j (head-eq-of-cons-eq e))
+  nodes-same i (c ∷ cs) (d ∷ ds) a b f g e =
+      more c d cs ds k j
+      (node-same n i c m i d h (omega arith) (both-left _ _ f) h' (omega arith) (both-left _ _ g) (head-eq-of-cons-eq e) .1)
+      (nodes-same (i + 1) cs ds (omega arith) (omega arith) (both-right (nodeInRange n i c) _ f) (both-right (nodeInRange m i d) _ g) (tail-eq-of-cons-eq e))
+
+pub table-same : (s t : State) → inRange s ≡ true → inRange t ≡ true → tableLines s ≡ tableLines t → SameTable s t
+unfolding tableLines
+table-same s t f g e =
+    let a = in-range-size s f in
+    let b = in-range-size t g in
+    let r =
+    nodes-same (s .n) (t .n) (a .1) (b .1) (length (s .queue)) (length (t .queue)) (omega arith) (omega arith) 1 (s .nodes) (t .nodes) (omega arith) (omega arith)
+    (in-range-nodes s f) (in-range-nodes t g) e
+    in
+    record { n = omega arith; node = λ i l o. r .at (i - 1) (omega arith); waiting = r .waiting }
+
+-- ── the claims ──
+
+pub lines-determine : LinesDetermine
+unfolding cabinetsLine refusedLine stoppedLine messagesLine
+lines-determine =
+    record {
+      cabinets = λ n m h k. one-same (bytes "cabinets") h k;
+      refused = λ e r f q h i j k. two-same (bytes "refused") h i j k;
+      stopped = λ a r b q h i j k. two-same (bytes "stopped") h i j k;
+      messages = λ k j h i. one-same (bytes "messages") h i;
+      node = node-same;
+      table = λ s t f g e. table-same s t f g (joined-same (tableLines s) (tableLines t) (table-lines s) (table-lines t) e);
+      whole = whole;
+    }
+  where
+    whole : (n m : ℕ) (s t : State) → Small n → Small m → inRange s ≡ true → inRange t ≡ true → joined (cabinetsLine n ∷ tableLines s) ≡ joined (cabinetsLine m ∷ tableLines t) → (n ≡ m) × SameTable s t
+    whole n m s t h k f g e =
+        let r = joined-same (cabinetsLine n ∷ tableLines s) (cabinetsLine m ∷ tableLines t) (cabinets-line n, table-lines s) (cabinets-line m, table-lines t) e in
+        (one-same (bytes "cabinets") h k (head-eq-of-cons-eq r), table-same s t f g (tail-eq-of-cons-eq r))
+
+pub buffer-kept : BufferKept
+buffer-kept = record { before = printed-before; long = printed-long }

@@ -1,0 +1,53 @@
+-- What is claimed of the printed lines. The proofs are in proofs/Claims.
+use Prim.Native.Nat.{ℕ, _^_, _≤_, _<_}
+use mathlib.Core.Path.{_≡_}
+use mathlib.Core.Bool.{true}
+use mathlib.Core.List.{List, _∷_}
+use lib.ListN.{length, take}
+use Rattle.node_set.specs.NodeSet.{count}
+use Rattle.model.specs.declared.Node.{Node}
+use Rattle.model.specs.Range.{nodeInRange}
+use Rattle.model.specs.State.{State, nodeAt, inRange}
+use Rattle.listing.specs.Decimal.{decimal, Denotes}
+use Rattle.listing.specs.Lines.{cabinetsLine, refusedLine, stoppedLine, nodeLine, messagesLine, tableLines}
+use Rattle.listing.specs.Printing.{printed, joined}
+
+-- "numbers have no leading zeros": the digits of every number of 32 bits denote it
+abbrev pub DecimalDenotes : Type 0
+DecimalDenotes = (x : ℕ) → x < 2 ^ 32 → Denotes (decimal x) x
+
+-- Whatever lines are printed from an offset on, with room or without:
+pub record BufferKept : Type 0 where
+  -- "bytes before the offset unchanged"
+  pub before : (b : List ℕ) (p : ℕ) (xs : List (List ℕ)) → take p (printed b p xs .bytes) ≡ take p b
+  -- and there are as many bytes as before
+  pub long : (b : List ℕ) (p : ℕ) (xs : List (List ℕ)) → length (printed b p xs .bytes) ≡ length b
+
+-- of two nodes, all that their lines show behind the number of the node is equal
+pub record SameShown (c d : Node) : Type 0 where
+  pub status : c .status ≡ d .status
+  pub coordinator : c .coordinator ≡ d .coordinator
+  pub group : c .group .number ≡ d .group .number
+  pub task : c .task .number ≡ d .task .number
+  pub counter : c .counter ≡ d .counter
+  pub members : count (c .members) ≡ count (d .members)
+
+-- of two tables, all that their lines show is equal
+pub record SameTable (s t : State) : Type 0 where
+  pub n : s .n ≡ t .n
+  pub node : (i : ℕ) → 1 ≤ i → i ≤ s .n → SameShown (nodeAt s i) (nodeAt t i)
+  pub waiting : length (s .queue) ≡ length (t .queue)
+
+-- Equal lines have equal numbers, and from the bytes of a table's lines all that they show can be told.
+pub record LinesDetermine : Type 0 where
+  pub cabinets : (n m : ℕ) → n < 2 ^ 32 → m < 2 ^ 32 → cabinetsLine n ≡ cabinetsLine m → n ≡ m
+  pub refused : (e r f q : ℕ) → e < 2 ^ 32 → r < 2 ^ 32 → f < 2 ^ 32 → q < 2 ^ 32 → refusedLine e r ≡ refusedLine f q → (e ≡ f) × (r ≡ q)
+  pub stopped : (a r b q : ℕ) → a < 2 ^ 32 → r < 2 ^ 32 → b < 2 ^ 32 → q < 2 ^ 32 → stoppedLine a r ≡ stoppedLine b q → (a ≡ b) × (r ≡ q)
+  pub messages : (k j : ℕ) → k < 2 ^ 32 → j < 2 ^ 32 → messagesLine k ≡ messagesLine j → k ≡ j
+  pub node : (n i : ℕ) (c : Node) (m j : ℕ) (d : Node) → n ≤ 16 → i ≤ n → nodeInRange n i c ≡ true → m ≤ 16 → j ≤ m → nodeInRange m j d ≡ true
+      → nodeLine i c ≡ nodeLine j d → (i ≡ j) × SameShown c d
+  -- the lines after one another, as bytes
+  pub table : (s t : State) → inRange s ≡ true → inRange t ≡ true → joined (tableLines s) ≡ joined (tableLines t) → SameTable s t
+  -- and behind `cabinets n`
+  pub whole : (n m : ℕ) (s t : State) → n < 2 ^ 32 → m < 2 ^ 32 → inRange s ≡ true → inRange t ≡ true
+      → joined (cabinetsLine n ∷ tableLines s) ≡ joined (cabinetsLine m ∷ tableLines t) → (n ≡ m) × SameTable s t
