@@ -19,7 +19,6 @@ use Rattle.model.specs.Range.{activityInRange, nodeInRange, messageInRange}
 use Rattle.model.specs.State.{State, startingNode, start, nodeAt, waits, oldest, withoutOldest, every, inRange, firstOf, view}
 use Rattle.model.specs.Step.{actor, reactionTo, remaining, effect, forms, isCalling, isSending, grounds, judged, Result, refused, accepted, step, kept, after, runFrom, run}
 use Rattle.model.specs.Answers.{answerNumber, resultNumber}
-use Rattle.model.specs.Cases.{pair}
 use Rattle.model.specs.Claims.{isActive}
 use Rattle.model.proofs.Judged.{by-step}
 use Rattle.model.proofs.Local.{both-right}
@@ -38,20 +37,20 @@ use Rattle.model.specs.declared.Outcome.{Outcome}
 use Rattle.model.specs.declared.Answer.the-variants.{Accepted}
 use Rattle.machine.specs.Stepped.{Stepped, startingTable}
 use Rattle.machine.specs.Folded.{Folded}
-use Rattle.machine.specs.Mutants.{tableOf, merging, handing, invitation, asking, invites, Moves, NoMutant, NoWrongTurning}
+use Rattle.machine.specs.Mutants.{tableOf, merging, handing, invited, asking, invites, Moves, NoMutant, NoWrongTurning}
 use Rattle.machine.proofs.Laws.{start-is}
-use Rattle.machine.proofs.Runs.{folded-runs, accepted-alike}
+use Rattle.machine.proofs.Runs.{accepted-alike, code-runs}
 
 -- ── on concrete tables, by computation ──
 
 record Computed : Type 0 where
   again : nodeAt (runFrom (view (startingTable 2)) (Recover 1 ∷ Crash 1 ∷ Recover 1 ∷ [])) 1 .group .number ≡ 32
   members : invites (nodeAt (after (view (tableOf merging)) (Tick 1)) 1 .activity) 2 ≡ true
-  task : nodeAt (after (view (tableOf (pair Normal Idle (invitation ∷ [])))) (Deliver 1 2)) 2 .task .number ≡ 100
-  status : nodeAt (after (view (tableOf (pair Normal Idle (invitation ∷ [])))) (Deliver 1 2)) 2 .status ≡ Election
+  task : nodeAt (after (view (tableOf invited)) (Deliver 1 2)) 2 .task .number ≡ 100
+  status : nodeAt (after (view (tableOf invited)) (Deliver 1 2)) 2 .status ≡ Election
   handed : nodeAt (after (view (tableOf handing)) (Expire 3)) 3 .activity ≡ Idle
-  older : nodeAt (after (view (tableOf (pair Normal (Asking 1 0) (replies 1 2 (record { number = 1 }) true ∷ [])))) (Deliver 1 2)) 2 ≡ nodeAt (pair Normal (Asking 1 0) []) 2
-  other : nodeAt (after (view (tableOf asking)) (Deliver 3 1)) 1 .activity ≡ Asking 3 2
+  older : nodeAt (after (view (tableOf (asking (replies 2 1 (record { number = 4 }) true ∷ [])))) (Deliver 2 1)) 1 ≡ nodeAt (asking []) 1
+  other : nodeAt (after (view (tableOf (asking (replies 3 1 (record { number = 5 }) true ∷ [])))) (Deliver 3 1)) 1 .activity ≡ Asking 3 2
   -- node 2 after node 1's recovery
   ranged : inRange (after (view (startingTable 2)) (Recover 1)) ≡ true
   two : after (view (startingTable 2)) (Recover 1) .n ≡ 2
@@ -89,13 +88,13 @@ pub no-wrong-turning : NoWrongTurning
 no-wrong-turning =
     record {
       clears-counter = λ t i {r} x h. h (ap (λ (s : State). nodeAt s i .counter) (x .table) ∙ crash-keeps (view t) i);
-      group-returns = λ {u} f h. let z : _≡_ {A = ℕ} 16 32 = sym h ∙ ap (λ (s : State). nodeAt s 1 .group .number) (folded-runs f) ∙ computed .again in omega arith;
+      group-returns = λ {u} f h. let z : _≡_ {A = ℕ} 16 32 = sym h ∙ ap (λ (s : State). nodeAt s 1 .group .number) (code-runs .from-any _ _ _ f) ∙ computed .again in omega arith;
       empties-members = λ {r} x h. true≢false (sym (computed .members) ∙ sym (ap (λ (s : State). invites (nodeAt s 1 .activity) 2) (x .table)) ∙ h);
       takes-task = λ {r} x h. h (ap (λ (s : State). nodeAt s 2 .task .number) (x .table) ∙ computed .task);
       active-early = λ {r} x h. true≢false (sym h ∙ ap (λ (s : State). isActive (nodeAt s 2 .status)) (x .table) ∙ ap isActive (computed .status));
       hands-on = λ t i rest now a {r} x h. h (ap (λ (s : State). s .queue) (x .table) ∙ expire-silent (view t) i rest now a);
       hands-later = λ {r} x h. h (ap (λ (s : State). nodeAt s 3 .activity) (x .table) ∙ computed .handed);
-      takes-older = λ {r} x h. h (ap (λ (s : State). nodeAt s 2) (x .table) ∙ computed .older);
+      takes-older = λ {r} x h. h (ap (λ (s : State). nodeAt s 1) (x .table) ∙ computed .older);
       drops-other = λ {r} x h. asked-apart (sym (computed .other) ∙ sym (ap (λ (s : State). nodeAt s 1 .activity) (x .table)) ∙ h);
     }
 
@@ -178,6 +177,15 @@ first-small n e =
     end : (a : Bool) (x y : ℕ) → (a && eqb x y) ≡ true → x ≡ 0 → 1 ≤ y → ⊥
     end a x y q z h = let v = eqb-true x y (both-right a (eqb x y) q) in omega arith
 
+-- a run keeps the number of nodes
+run-keeps : (s : State) (es : List Event) → runFrom s es .n ≡ s .n
+unfolding runFrom effect
+run-keeps s [] = refl
+run-keeps s (e ∷ es) = run-keeps (after s e) es ∙ by-step (λ (q : Result). kept s q .n ≡ s .n) s e (λ x. refl) (λ c. refl)
+
+run-nodes : (n : ℕ) (es : List Event) → run n es .n ≡ n
+run-nodes n es = run-keeps (start n) es
+
 pub no-mutant : NoMutant
 no-mutant =
     record {
@@ -191,5 +199,9 @@ no-mutant =
           recovering (r .table) 2 (ap inRange (x .table) ∙ computed .ranged) (omega arith) (omega (arith, ap (λ (s : State). s .n) (x .table) ∙ computed .two))
           (ap (λ (s : State). isDown (nodeAt s 2 .status)) (x .table) ∙ ap (λ (c : Node). isDown (c .status)) (computed .second))
           (λ e. let z : _≡_ {A = ℕ} 0 counterEnd = sym (ap (λ (s : State). nodeAt s 2 .counter) (x .table) ∙ ap (λ (c : Node). c .counter) (computed .second)) ∙ e in omega arith);
+      late-crash-moves = λ n l h {es} {t} c i low high.
+          crashing t i (code-runs .in-range n l h es t c) low (omega (arith, high, ap (λ (s : State). s .n) (code-runs .from-start n es t c) ∙ run-nodes n es));
+      late-recovery-moves = λ n l h {es} {t} c i low high.
+          recovering t i (code-runs .in-range n l h es t c) low (omega (arith, high, ap (λ (s : State). s .n) (code-runs .from-start n es t c) ∙ run-nodes n es));
       no-cry = λ n e {r} x h. first-small n e (rw (x .answer ∙ ap (λ (s : State). resultNumber (step s e)) (start-is n)) at h);
     }

@@ -12,7 +12,6 @@ use Rattle.model.specs.Limits.{nodeLimit, queueLimit, counterEnd}
 use Rattle.model.specs.Node.{isDown, replies}
 use Rattle.model.specs.State.{State, startingNode, nodeAt, noMessage, oldest, inRange, view}
 use Rattle.model.specs.Answers.{answerNumber}
-use Rattle.model.specs.Cases.{pair}
 use Rattle.model.specs.Claims.{isActive}
 use Rattle.model.specs.declared.Status.{Status}
 use Rattle.model.specs.declared.Status.the-variants.{Down, Election, Reorganization, Normal}
@@ -27,6 +26,7 @@ use Rattle.model.specs.declared.Outcome.{Outcome}
 use Rattle.model.specs.declared.Answer.the-variants.{Accepted}
 use Rattle.machine.specs.Stepped.{Stepped, startingTable}
 use Rattle.machine.specs.Folded.{Folded}
+use Rattle.machine.specs.Claims.{Reached}
 
 -- ── tables to try them on ──
 
@@ -80,12 +80,20 @@ invitation = record {
   yes = false;
 }
 
--- node 1 asks node 2 by its call 5, and a yes to call 5 waits that node 3 sent
-abbrev pub asking : State
-asking = record {
+-- node 2 leads node 1, and is invited
+abbrev pub invited : State
+invited = record {
+  n = 2;
+  nodes = node Normal 2 32 1 1 0 3 Idle ∷ node Normal 2 33 2 100 1 2 Idle ∷ [];
+  queue = invitation ∷ [];
+}
+
+-- node 1 asks node 2 by its call 5
+abbrev pub asking : List Message → State
+asking q = record {
   n = 3;
   nodes = node Normal 1 16 1 1 0 5 (Asking 2 0) ∷ node Normal 1 17 2 2 0 0 Idle ∷ node Normal 1 18 3 3 0 0 Idle ∷ [];
-  queue = replies 3 1 (record { number = 5 }) true ∷ [];
+  queue = q;
 }
 
 -- whom an inviting node invites: now, or still
@@ -116,8 +124,12 @@ pub record NoMutant : Type 0 where
   pub crash-moves : (t : Table) (i : ℕ) → inRange (view t) ≡ true → 1 ≤ i → i ≤ t .n → isDown (nodeAt (view t) i .status) ≡ false → Moves t (Crash i)
   pub recovery-moves : (t : Table) (i : ℕ) → inRange (view t) ≡ true → 1 ≤ i → i ≤ t .n → isDown (nodeAt (view t) i .status) ≡ true
       → (nodeAt (view t) i .counter ≡ counterEnd → ⊥) → Moves t (Recover i)
-  -- so at the second event
+  -- so at the second event, and so after any events
   pub second-moves : {r : Outcome} → Stepped (startingTable 2) (Recover 1) r → Moves (r .table) (Recover 2)
+  pub late-crash-moves : (n : ℕ) → 1 ≤ n → n ≤ nodeLimit → {es : List Event} {t : Table} → Reached Folded n es t
+      → (i : ℕ) → 1 ≤ i → i ≤ n → isDown (nodeAt (view t) i .status) ≡ false → Moves t (Crash i)
+  pub late-recovery-moves : (n : ℕ) → 1 ≤ n → n ≤ nodeLimit → {es : List Event} {t : Table} → Reached Folded n es t
+      → (i : ℕ) → 1 ≤ i → i ≤ n → isDown (nodeAt (view t) i .status) ≡ true → (nodeAt (view t) i .counter ≡ counterEnd → ⊥) → Moves t (Recover i)
   -- "one that cries 12, 13 or 14 at the first event": at any first event, for any n
   pub no-cry : (n : ℕ) (e : Event) {r : Outcome} → Stepped (startingTable n) e r → 12 ≤ answerNumber (r .answer) → ⊥
 
@@ -131,14 +143,15 @@ pub record NoWrongTurning : Type 0 where
   -- "Emptying members before they are set aside: old members get no invitation": node 2 gets one
   pub empties-members : {r : Outcome} → Stepped (tableOf merging) (Tick 1) r → invites (nodeAt (view (r .table)) 1 .activity) 2 ≡ false → ⊥
   -- "Taking the task with the invitation": node 2 keeps its task 100, and is not Normal, nor in Reorganization, in the new group
-  pub takes-task : {r : Outcome} → Stepped (tableOf (pair Normal Idle (invitation ∷ []))) (Deliver 1 2) r → (nodeAt (view (r .table)) 2 .task .number ≡ 100 → ⊥) → ⊥
-  pub active-early : {r : Outcome} → Stepped (tableOf (pair Normal Idle (invitation ∷ []))) (Deliver 1 2) r → isActive (nodeAt (view (r .table)) 2 .status) ≡ true → ⊥
+  pub takes-task : {r : Outcome} → Stepped (tableOf invited) (Deliver 1 2) r → (nodeAt (view (r .table)) 2 .task .number ≡ 100 → ⊥) → ⊥
+  pub active-early : {r : Outcome} → Stepped (tableOf invited) (Deliver 1 2) r → isActive (nodeAt (view (r .table)) 2 .status) ≡ true → ⊥
   -- "Sending Ready on after a recovery, under the new group": when the call of a handing node expires, nothing is sent, in no table
   pub hands-on : (t : Table) (i rest now : ℕ) → nodeAt (view t) i .activity ≡ Handing rest now → {r : Outcome} → Stepped t (Expire i) r → (view (r .table) .queue ≡ view t .queue → ⊥) → ⊥
   -- nor later: node 3 has no open call then
   pub hands-later : {r : Outcome} → Stepped (tableOf handing) (Expire 3) r → (nodeAt (view (r .table)) 3 .activity ≡ Idle → ⊥) → ⊥
   -- "Matching a reply by its sender instead of its call number": an older reply of the node asked changes nothing (K9)
-  pub takes-older : {r : Outcome} → Stepped (tableOf (pair Normal (Asking 1 0) (replies 1 2 (record { number = 1 }) true ∷ []))) (Deliver 1 2) r
-      → (nodeAt (view (r .table)) 2 ≡ nodeAt (pair Normal (Asking 1 0) []) 2 → ⊥) → ⊥
+  pub takes-older : {r : Outcome} → Stepped (tableOf (asking (replies 2 1 (record { number = 4 }) true ∷ []))) (Deliver 2 1) r
+      → (nodeAt (view (r .table)) 1 ≡ nodeAt (asking []) 1 → ⊥) → ⊥
   -- and a reply with the open call's number is taken, whoever sent it
-  pub drops-other : {r : Outcome} → Stepped (tableOf asking) (Deliver 3 1) r → nodeAt (view (r .table)) 1 .activity ≡ Asking 2 0 → ⊥
+  pub drops-other : {r : Outcome} → Stepped (tableOf (asking (replies 3 1 (record { number = 5 }) true ∷ []))) (Deliver 3 1) r
+      → nodeAt (view (r .table)) 1 .activity ≡ Asking 2 0 → ⊥
