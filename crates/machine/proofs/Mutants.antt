@@ -51,6 +51,7 @@ record Computed : Type 0 where
   handed : nodeAt (after (view (tableOf handing)) (Expire 3)) 3 .activity ≡ Idle
   older : nodeAt (after (view (tableOf (asking (replies 2 1 (record { number = 4 }) true ∷ [])))) (Deliver 2 1)) 1 ≡ nodeAt (asking []) 1
   other : nodeAt (after (view (tableOf (asking (replies 3 1 (record { number = 5 }) true ∷ [])))) (Deliver 3 1)) 1 .activity ≡ Asking 3 2
+  away : resultNumber (step (view (startingTable 2)) (Crash 1)) ≡ 9
   -- node 2 after node 1's recovery
   ranged : inRange (after (view (startingTable 2)) (Recover 1)) ≡ true
   two : after (view (startingTable 2)) (Recover 1) .n ≡ 2
@@ -58,7 +59,7 @@ record Computed : Type 0 where
 
 computed : Computed
 unfolding pick onesIn ones leadingZeros trailingZeros bitAnd bitOr inviteNext merges handNext finishes forwardNext askedAll askAt askAfter checked timedOut ticked expired resumed onAreYouCoordinator onAreYouThere onInvitation onAccept onReady onReply received react activityInRange nodeInRange messageInRange waits oldest withoutOldest every inRange reactionTo remaining effect grounds judged step runFrom firstOf
-computed = record { again = refl; members = refl; task = refl; status = refl; handed = refl; older = refl; other = refl; ranged = refl; two = refl; second = refl }
+computed = record { again = refl; members = refl; task = refl; status = refl; handed = refl; older = refl; other = refl; away = refl; ranged = refl; two = refl; second = refl }
 
 asked-apart : Asking 3 2 ≡ Asking 2 0 → ⊥
 asked-apart e = let z : _≡_ {A = ℕ} 3 2 = cc in omega arith
@@ -203,5 +204,6 @@ no-mutant =
           crashing t i (code-runs .in-range n l h es t c) low (omega (arith, high, ap (λ (s : State). s .n) (code-runs .from-start n es t c) ∙ run-nodes n es));
       late-recovery-moves = λ n l h {es} {t} c i low high.
           recovering t i (code-runs .in-range n l h es t c) low (omega (arith, high, ap (λ (s : State). s .n) (code-runs .from-start n es t c) ∙ run-nodes n es));
+      accepts-all = λ {r} x h. let z : _≡_ {A = ℕ} 0 9 = sym (ap answerNumber h) ∙ x .answer ∙ computed .away in omega arith;
       no-cry = λ n e {r} x h. first-small n e (rw (x .answer ∙ ap (λ (s : State). resultNumber (step s e)) (start-is n)) at h);
     }

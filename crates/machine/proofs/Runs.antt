@@ -4,6 +4,7 @@ use native.Mathlib.Omega.{arith}
 use mathlib.Core.Path.{_≡_, refl, sym, _∙_, ap, subst}
 use mathlib.Core.List.{List, [], _∷_, _++_}
 use mathlib.Core.Bool.{Bool, true, false}
+use lib.Dec.{eqb}
 use Rattle.model.specs.Limits.{nodeLimit}
 use Rattle.model.specs.Pick.{pick, by-test}
 use Rattle.model.specs.State.{State, nodeAt, inRange, view}
@@ -23,7 +24,7 @@ use Rattle.model.specs.declared.Answer.{Answer}
 use Rattle.model.specs.declared.Answer.the-variants.{Accepted, NotInRange, WrongNumber, WrongTask, WrongStatus, WrongActivity, NoMessage, CounterAtEnd, CallsAtEnd, QueueFull}
 use Rattle.machine.specs.Stepped.{Stepped}
 use Rattle.machine.specs.Folded.{Folded, none, more}
-use Rattle.machine.specs.Claims.{AcceptedAlike, Chain, Reached, CodeRuns, CodeFixes}
+use Rattle.machine.specs.Claims.{AcceptedAlike, SteppedAlike, Chain, Reached, CodeRuns, CodeFixes}
 
 -- ── the tables of a chain are those of the model's run ──
 
@@ -64,21 +65,43 @@ step-not-zero s e =
     P : Result → Type 0
     P r = r ≡ refused 0 → ⊥
 
--- 0 is the number of Accepted alone
-zero-is : (a : Answer) → answerNumber a ≡ 0 → a ≡ Accepted
-zero-is Accepted e = refl
-zero-is NotInRange e = absurd (omega (arith, e))
-zero-is WrongNumber e = absurd (omega (arith, e))
-zero-is WrongTask e = absurd (omega (arith, e))
-zero-is WrongStatus e = absurd (omega (arith, e))
-zero-is WrongActivity e = absurd (omega (arith, e))
-zero-is NoMessage e = absurd (omega (arith, e))
-zero-is CounterAtEnd e = absurd (omega (arith, e))
-zero-is CallsAtEnd e = absurd (omega (arith, e))
-zero-is QueueFull e = absurd (omega (arith, e))
+-- an answer is known by its number
+answerOf : ℕ → Answer
+answerOf r =
+    pick (eqb r 1) NotInRange
+    (pick (eqb r 7) WrongNumber
+    (pick (eqb r 8) WrongTask
+    (pick (eqb r 9) WrongStatus
+    (pick (eqb r 10) WrongActivity
+    (pick (eqb r 11) NoMessage
+    (pick (eqb r 12) CounterAtEnd
+    (pick (eqb r 13) CallsAtEnd
+    (pick (eqb r 14) QueueFull
+    Accepted))))))))
+
+answer-back : (a : Answer) → answerOf (answerNumber a) ≡ a
+unfolding answerOf pick
+answer-back Accepted = refl
+answer-back NotInRange = refl
+answer-back WrongNumber = refl
+answer-back WrongTask = refl
+answer-back WrongStatus = refl
+answer-back WrongActivity = refl
+answer-back NoMessage = refl
+answer-back CounterAtEnd = refl
+answer-back CallsAtEnd = refl
+answer-back QueueFull = refl
+
+answer-known : (a b : Answer) → answerNumber a ≡ answerNumber b → a ≡ b
+answer-known a b e = sym (answer-back a) ∙ ap answerOf e ∙ answer-back b
+
+pub stepped-alike : {t : Table} {e : Event} {r q : Outcome} → Stepped t e r → Stepped t e q → SteppedAlike r q
+stepped-alike {r = r} {q = q} x y =
+    let z = answer-known (r .answer) (q .answer) (x .answer ∙ sym (y .answer)) in
+    record { answer = z; table = x .table ∙ sym (y .table); same = λ h. x .same h ∙ sym (y .same (λ a. h (z ∙ a))) }
 
 pub accepted-alike : {t : Table} {e : Event} {r : Outcome} → Stepped t e r → AcceptedAlike t e r
-accepted-alike {t} {e} {r} x = record { model-accepts = by (step (view t) e) refl; code-accepts = λ u k i. zero-is (r .answer) (x .answer ∙ ap resultNumber i) }
+accepted-alike {t} {e} {r} x = record { model-accepts = by (step (view t) e) refl; code-accepts = λ u k i. answer-known (r .answer) Accepted (x .answer ∙ ap resultNumber i) }
   where
     by : (q : Result) → step (view t) e ≡ q → r .answer ≡ Accepted → step (view t) e ≡ accepted (view (r .table)) (reactionTo (view t) e .mark)
     by (refused k) i a =

@@ -25,6 +25,13 @@ pub record AcceptedAlike (t : Table) (e : Event) (r : Outcome) : Type 0 where
   pub model-accepts : r .answer ≡ Accepted → step (view t) e ≡ accepted (view (r .table)) (reactionTo (view t) e .mark)
   pub code-accepts : (u : State) (k : Mark) → step (view t) e ≡ accepted u k → r .answer ≡ Accepted
 
+-- There is one answer and one table that meet `Stepped`: of any two outcomes that meet it for the same table and event.
+pub record SteppedAlike (r q : Outcome) : Type 0 where
+  pub answer : r .answer ≡ q .answer
+  pub table : view (r .table) ≡ view (q .table)
+  -- and all places, after a refusal
+  pub same : (r .answer ≡ Accepted → ⊥) → r .table ≡ q .table
+
 -- a group is formed in e, on the table t: e's node recovers or merges in it
 abbrev pub isForming : Table → Event → Bool
 isForming t e = forms (reactionTo (view t) e .mark)

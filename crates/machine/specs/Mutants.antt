@@ -130,6 +130,8 @@ pub record NoMutant : Type 0 where
       → (i : ℕ) → 1 ≤ i → i ≤ n → isDown (nodeAt (view t) i .status) ≡ false → Moves t (Crash i)
   pub late-recovery-moves : (n : ℕ) → 1 ≤ n → n ≤ nodeLimit → {es : List Event} {t : Table} → Reached Folded n es t
       → (i : ℕ) → 1 ≤ i → i ≤ n → isDown (nodeAt (view t) i .status) ≡ true → (nodeAt (view t) i .counter ≡ counterEnd → ⊥) → Moves t (Recover i)
+  -- nor one that accepts every event: a node that is Down does not crash
+  pub accepts-all : {r : Outcome} → Stepped (startingTable 2) (Crash 1) r → r .answer ≡ Accepted → ⊥
   -- "one that cries 12, 13 or 14 at the first event": at any first event, for any n
   pub no-cry : (n : ℕ) (e : Event) {r : Outcome} → Stepped (startingTable n) e r → 12 ≤ answerNumber (r .answer) → ⊥
 
