@@ -40,6 +40,7 @@ use Rattle.machine.specs.Folded.{Folded}
 use Rattle.machine.specs.Mutants.{tableOf, merging, handing, invited, asking, invites, Moves, NoMutant, NoWrongTurning}
 use Rattle.machine.proofs.Laws.{start-is}
 use Rattle.machine.proofs.Runs.{accepted-alike, code-runs}
+use Rattle.machine.proofs.Still.{accepted-differs}
 
 -- ── on concrete tables, by computation ──
 
@@ -194,6 +195,7 @@ no-mutant =
           recovering (startingTable n) i (ap inRange (start-is n) ∙ stays-in-range .starts n (omega arith) h) low high
           (ap (λ (s : State). isDown (nodeAt s i .status)) (start-is n) ∙ ap (λ (c : Node). isDown (c .status)) (start-node n (i - 1)))
           (λ e. let z : _≡_ {A = ℕ} 0 counterEnd = sym (ap (λ (s : State). nodeAt s i .counter) (start-is n) ∙ ap (λ (c : Node). c .counter) (start-node n (i - 1))) ∙ e in omega arith);
+      accepted-still = λ t e {r} m x a h. accepted-differs (view t) e _ _ (accepted-alike x .model-accepts a) m h;
       crash-moves = crashing;
       recovery-moves = recovering;
       second-moves = λ {r} x.

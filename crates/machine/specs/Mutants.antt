@@ -21,7 +21,7 @@ use Rattle.model.specs.declared.Node.{Node}
 use Rattle.model.specs.declared.Message.{Message}
 use Rattle.model.specs.declared.Table.{Table}
 use Rattle.model.specs.declared.Event.{Event}
-use Rattle.model.specs.declared.Event.the-variants.{Crash, Recover, Tick, Expire, Deliver}
+use Rattle.model.specs.declared.Event.the-variants.{Crash, Recover, Check, Timeout, Tick, Expire, Finish, Deliver, Lose}
 use Rattle.model.specs.declared.Outcome.{Outcome}
 use Rattle.model.specs.declared.Answer.the-variants.{Accepted}
 use Rattle.machine.specs.Stepped.{Stepped, startingTable}
@@ -108,6 +108,18 @@ invites Contacting j = false
 invites (Forwarding rest now caller call) j = false
 invites (Accepting caller call) j = false
 
+-- the events that may be accepted and change nothing: check ("Otherwise, or with n = 1, nothing changes") and timeout ("if its own coordinator, nothing changes")
+abbrev pub mayRest : Event → Bool
+mayRest (Crash i) = false
+mayRest (Recover i) = false
+mayRest (Check i) = true
+mayRest (Timeout i) = true
+mayRest (Tick i) = false
+mayRest (Expire i) = false
+mayRest (Finish i t) = false
+mayRest (Deliver a b) = false
+mayRest (Lose a b) = false
+
 -- ── the impostors ──
 
 -- on the table t, no machine turns e away, and none leaves the table as it is, whatever it answers
@@ -116,9 +128,10 @@ pub record Moves (t : Table) (e : Event) : Type 0 where
   pub not-same : {r : Outcome} → Stepped t e r → view (r .table) ≡ view t → ⊥
 
 pub record NoMutant : Type 0 where
-  -- "a machine that turns every event away", "one that returns the same table always", "one that answers 'accepted' and moves nothing": not even at the
-  -- first event, a recovery of any node
+  -- "a machine that turns every event away", "one that returns the same table always": not at the first event, where it is a recovery
   pub first-moves : (n i : ℕ) → n ≤ nodeLimit → 1 ≤ i → i ≤ n → Moves (startingTable n) (Recover i)
+  -- "one that answers 'accepted' and moves nothing": at no event on no table
+  pub accepted-still : (t : Table) (e : Event) {r : Outcome} → mayRest e ≡ false → Stepped t e r → r .answer ≡ Accepted → view (r .table) ≡ view t → ⊥
   -- "one that works on the first event and then idles": in every table in range, whatever came before it, a node that is up can crash, and one that is Down can
   -- recover until its counter is at its end
   pub crash-moves : (t : Table) (i : ℕ) → inRange (view t) ≡ true → 1 ≤ i → i ≤ t .n → isDown (nodeAt (view t) i .status) ≡ false → Moves t (Crash i)
