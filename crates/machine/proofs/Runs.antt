@@ -2,16 +2,16 @@
 use Prim.Native.Nat.{ℕ, _+_, _≤_}
 use native.Mathlib.Omega.{arith}
 use mathlib.Core.Path.{_≡_, refl, sym, _∙_, ap, subst}
-use mathlib.Core.List.{List, [], _∷_, _++_}
-use mathlib.Core.Bool.{Bool, true, false}
+use mathlib.Core.List.{List, _++_}
+use mathlib.Core.Bool.{true}
 use lib.Dec.{eqb}
 use Rattle.model.specs.Limits.{nodeLimit}
 use Rattle.model.specs.Pick.{pick, by-test}
 use Rattle.model.specs.State.{State, nodeAt, inRange, view}
-use Rattle.model.specs.Step.{actor, reactionTo, forms, Result, refused, accepted, grounds, judged, step, kept, runFrom, run}
+use Rattle.model.specs.Step.{actor, reactionTo, Result, refused, accepted, grounds, judged, step, kept, runFrom, run}
 use Rattle.model.specs.Answers.{answerNumber, resultNumber}
 use Rattle.model.specs.History.{Task, coming, history}
-use Rattle.model.specs.Claims.{isActive, Lacks, RunFixes}
+use Rattle.model.specs.Claims.{isActive, Lacks}
 use Rattle.model.proofs.Judged.{accepted-is}
 use Rattle.model.proofs.Whole.{run-fixes}
 use Rattle.model.proofs.InRange.{stays-in-range}

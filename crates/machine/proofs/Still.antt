@@ -1,20 +1,20 @@
 -- An accepted event changes the state, but for check and timeout.
 use Prim.Native.Nat.{ℕ, _+_, _-_, _≤_}
 use native.Mathlib.Omega.{arith}
-use mathlib.Core.Bool.{Bool, true, false, not, _&&_, _||_, true≢false}
-use mathlib.Core.Path.{_≡_, refl, sym, _∙_, ap, subst}
-use mathlib.Core.Logic.{_⊎_, inl, inr, ⊎-elim}
-use mathlib.Core.List.{List, [], _∷_, _++_, append-nil, append-assoc, append-cancel-left}
-use lib.Dec.{eqb, leb, ltb}
-use lib.ListN.{length, getD, set, length-append}
+use mathlib.Core.Bool.{Bool, true, false, not, _&&_, true≢false}
+use mathlib.Core.Path.{_≡_, refl, sym, _∙_, ap}
+use mathlib.Core.Logic.{_⊎_, inl, inr}
+use mathlib.Core.List.{List, [], _∷_, _++_, append-assoc, append-cancel-left}
+use lib.Dec.{eqb}
+use lib.ListN.{length, length-append}
 use lib.Seq.{getD-set-same}
 use borrow.Author.Tests.{not-false, not-true, eqb-true, eqb-false}
 use Rattle.model.specs.Pick.{pick, by-test}
-use Rattle.model.specs.Node.{isDown, isNormal, isIdle, isWaiting, isCollecting, hasOpenCall, ownerOf, turned, calling, merged, invited}
+use Rattle.model.specs.Node.{isDown, isNormal, isWaiting, isCollecting, hasOpenCall, ownerOf, merged, invited}
 use Rattle.model.specs.Procedures.{inviteNext, merges, handNext, finishes, forwardNext, askedAll, askAt, askAfter}
 use Rattle.model.specs.React.{ticked, expired, resumed, onAreYouCoordinator, onAreYouThere, onInvitation, onAccept, onReady, onReply, received, react}
 use Rattle.model.specs.Range.{isNode, isOther}
-use Rattle.model.specs.State.{State, startingNode, nodeAt, goes, oldest, withoutOldest, inRange}
+use Rattle.model.specs.State.{State, startingNode, nodeAt, oldest, withoutOldest}
 use Rattle.model.specs.Step.{actor, reactionTo, remaining, sent, effect, accepted, step}
 use Rattle.model.specs.Claims.{WithoutOldest}
 use Rattle.model.proofs.Judged.{Clear, accepted-is}
@@ -22,7 +22,6 @@ use Rattle.model.proofs.Numbers.{actor-in}
 use Rattle.model.proofs.Local.{both-left, both-right}
 use Rattle.model.proofs.Fields.{Busy, in-range-size, in-range-node, node-facts}
 use Rattle.model.proofs.Locality.{taken-out}
-use Rattle.model.specs.declared.Status.the-variants.{Down, Election, Reorganization, Normal}
 use Rattle.model.specs.declared.Activity.{Activity}
 use Rattle.model.specs.declared.Activity.the-variants.{Idle, Asking, Waiting, Inviting, Collecting, Handing, Contacting, Forwarding, Accepting}
 use Rattle.model.specs.declared.Node.{Node}
@@ -32,7 +31,7 @@ use Rattle.model.specs.declared.Message.{Message}
 use Rattle.model.specs.declared.Outgoing.{Outgoing}
 use Rattle.model.specs.declared.Outgoing.the-variants.{Nothing, Send}
 use Rattle.model.specs.declared.Mark.{Mark}
-use Rattle.model.specs.declared.Mark.the-variants.{Plain, Recovers, Merges}
+use Rattle.model.specs.declared.Mark.the-variants.{Plain, Merges}
 use Rattle.model.specs.declared.Reaction.{Reaction}
 use Rattle.model.specs.declared.Event.{Event}
 use Rattle.model.specs.declared.Event.the-variants.{Crash, Recover, Check, Timeout, Tick, Expire, Finish, Deliver, Lose}

@@ -5,8 +5,8 @@ use mathlib.Core.Path.{_≡_}
 use mathlib.Core.List.{List, _++_}
 use Rattle.model.specs.Limits.{nodeLimit}
 use Rattle.model.specs.State.{State, nodeAt, inRange, view}
-use Rattle.model.specs.Step.{actor, reactionTo, forms, Result, accepted, step, runFrom, run}
-use Rattle.model.specs.History.{Entry, NotFormed, NoTask, Task, newest, coming, history}
+use Rattle.model.specs.Step.{actor, reactionTo, forms, accepted, step, runFrom, run}
+use Rattle.model.specs.History.{NotFormed, NoTask, Task, newest, coming, history}
 use Rattle.model.specs.Claims.{isActive, Lacks}
 use Rattle.model.specs.declared.Status.the-variants.{Normal}
 use Rattle.model.specs.declared.TaskNo.{TaskNo}

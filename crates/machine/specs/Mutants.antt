@@ -14,7 +14,7 @@ use Rattle.model.specs.State.{State, startingNode, nodeAt, noMessage, oldest, i
 use Rattle.model.specs.Answers.{answerNumber}
 use Rattle.model.specs.Claims.{isActive}
 use Rattle.model.specs.declared.Status.{Status}
-use Rattle.model.specs.declared.Status.the-variants.{Down, Election, Reorganization, Normal}
+use Rattle.model.specs.declared.Status.the-variants.{Down, Reorganization, Normal}
 use Rattle.model.specs.declared.Activity.{Activity}
 use Rattle.model.specs.declared.Activity.the-variants.{Idle, Asking, Waiting, Inviting, Collecting, Handing, Contacting, Forwarding, Accepting}
 use Rattle.model.specs.declared.Node.{Node}
@@ -155,17 +155,30 @@ pub record NoWrongTurning : Type 0 where
   pub clears-counter : (t : Table) (i : ℕ) {r : Outcome} → Stepped t (Crash i) r → (nodeAt (view (r .table)) i .counter ≡ nodeAt (view t) i .counter → ⊥) → ⊥
   -- ": an old group number returns": group 16, which node 1 had first
   pub group-returns : {u : Table} → Folded (startingTable 2) (Recover 1 ∷ Crash 1 ∷ Recover 1 ∷ []) u → nodeAt (view u) 1 .group .number ≡ 16 → ⊥
-  -- "Emptying members before they are set aside: old members get no invitation": node 2 gets one
-  pub empties-members : {r : Outcome} → Stepped (tableOf merging) (Tick 1) r → invites (nodeAt (view (r .table)) 1 .activity) 2 ≡ false → ⊥
-  -- "Taking the task with the invitation": node 2 keeps its task 100, and is not Normal, nor in Reorganization, in the new group
-  pub takes-task : {r : Outcome} → Stepped (tableOf invited) (Deliver 1 2) r → (nodeAt (view (r .table)) 2 .task .number ≡ 100 → ⊥) → ⊥
-  pub active-early : {r : Outcome} → Stepped (tableOf invited) (Deliver 1 2) r → isActive (nodeAt (view (r .table)) 2 .status) ≡ true → ⊥
+  -- "Emptying members before they are set aside: old members get no invitation": where a node merges at its last tick, having found one, each old member j is
+  -- among those it invites, in every table
+  pub empties-members : (t : Table) (i j found : ℕ) → nodeAt (view t) i .activity ≡ Waiting 1 found → (found ≡ 0 → ⊥) → has (nodeAt (view t) i .members) j ≡ true
+      → {r : Outcome} → Stepped t (Tick i) r → r .answer ≡ Accepted → invites (nodeAt (view (r .table)) i .activity) j ≡ false → ⊥
+  -- for one: node 2, by node 1
+  pub empties-one : {r : Outcome} → Stepped (tableOf merging) (Tick 1) r → invites (nodeAt (view (r .table)) 1 .activity) 2 ≡ false → ⊥
+  -- "Taking the task with the invitation": whoever gets an invitation keeps its task, in every table; and after it, it is in Reorganization or Normal only where
+  -- nothing of it changed
+  pub takes-task : (t : Table) (a b : ℕ) → oldest a b (view t .queue) .kind ≡ 3 → {r : Outcome} → Stepped t (Deliver a b) r
+      → (nodeAt (view (r .table)) b .task ≡ nodeAt (view t) b .task → ⊥) → ⊥
+  pub active-early : (t : Table) (a b : ℕ) → oldest a b (view t .queue) .kind ≡ 3 → {r : Outcome} → Stepped t (Deliver a b) r
+      → isActive (nodeAt (view (r .table)) b .status) ≡ true → (nodeAt (view (r .table)) b ≡ nodeAt (view t) b → ⊥) → ⊥
+  -- for one: node 2 keeps its task 100, though the invitation says 200, and is not Normal in the new group
+  pub takes-one : {r : Outcome} → Stepped (tableOf invited) (Deliver 1 2) r → (nodeAt (view (r .table)) 2 .task .number ≡ 100 → ⊥) → ⊥
+  pub active-one : {r : Outcome} → Stepped (tableOf invited) (Deliver 1 2) r → isActive (nodeAt (view (r .table)) 2 .status) ≡ true → ⊥
   -- "Sending Ready on after a recovery, under the new group": when the call of a handing node expires, nothing is sent, in no table
   pub hands-on : (t : Table) (i rest now : ℕ) → nodeAt (view t) i .activity ≡ Handing rest now → {r : Outcome} → Stepped t (Expire i) r → (view (r .table) .queue ≡ view t .queue → ⊥) → ⊥
   -- nor later: node 3 has no open call then
   pub hands-later : {r : Outcome} → Stepped (tableOf handing) (Expire 3) r → (nodeAt (view (r .table)) 3 .activity ≡ Idle → ⊥) → ⊥
-  -- "Matching a reply by its sender instead of its call number": an older reply of the node asked changes nothing (K9)
-  pub takes-older : {r : Outcome} → Stepped (tableOf (asking (replies 2 1 (record { number = 4 }) true ∷ []))) (Deliver 2 1) r
+  -- "Matching a reply by its sender instead of its call number": a reply with another number than the last call's changes nothing of the node, in every table
+  pub takes-older : (t : Table) (a b : ℕ) → oldest a b (view t .queue) .kind ≡ 6 → (oldest a b (view t .queue) .call .number ≡ nodeAt (view t) b .last .number → ⊥)
+      → {r : Outcome} → Stepped t (Deliver a b) r → (nodeAt (view (r .table)) b ≡ nodeAt (view t) b → ⊥) → ⊥
+  -- for one (K9): an older reply of the very node asked
+  pub older-one : {r : Outcome} → Stepped (tableOf (asking (replies 2 1 (record { number = 4 }) true ∷ []))) (Deliver 2 1) r
       → (nodeAt (view (r .table)) 1 ≡ nodeAt (asking []) 1 → ⊥) → ⊥
   -- and a reply with the open call's number is taken, whoever sent it
   pub drops-other : {r : Outcome} → Stepped (tableOf (asking (replies 3 1 (record { number = 5 }) true ∷ []))) (Deliver 3 1) r

@@ -1,6 +1,6 @@
 -- Demand 3 of a session: calls of `apply` on one table are steps of the machine.
 use Prim.Native.Nat.{ℕ, _≤_}
-use mathlib.Core.List.{List, [], _∷_}
+use mathlib.Core.List.{List}
 use Rattle.model.specs.Limits.{nodeLimit}
 use Rattle.model.specs.declared.Table.{Table}
 use Rattle.model.specs.declared.Event.{Event}
