@@ -1,57 +1,57 @@
 -- No mutant and no wrong turning meets the contract: computed over the definitions on concrete tables, and shown for every table where the claim is for every one.
-use Prim.Native.Nat.{ℕ, zero, suc, _+_, _-_, _≤_, _<_}
+use Prim.Native.Nat.{ℕ, zero, suc, _+_, _-_, _≤_}
 use native.Mathlib.Omega.{arith}
-use mathlib.Core.Bool.{Bool, true, false, not, _&&_, true≢false}
-use mathlib.Core.Path.{_≡_, refl, sym, _∙_, ap, subst}
-use mathlib.Core.List.{List, [], _∷_, _++_, append-nil}
+use mathlib.Core.Bool.{Bool, true, false, not, _&&_, _||_, true≢false}
+use mathlib.Core.Path.{_≡_, refl, sym, _∙_, ap}
+use mathlib.Core.List.{List, [], _∷_, append-nil}
 use lib.Count.{onesIn, ones, leadingZeros, trailingZeros}
 use lib.Bits.{bitAnd, bitOr}
-use lib.Dec.{eqb, leb}
+use lib.Dec.{eqb}
 use lib.ListN.{length, getD, set, replicate}
 use lib.Seq.{getD-set-same}
 use borrow.Author.Tests.{le-leb, ne-eqb, eqb-true}
+use Rattle.node_set.specs.NodeSet.{has, without, lowest}
 use Rattle.model.specs.Pick.{pick, by-test}
-use Rattle.model.specs.Limits.{nodeLimit, queueLimit, counterEnd, callEnd}
-use Rattle.model.specs.Node.{isDown, replies}
+use Rattle.model.specs.Limits.{queueLimit, counterEnd, callEnd}
+use Rattle.model.specs.Node.{isDown, isNormal, ownerOf, replies}
 use Rattle.model.specs.Procedures.{inviteNext, merges, handNext, finishes, forwardNext, askedAll, askAt, askAfter}
 use Rattle.model.specs.React.{checked, timedOut, ticked, expired, resumed, onAreYouCoordinator, onAreYouThere, onInvitation, onAccept, onReady, onReply, received, react}
 use Rattle.model.specs.Range.{activityInRange, nodeInRange, messageInRange}
 use Rattle.model.specs.State.{State, startingNode, start, nodeAt, waits, oldest, withoutOldest, every, inRange, firstOf, view}
-use Rattle.model.specs.Step.{actor, reactionTo, remaining, effect, forms, isCalling, isSending, grounds, judged, Result, refused, accepted, step, kept, after, runFrom, run}
+use Rattle.model.specs.Step.{actor, reactionTo, remaining, effect, forms, isCalling, isSending, grounds, judged, Result, accepted, step, kept, after, runFrom, run}
 use Rattle.model.specs.Answers.{answerNumber, resultNumber}
-use Rattle.model.specs.Cases.{pair}
 use Rattle.model.specs.Claims.{isActive}
-use Rattle.model.proofs.Judged.{by-step}
+use Rattle.model.proofs.Judged.{Clear, by-step, accepted-is}
+use Rattle.model.proofs.Numbers.{actor-in}
 use Rattle.model.proofs.Local.{both-right}
 use Rattle.model.proofs.Fields.{in-range-size}
 use Rattle.model.proofs.InRange.{stays-in-range}
-use Rattle.model.specs.declared.Status.{Status}
-use Rattle.model.specs.declared.Status.the-variants.{Down, Election, Reorganization, Normal}
+use Rattle.model.specs.declared.Status.the-variants.{Election}
 use Rattle.model.specs.declared.Activity.{Activity}
-use Rattle.model.specs.declared.Activity.the-variants.{Idle, Asking, Waiting, Inviting, Collecting, Handing, Contacting, Forwarding, Accepting}
+use Rattle.model.specs.declared.Activity.the-variants.{Idle, Asking, Waiting, Handing}
 use Rattle.model.specs.declared.Node.{Node}
 use Rattle.model.specs.declared.Message.{Message}
+use Rattle.model.specs.declared.Reaction.{Reaction}
 use Rattle.model.specs.declared.Table.{Table}
 use Rattle.model.specs.declared.Event.{Event}
 use Rattle.model.specs.declared.Event.the-variants.{Crash, Recover, Check, Timeout, Tick, Expire, Finish, Deliver, Lose}
-use Rattle.model.specs.declared.Outcome.{Outcome}
-use Rattle.model.specs.declared.Answer.the-variants.{Accepted}
-use Rattle.machine.specs.Stepped.{Stepped, startingTable}
-use Rattle.machine.specs.Folded.{Folded}
-use Rattle.machine.specs.Mutants.{tableOf, merging, handing, invitation, asking, invites, Moves, NoMutant, NoWrongTurning}
+use Rattle.machine.specs.Stepped.{startingTable}
+use Rattle.machine.specs.Mutants.{tableOf, merging, handing, invited, asking, invites, Moves, NoMutant, NoWrongTurning}
 use Rattle.machine.proofs.Laws.{start-is}
-use Rattle.machine.proofs.Runs.{folded-runs, accepted-alike}
+use Rattle.machine.proofs.Runs.{accepted-alike, code-runs}
+use Rattle.machine.proofs.Still.{accepted-differs}
 
 -- ── on concrete tables, by computation ──
 
 record Computed : Type 0 where
   again : nodeAt (runFrom (view (startingTable 2)) (Recover 1 ∷ Crash 1 ∷ Recover 1 ∷ [])) 1 .group .number ≡ 32
   members : invites (nodeAt (after (view (tableOf merging)) (Tick 1)) 1 .activity) 2 ≡ true
-  task : nodeAt (after (view (tableOf (pair Normal Idle (invitation ∷ [])))) (Deliver 1 2)) 2 .task .number ≡ 100
-  status : nodeAt (after (view (tableOf (pair Normal Idle (invitation ∷ [])))) (Deliver 1 2)) 2 .status ≡ Election
+  task : nodeAt (after (view (tableOf invited)) (Deliver 1 2)) 2 .task .number ≡ 100
+  status : nodeAt (after (view (tableOf invited)) (Deliver 1 2)) 2 .status ≡ Election
   handed : nodeAt (after (view (tableOf handing)) (Expire 3)) 3 .activity ≡ Idle
-  older : nodeAt (after (view (tableOf (pair Normal (Asking 1 0) (replies 1 2 (record { number = 1 }) true ∷ [])))) (Deliver 1 2)) 2 ≡ nodeAt (pair Normal (Asking 1 0) []) 2
-  other : nodeAt (after (view (tableOf asking)) (Deliver 3 1)) 1 .activity ≡ Asking 3 2
+  older : nodeAt (after (view (tableOf (asking (replies 2 1 (record { number = 4 }) true ∷ [])))) (Deliver 2 1)) 1 ≡ nodeAt (asking []) 1
+  other : nodeAt (after (view (tableOf (asking (replies 3 1 (record { number = 5 }) true ∷ [])))) (Deliver 3 1)) 1 .activity ≡ Asking 3 2
+  away : resultNumber (step (view (startingTable 2)) (Crash 1)) ≡ 9
   -- node 2 after node 1's recovery
   ranged : inRange (after (view (startingTable 2)) (Recover 1)) ≡ true
   two : after (view (startingTable 2)) (Recover 1) .n ≡ 2
@@ -59,7 +59,7 @@ record Computed : Type 0 where
 
 computed : Computed
 unfolding pick onesIn ones leadingZeros trailingZeros bitAnd bitOr inviteNext merges handNext finishes forwardNext askedAll askAt askAfter checked timedOut ticked expired resumed onAreYouCoordinator onAreYouThere onInvitation onAccept onReady onReply received react activityInRange nodeInRange messageInRange waits oldest withoutOldest every inRange reactionTo remaining effect grounds judged step runFrom firstOf
-computed = record { again = refl; members = refl; task = refl; status = refl; handed = refl; older = refl; other = refl; ranged = refl; two = refl; second = refl }
+computed = record { again = refl; members = refl; task = refl; status = refl; handed = refl; older = refl; other = refl; away = refl; ranged = refl; two = refl; second = refl }
 
 asked-apart : Asking 3 2 ≡ Asking 2 0 → ⊥
 asked-apart e = let z : _≡_ {A = ℕ} 3 2 = cc in omega arith
@@ -85,17 +85,99 @@ unfolding effect reactionTo react expired remaining
 expire-silent s i rest now h =
     by-step (λ (q : Result). kept s q .queue ≡ s .queue) s (Expire i) (λ x. refl) (λ c. rw h (append-nil (s .queue)))
 
+-- one found, and so those set aside are kept for later
+merge-invites : (i j : ℕ) (c : Node) (found : ℕ) → (found ≡ 0 → ⊥) → has (c .members) j ≡ true → invites (merges i c found .node .activity) j ≡ true
+unfolding merges inviteNext pick
+merge-invites i j c found d m = rw (ne-eqb found 0 d, m) (or-true (eqb (lowest found) j) (has (without found (lowest found)) j))
+  where
+    or-true : (x y : Bool) → (x || y || true) ≡ true
+    or-true true true = refl
+    or-true true false = refl
+    or-true false true = refl
+    or-true false false = refl
+
+tick-invites : (s : State) (i j found : ℕ) → Clear s (Tick i) → nodeAt s i .activity ≡ Waiting 1 found → (found ≡ 0 → ⊥) → has (nodeAt s i .members) j ≡ true
+    → invites (nodeAt (effect s (Tick i)) i .activity) j ≡ true
+unfolding effect reactionTo react ticked pick
+tick-invites s i j found c a d m =
+    let k = actor-in (s .n) (Tick i) (c .number) in
+    ap (λ (x : Node). invites (x .activity) j)
+    (getD-set-same (s .nodes) (i - 1) (ticked i (nodeAt s i) (nodeAt s i .activity) .node) startingNode (omega (arith, k .0, k .1, in-range-size s (c .in-range) .2)))
+    ∙ ap (λ (x : Activity). invites (ticked i (nodeAt s i) x .node .activity) j) a
+    ∙ merge-invites i j (nodeAt s i) found d m
+
+-- what holds of an invitation's receiver
+module _ (i : ℕ) (c : Node) (m : Message) where
+  invited-keeps : onInvitation i c m .node .task ≡ c .task
+  unfolding onInvitation forwardNext pick
+  invited-keeps = by (isNormal (c .status)) (eqb (ownerOf (m .group .number)) i) (eqb (pick (eqb (c .coordinator) i) (c .members) 0) 0) refl refl refl
+    where
+      by : (x y z : Bool) → isNormal (c .status) ≡ x → eqb (ownerOf (m .group .number)) i ≡ y → eqb (pick (eqb (c .coordinator) i) (c .members) 0) 0 ≡ z → onInvitation i c m .node .task ≡ c .task
+      by true true z p q w = simp (p, q)
+      by true false true p q w = simp (p, q, w)
+      by true false false p q w = simp (p, q, w)
+      by false y z p q w = simp p
+
+  invited-rests : isActive (onInvitation i c m .node .status) ≡ true → onInvitation i c m .node ≡ c
+  unfolding onInvitation forwardNext pick
+  invited-rests = by (isNormal (c .status)) (eqb (ownerOf (m .group .number)) i) (eqb (pick (eqb (c .coordinator) i) (c .members) 0) 0) refl refl refl
+    where
+      by : (x y z : Bool) → isNormal (c .status) ≡ x → eqb (ownerOf (m .group .number)) i ≡ y → eqb (pick (eqb (c .coordinator) i) (c .members) 0) 0 ≡ z
+          → isActive (onInvitation i c m .node .status) ≡ true → onInvitation i c m .node ≡ c
+      by true true z p q w = simp (p, q) (λ h. refl)
+      by true false true p q w = simp (p, q, w) (λ h. absurd (true≢false (sym h)))
+      by true false false p q w = simp (p, q, w) (λ h. absurd (true≢false (sym h)))
+      by false y z p q w = simp p (λ h. refl)
+
+-- a message of kind 3 that is delivered is an invitation
+kind-three : (n i : ℕ) (c : Node) (m : Message) → m .kind ≡ 3 → received n i c m ≡ onInvitation i c m
+unfolding received pick
+kind-three n i c m k = rw k
+
+kind-six : (n i : ℕ) (c : Node) (m : Message) → m .kind ≡ 6 → (m .call .number ≡ c .last .number → ⊥) → received n i c m .node ≡ c
+unfolding received onReply pick
+kind-six n i c m k d = rw (k, ne-eqb _ _ d)
+
+invitation-task : (s : State) (a b : ℕ) → oldest a b (s .queue) .kind ≡ 3 → nodeAt (after s (Deliver a b)) b .task ≡ nodeAt s b .task
+unfolding effect reactionTo react
+invitation-task s a b k =
+    by-step (λ (q : Result). nodeAt (kept s q) b .task ≡ nodeAt s b .task) s (Deliver a b) (λ x. refl)
+    (λ c. stored s b _ (λ (d : Node). d .task) (ap (λ (r : Reaction). r .node .task) (kind-three (s .n) b (nodeAt s b) _ k) ∙ invited-keeps b (nodeAt s b) _))
+
+invitation-active : (s : State) (a b : ℕ) → oldest a b (s .queue) .kind ≡ 3 → isActive (nodeAt (after s (Deliver a b)) b .status) ≡ true → nodeAt (after s (Deliver a b)) b ≡ nodeAt s b
+unfolding effect reactionTo react
+invitation-active s a b k =
+    by-step (λ (q : Result). isActive (nodeAt (kept s q) b .status) ≡ true → nodeAt (kept s q) b ≡ nodeAt s b) s (Deliver a b) (λ x h. refl)
+    (λ c h.
+    let l = actor-in (s .n) (Deliver a b) (c .number) in
+    let o = getD-set-same (s .nodes) (b - 1) (received (s .n) b (nodeAt s b) (oldest a b (s .queue)) .node) startingNode (omega (arith, l .0, l .1, in-range-size s (c .in-range) .2)) in
+    let e = ap (λ (r : Reaction). r .node) (kind-three (s .n) b (nodeAt s b) (oldest a b (s .queue)) k) in
+    o ∙ e ∙ invited-rests b (nodeAt s b) (oldest a b (s .queue)) (sym (ap (λ (d : Node). isActive (d .status)) (o ∙ e)) ∙ h))
+
+reply-dropped : (s : State) (a b : ℕ) → oldest a b (s .queue) .kind ≡ 6 → (oldest a b (s .queue) .call .number ≡ nodeAt s b .last .number → ⊥) → nodeAt (after s (Deliver a b)) b ≡ nodeAt s b
+unfolding effect reactionTo react
+reply-dropped s a b k d =
+    by-step (λ (q : Result). nodeAt (kept s q) b ≡ nodeAt s b) s (Deliver a b) (λ x. refl)
+    (λ c. stored s b _ (λ (x : Node). x) (kind-six (s .n) b (nodeAt s b) _ k d))
+
 pub no-wrong-turning : NoWrongTurning
 no-wrong-turning =
     record {
       clears-counter = λ t i {r} x h. h (ap (λ (s : State). nodeAt s i .counter) (x .table) ∙ crash-keeps (view t) i);
-      group-returns = λ {u} f h. let z : _≡_ {A = ℕ} 16 32 = sym h ∙ ap (λ (s : State). nodeAt s 1 .group .number) (folded-runs f) ∙ computed .again in omega arith;
-      empties-members = λ {r} x h. true≢false (sym (computed .members) ∙ sym (ap (λ (s : State). invites (nodeAt s 1 .activity) 2) (x .table)) ∙ h);
-      takes-task = λ {r} x h. h (ap (λ (s : State). nodeAt s 2 .task .number) (x .table) ∙ computed .task);
-      active-early = λ {r} x h. true≢false (sym h ∙ ap (λ (s : State). isActive (nodeAt s 2 .status)) (x .table) ∙ ap isActive (computed .status));
+      group-returns = λ {u} f h. let z : _≡_ {A = ℕ} 16 32 = sym h ∙ ap (λ (s : State). nodeAt s 1 .group .number) (code-runs .from-any _ _ _ f) ∙ computed .again in omega arith;
+      empties-one = λ {r} x h. true≢false (sym (computed .members) ∙ sym (ap (λ (s : State). invites (nodeAt s 1 .activity) 2) (x .table)) ∙ h);
+      takes-one = λ {r} x h. h (ap (λ (s : State). nodeAt s 2 .task .number) (x .table) ∙ computed .task);
+      active-one = λ {r} x h. true≢false (sym h ∙ ap (λ (s : State). isActive (nodeAt s 2 .status)) (x .table) ∙ ap isActive (computed .status));
+      empties-members = λ t i j found a d m {r} x y h.
+          let q = accepted-is (view t) (Tick i) _ _ (accepted-alike x .model-accepts y) in
+          true≢false (sym (tick-invites (view t) i j found (q .clear) a d m) ∙ sym (ap (λ (s : State). invites (nodeAt s i .activity) j) (q .state)) ∙ h);
+      takes-task = λ t a b k {r} x h. h (ap (λ (s : State). nodeAt s b .task) (x .table) ∙ invitation-task (view t) a b k);
+      active-early = λ t a b k {r} x p h.
+          h (ap (λ (s : State). nodeAt s b) (x .table) ∙ invitation-active (view t) a b k (sym (ap (λ (s : State). isActive (nodeAt s b .status)) (x .table)) ∙ p));
+      takes-older = λ t a b k d {r} x h. h (ap (λ (s : State). nodeAt s b) (x .table) ∙ reply-dropped (view t) a b k d);
       hands-on = λ t i rest now a {r} x h. h (ap (λ (s : State). s .queue) (x .table) ∙ expire-silent (view t) i rest now a);
       hands-later = λ {r} x h. h (ap (λ (s : State). nodeAt s 3 .activity) (x .table) ∙ computed .handed);
-      takes-older = λ {r} x h. h (ap (λ (s : State). nodeAt s 2) (x .table) ∙ computed .older);
+      older-one = λ {r} x h. h (ap (λ (s : State). nodeAt s 1) (x .table) ∙ computed .older);
       drops-other = λ {r} x h. asked-apart (sym (computed .other) ∙ sym (ap (λ (s : State). nodeAt s 1 .activity) (x .table)) ∙ h);
     }
 
@@ -178,6 +260,15 @@ first-small n e =
     end : (a : Bool) (x y : ℕ) → (a && eqb x y) ≡ true → x ≡ 0 → 1 ≤ y → ⊥
     end a x y q z h = let v = eqb-true x y (both-right a (eqb x y) q) in omega arith
 
+-- a run keeps the number of nodes
+run-keeps : (s : State) (es : List Event) → runFrom s es .n ≡ s .n
+unfolding runFrom effect
+run-keeps s [] = refl
+run-keeps s (e ∷ es) = run-keeps (after s e) es ∙ by-step (λ (q : Result). kept s q .n ≡ s .n) s e (λ x. refl) (λ c. refl)
+
+run-nodes : (n : ℕ) (es : List Event) → run n es .n ≡ n
+run-nodes n es = run-keeps (start n) es
+
 pub no-mutant : NoMutant
 no-mutant =
     record {
@@ -185,11 +276,17 @@ no-mutant =
           recovering (startingTable n) i (ap inRange (start-is n) ∙ stays-in-range .starts n (omega arith) h) low high
           (ap (λ (s : State). isDown (nodeAt s i .status)) (start-is n) ∙ ap (λ (c : Node). isDown (c .status)) (start-node n (i - 1)))
           (λ e. let z : _≡_ {A = ℕ} 0 counterEnd = sym (ap (λ (s : State). nodeAt s i .counter) (start-is n) ∙ ap (λ (c : Node). c .counter) (start-node n (i - 1))) ∙ e in omega arith);
+      accepted-still = λ t e {r} m x a h. accepted-differs (view t) e _ _ (accepted-alike x .model-accepts a) m h;
       crash-moves = crashing;
       recovery-moves = recovering;
       second-moves = λ {r} x.
           recovering (r .table) 2 (ap inRange (x .table) ∙ computed .ranged) (omega arith) (omega (arith, ap (λ (s : State). s .n) (x .table) ∙ computed .two))
           (ap (λ (s : State). isDown (nodeAt s 2 .status)) (x .table) ∙ ap (λ (c : Node). isDown (c .status)) (computed .second))
           (λ e. let z : _≡_ {A = ℕ} 0 counterEnd = sym (ap (λ (s : State). nodeAt s 2 .counter) (x .table) ∙ ap (λ (c : Node). c .counter) (computed .second)) ∙ e in omega arith);
+      late-crash-moves = λ n l h {es} {t} c i low high.
+          crashing t i (code-runs .in-range n l h es t c) low (omega (arith, high, ap (λ (s : State). s .n) (code-runs .from-start n es t c) ∙ run-nodes n es));
+      late-recovery-moves = λ n l h {es} {t} c i low high.
+          recovering t i (code-runs .in-range n l h es t c) low (omega (arith, high, ap (λ (s : State). s .n) (code-runs .from-start n es t c) ∙ run-nodes n es));
+      accepts-all = λ {r} x h. let z : _≡_ {A = ℕ} 0 9 = sym (ap answerNumber h) ∙ x .answer ∙ computed .away in omega arith;
       no-cry = λ n e {r} x h. first-small n e (rw (x .answer ∙ ap (λ (s : State). resultNumber (step s e)) (start-is n)) at h);
     }

@@ -2,17 +2,20 @@
 use Prim.Native.Nat.{ℕ, _+_, _≤_}
 use native.Mathlib.Omega.{arith}
 use mathlib.Core.Path.{_≡_, refl, sym, _∙_, ap, subst}
-use mathlib.Core.List.{List, [], _∷_, _++_}
-use mathlib.Core.Bool.{Bool, true, false}
+use mathlib.Core.List.{List, _++_}
+use mathlib.Core.Bool.{true}
+use lib.Dec.{eqb}
 use Rattle.model.specs.Limits.{nodeLimit}
-use Rattle.model.specs.State.{State, nodeAt, view}
-use Rattle.model.specs.Step.{actor, reactionTo, forms, Result, refused, accepted, step, kept, runFrom, run}
+use Rattle.model.specs.Pick.{pick}
+use Rattle.model.specs.State.{State, nodeAt, inRange, view}
+use Rattle.model.specs.Step.{actor, reactionTo, Result, refused, accepted, step, kept, runFrom, run}
 use Rattle.model.specs.Answers.{answerNumber, resultNumber}
 use Rattle.model.specs.History.{Task, coming, history}
-use Rattle.model.specs.Claims.{isActive, Lacks, RunFixes}
+use Rattle.model.specs.Claims.{isActive, Lacks}
 use Rattle.model.proofs.Judged.{accepted-is}
 use Rattle.model.proofs.Refusals.{refuses-by-ground}
 use Rattle.model.proofs.Whole.{run-fixes}
+use Rattle.model.proofs.InRange.{stays-in-range}
 use Rattle.model.specs.declared.Status.the-variants.{Normal}
 use Rattle.model.specs.declared.Table.{Table}
 use Rattle.model.specs.declared.Event.{Event}
@@ -20,10 +23,9 @@ use Rattle.model.specs.declared.Mark.{Mark}
 use Rattle.model.specs.declared.Outcome.{Outcome}
 use Rattle.model.specs.declared.Answer.{Answer}
 use Rattle.model.specs.declared.Answer.the-variants.{Accepted, NotInRange, WrongNumber, WrongTask, WrongStatus, WrongActivity, NoMessage, CounterAtEnd, CallsAtEnd, QueueFull}
-use Rattle.machine.specs.declared.Start.{Start}
-use Rattle.machine.specs.Stepped.{Stepped, Begun}
+use Rattle.machine.specs.Stepped.{Stepped}
 use Rattle.machine.specs.Folded.{Folded, none, more}
-use Rattle.machine.specs.Claims.{AcceptedAlike, isForming, Chain, Reached, CodeFixes}
+use Rattle.machine.specs.Claims.{AcceptedAlike, SteppedAlike, Chain, Reached, CodeRuns, CodeFixes}
 
 -- ── the tables of a chain are those of the model's run ──
 
@@ -33,10 +35,6 @@ unfolding runFrom
 folded-runs none = refl
 folded-runs (more {es = es} s f) = folded-runs f ∙ ap (λ (v : State). runFrom v es) (s .table)
 
--- from the starting table of n nodes
-pub started-runs : (n : ℕ) (b : Start) {u : Table} {es : List Event} → Begun n b → Folded (b .table) es u → view u ≡ run n es
-started-runs n b {es = es} g f = folded-runs f ∙ ap (λ (v : State). runFrom v es) (g .table)
-
 -- two chains, one after the other
 pub folded-append : {t u v : Table} {es fs : List Event} → Folded t es u → Folded u fs v → Folded t (es ++ fs) v
 folded-append none g = g
@@ -44,21 +42,43 @@ folded-append (more s f) g = more s (folded-append f g)
 
 -- ── Accepted, of the code and of the model ──
 
--- 0 is the number of Accepted alone
-zero-is : (a : Answer) → answerNumber a ≡ 0 → a ≡ Accepted
-zero-is Accepted e = refl
-zero-is NotInRange e = absurd (omega (arith, e))
-zero-is WrongNumber e = absurd (omega (arith, e))
-zero-is WrongTask e = absurd (omega (arith, e))
-zero-is WrongStatus e = absurd (omega (arith, e))
-zero-is WrongActivity e = absurd (omega (arith, e))
-zero-is NoMessage e = absurd (omega (arith, e))
-zero-is CounterAtEnd e = absurd (omega (arith, e))
-zero-is CallsAtEnd e = absurd (omega (arith, e))
-zero-is QueueFull e = absurd (omega (arith, e))
+-- an answer is known by its number
+answerOf : ℕ → Answer
+answerOf r =
+    pick (eqb r 1) NotInRange
+    (pick (eqb r 7) WrongNumber
+    (pick (eqb r 8) WrongTask
+    (pick (eqb r 9) WrongStatus
+    (pick (eqb r 10) WrongActivity
+    (pick (eqb r 11) NoMessage
+    (pick (eqb r 12) CounterAtEnd
+    (pick (eqb r 13) CallsAtEnd
+    (pick (eqb r 14) QueueFull
+    Accepted))))))))
+
+answer-back : (a : Answer) → answerOf (answerNumber a) ≡ a
+unfolding answerOf pick
+answer-back Accepted = refl
+answer-back NotInRange = refl
+answer-back WrongNumber = refl
+answer-back WrongTask = refl
+answer-back WrongStatus = refl
+answer-back WrongActivity = refl
+answer-back NoMessage = refl
+answer-back CounterAtEnd = refl
+answer-back CallsAtEnd = refl
+answer-back QueueFull = refl
+
+answer-known : (a b : Answer) → answerNumber a ≡ answerNumber b → a ≡ b
+answer-known a b e = sym (answer-back a) ∙ ap answerOf e ∙ answer-back b
+
+pub stepped-alike : {t : Table} {e : Event} {r q : Outcome} → Stepped t e r → Stepped t e q → SteppedAlike r q
+stepped-alike {r = r} {q = q} x y =
+    let z = answer-known (r .answer) (q .answer) (x .answer ∙ sym (y .answer)) in
+    record { answer = z; table = x .table ∙ sym (y .table); same = λ h. x .same h ∙ sym (y .same (λ a. h (z ∙ a))) }
 
 pub accepted-alike : {t : Table} {e : Event} {r : Outcome} → Stepped t e r → AcceptedAlike t e r
-accepted-alike {t} {e} {r} x = record { model-accepts = by (step (view t) e) refl; code-accepts = λ u k i. zero-is (r .answer) (x .answer ∙ ap resultNumber i) }
+accepted-alike {t} {e} {r} x = record { model-accepts = by (step (view t) e) refl; code-accepts = λ u k i. answer-known (r .answer) Accepted (x .answer ∙ ap resultNumber i) }
   where
     by : (q : Result) → step (view t) e ≡ q → r .answer ≡ Accepted → step (view t) e ≡ accepted (view (r .table)) (reactionTo (view t) e .mark)
     by (refused k) i a =
@@ -71,19 +91,27 @@ accepted-alike {t} {e} {r} x = record { model-accepts = by (step (view t) e) ref
 -- ── demand 3 ──
 
 -- of any chain that is one of steps
-module _ (chain : Chain) (folds : (t : Table) (es : List Event) (u : Table) → chain t es u → Folded t es u) (n : ℕ) (h : n ≤ nodeLimit) where
+module _ (chain : Chain) (folds : (t : Table) (es : List Event) (u : Table) → chain t es u → Folded t es u) where
+  runs : {n : ℕ} {es : List Event} {t : Table} → Reached chain n es t → view t ≡ run n es
+  runs {es = es} c = folded-runs (folds _ _ _ (c .led)) ∙ ap (λ (v : State). runFrom v es) (c .begun .table)
+
+  runs-on : {n : ℕ} {es fs : List Event} {t u : Table} → Reached chain n es t → chain t fs u → view u ≡ run n (es ++ fs)
+  runs-on {es = es} {fs = fs} c d = folded-runs (folded-append (folds _ _ _ (c .led)) (folds _ _ _ d)) ∙ ap (λ (v : State). runFrom v (es ++ fs)) (c .begun .table)
+
+  pub chain-runs : CodeRuns chain
+  chain-runs =
+      record {
+        from-any = λ t es u c. folded-runs (folds t es u c);
+        from-start = λ n es t c. runs c;
+        in-range = λ n l h es t c. ap inRange (runs c) ∙ stays-in-range .runs n l h es;
+      }
+
   -- the model's step, where the code accepts e on a table that es led to
-  steps : (es : List Event) {u : Table} {e : Event} {r : Outcome} → view u ≡ run n es → Stepped u e r → r .answer ≡ Accepted → step (run n es) e ≡ accepted (view (r .table)) (reactionTo (view u) e .mark)
-  steps es {e = e} z x a = ap (λ (s : State). step s e) (sym z) ∙ accepted-alike x .model-accepts a
+  steps : (n : ℕ) (es : List Event) {u : Table} {e : Event} {r : Outcome} → view u ≡ run n es → Stepped u e r → r .answer ≡ Accepted → step (run n es) e ≡ accepted (view (r .table)) (reactionTo (view u) e .mark)
+  steps n es {e = e} z x a = ap (λ (s : State). step s e) (sym z) ∙ accepted-alike x .model-accepts a
 
-  runs : {es : List Event} {t : Table} → Reached chain n es t → view t ≡ run n es
-  runs c = started-runs n (c .first) (c .begun) (folds _ _ _ (c .led))
-
-  runs-on : {es fs : List Event} {t u : Table} → Reached chain n es t → chain t fs u → view u ≡ run n (es ++ fs)
-  runs-on c d = started-runs n (c .first) (c .begun) (folded-append (folds _ _ _ (c .led)) (folds _ _ _ d))
-
-  pub chain-fixes : CodeFixes chain n
-  chain-fixes =
+  pub chain-fixes : (n : ℕ) → n ≤ nodeLimit → CodeFixes chain n
+  chain-fixes n h =
       record {
         same-coordinator = λ {es} {t} c.
             subst
@@ -97,16 +125,22 @@ module _ (chain : Chain) (folds : (t : Table) (es : List Event) (u : Table) → 
             (λ (s : State). (i : ℕ) → 1 ≤ i → i ≤ n → nodeAt s i .status ≡ Normal
             → history n (es ++ fs) .entry (nodeAt s i .group .number) ≡ Task (nodeAt s i .task .number))
             (sym (runs c)) (run-fixes n h .fixed-task es fs);
-        numbered = λ {es} {u} {e} {r} c x a f. run-fixes n h .numbered es e _ _ (steps es (runs c) x a) f;
+        numbered = λ {es} {u} {e} {r} c x a f. run-fixes n h .numbered es e _ _ (steps n es (runs c) x a) f;
         fresh = λ {es} {fs} {t} {u} {e} {r} c d x a f.
-            subst (λ (s : State). Lacks s (coming (history n (es ++ fs)) (actor e))) (sym (runs c)) (run-fixes n h .fresh es fs e _ _ (steps (es ++ fs) (runs-on c d) x a) f);
+            subst (λ (s : State). Lacks s (coming (history n (es ++ fs)) (actor e))) (sym (runs c)) (run-fixes n h .fresh es fs e _ _ (steps n (es ++ fs) (runs-on c d) x a) f);
         borrowed = λ {es} {u} {e} {r} c x a f j l k q.
-            run-fixes n h .borrowed es e _ _ (steps es (runs c) x a) f j l k (subst (λ (s : State). Lacks s (nodeAt (view (r .table)) j .group .number)) (runs c) q);
-        formed-once = λ {es} {u} {e} {r} c x a f. run-fixes n h .formed-once es e _ _ (steps es (runs c) x a) f;
-        given-once = λ {es} {u} {i} {x} {r} c s a. run-fixes n h .given-once es i x _ _ (steps es (runs c) s a);
+            run-fixes n h .borrowed es e _ _ (steps n es (runs c) x a) f j l k (subst (λ (s : State). Lacks s (nodeAt (view (r .table)) j .group .number)) (runs c) q);
+        formed-once = λ {es} {u} {e} {r} c x a f. run-fixes n h .formed-once es e _ _ (steps n es (runs c) x a) f;
+        given-once = λ {es} {u} {i} {x} {r} c s a. run-fixes n h .given-once es i x _ _ (steps n es (runs c) s a);
         lasts = run-fixes n h .lasts;
       }
 
 -- of the step by value
+folded : (t : Table) (es : List Event) (u : Table) → Folded t es u → Folded t es u
+folded t es u f = f
+
+pub code-runs : CodeRuns Folded
+code-runs = chain-runs Folded folded
+
 pub code-fixes : (n : ℕ) → n ≤ nodeLimit → CodeFixes Folded n
-code-fixes = chain-fixes Folded (λ t es u f. f)
+code-fixes = chain-fixes Folded folded

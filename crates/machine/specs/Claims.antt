@@ -1,11 +1,12 @@
--- What is claimed of the code's tables: demand 3, whole. The proofs are in proofs/Runs.
+-- What is claimed of the tables that the code returns: they are those of the model's run, and demand 3, whole, holds of them. The proofs are in proofs/Runs.
 use Prim.Native.Nat.{ℕ, _≤_}
 use mathlib.Core.Bool.{Bool, true, false}
 use mathlib.Core.Path.{_≡_}
 use mathlib.Core.List.{List, _++_}
-use Rattle.model.specs.State.{State, nodeAt, view}
-use Rattle.model.specs.Step.{actor, reactionTo, forms, Result, accepted, step}
-use Rattle.model.specs.History.{Entry, NotFormed, NoTask, Task, newest, coming, history}
+use Rattle.model.specs.Limits.{nodeLimit}
+use Rattle.model.specs.State.{State, nodeAt, inRange, view}
+use Rattle.model.specs.Step.{actor, reactionTo, forms, accepted, step, runFrom, run}
+use Rattle.model.specs.History.{NotFormed, NoTask, Task, newest, coming, history}
 use Rattle.model.specs.Claims.{isActive, Lacks}
 use Rattle.model.specs.declared.Status.the-variants.{Normal}
 use Rattle.model.specs.declared.TaskNo.{TaskNo}
@@ -24,11 +25,18 @@ pub record AcceptedAlike (t : Table) (e : Event) (r : Outcome) : Type 0 where
   pub model-accepts : r .answer ≡ Accepted → step (view t) e ≡ accepted (view (r .table)) (reactionTo (view t) e .mark)
   pub code-accepts : (u : State) (k : Mark) → step (view t) e ≡ accepted u k → r .answer ≡ Accepted
 
+-- There is one answer and one table that meet `Stepped`: of any two outcomes that meet it for the same table and event.
+pub record SteppedAlike (r q : Outcome) : Type 0 where
+  pub answer : r .answer ≡ q .answer
+  pub table : view (r .table) ≡ view (q .table)
+  -- and all places, after a refusal
+  pub same : (r .answer ≡ Accepted → ⊥) → r .table ≡ q .table
+
 -- a group is formed in e, on the table t: e's node recovers or merges in it
 abbrev pub isForming : Table → Event → Bool
 isForming t e = forms (reactionTo (view t) e .mark)
 
--- how the code led from a table by events to a table
+-- how the code led from a table by events to a table: `Folded` for the step by value
 abbrev pub Chain : Type 1
 Chain = Table → List Event → Table → Type 0
 
@@ -38,8 +46,17 @@ pub record Reached (chain : Chain) (n : ℕ) (es : List Event) (t : Table) : Typ
   pub begun : Begun n first
   pub led : chain (first .table) es t
 
--- Demand 3 of the tables that the code returned: each field is that of `RunFixes` (model/specs/Claims), of them. `chain` is how the code goes on from table to
--- table: `Folded` for the step by value. es led to the table t, and fs from there to the table u; e is then answered with r, and accepted.
+-- the tables that the code returned, one after another, are those of the model's run
+pub record CodeRuns (chain : Chain) : Type 0 where
+  -- from any table
+  pub from-any : (t : Table) (es : List Event) (u : Table) → chain t es u → view u ≡ runFrom (view t) es
+  -- from the starting one
+  pub from-start : (n : ℕ) (es : List Event) (t : Table) → Reached chain n es t → view t ≡ run n es
+  -- and so they are in range
+  pub in-range : (n : ℕ) → 1 ≤ n → n ≤ nodeLimit → (es : List Event) (t : Table) → Reached chain n es t → inRange (view t) ≡ true
+
+-- Demand 3 of the tables that the code returned: each field is that of `RunFixes` (model/specs/Claims), of them. es led to the table t, and fs from there to
+-- the table u; e is then answered with r, and accepted.
 pub record CodeFixes (chain : Chain) (n : ℕ) : Type 0 where
   -- two nodes in Reorganization or Normal with the same group have the same coordinator
   pub same-coordinator : {es : List Event} {t : Table} → Reached chain n es t → (i j : ℕ) → 1 ≤ i → i ≤ n → 1 ≤ j → j ≤ n

@@ -1,18 +1,17 @@
 -- No mutant prints K10: its text is computed, and a byte of the mutant's stands against it.
-use Prim.Native.Nat.{ℕ, zero, suc, _+_, _/_, _%_, _≤_, _<_}
+use Prim.Native.Nat.{ℕ, zero, suc, _+_, _/_, _%_, _≤_}
 use native.Mathlib.Omega.{arith}
 use mathlib.Core.Path.{_≡_, refl, sym, _∙_, ap}
-use mathlib.Core.Bool.{Bool, true, false}
+use mathlib.Core.Bool.{Bool}
 use mathlib.Core.List.{List, [], _∷_, _++_}
-use lib.Dec.{ltb, leb}
-use lib.ListN.{length, getD, take, drop, length-append, take-append-drop}
-use borrow.Author.Tests.{le-leb, ltb-true, ltb-false}
+use lib.Dec.{ltb}
+use lib.ListN.{length, getD, drop, length-append, take-append-drop}
+use borrow.Author.Tests.{le-leb, ltb-true}
 use Rattle.model.specs.Pick.{pick, by-test, pick-true}
 use Rattle.listing.specs.Decimal.{digits, decimal}
-use Rattle.listing.specs.declared.Put.{Put}
 use Rattle.listing.specs.declared.Put.the-variants.{Next, NoRoom}
-use Rattle.run_list.specs.Text.{textOf, Printed, Whole}
-use Rattle.run_list.specs.Cases.{bytes, k10-list, ListCases}
+use Rattle.run_list.specs.Text.{textOf}
+use Rattle.run_list.specs.Cases.{bytes, k10-list}
 use Rattle.run_list.specs.Mutants.{Holds, by-print, by-whole, NoMutantText}
 use Rattle.run_list.proofs.NamedCases.{list-cases}
 

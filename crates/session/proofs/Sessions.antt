@@ -1,12 +1,12 @@
 -- Demand 3 of a session: calls of `apply` on one table are steps of the machine.
 use Prim.Native.Nat.{ℕ, _≤_}
-use mathlib.Core.List.{List, [], _∷_}
+use mathlib.Core.List.{List}
 use Rattle.model.specs.Limits.{nodeLimit}
 use Rattle.model.specs.declared.Table.{Table}
 use Rattle.model.specs.declared.Event.{Event}
 use Rattle.machine.specs.Folded as Folded
 use Rattle.machine.specs.Folded.{Folded}
-use Rattle.machine.proofs.Runs.{chain-fixes}
+use Rattle.machine.proofs.Runs.{chain-runs, chain-fixes}
 use Rattle.session.specs.Applied.{Applied, none, more, SessionFixes}
 
 applied-folds : (t : Table) (es : List Event) (u : Table) → Applied t es u → Folded t es u
@@ -14,4 +14,4 @@ applied-folds t es u none = Folded.none
 applied-folds t es u (more s a) = Folded.more s (applied-folds _ _ _ a)
 
 pub session-fixes : (n : ℕ) → n ≤ nodeLimit → SessionFixes n
-session-fixes n h = record { folds = applied-folds; fixes = chain-fixes Applied applied-folds n h }
+session-fixes n h = record { folds = applied-folds; runs = chain-runs Applied applied-folds; fixes = chain-fixes Applied applied-folds n h }

@@ -6,7 +6,7 @@ use Rattle.model.specs.declared.Event.{Event}
 use Rattle.model.specs.declared.Answer.{Answer}
 use Rattle.machine.specs.Stepped.{Stepped}
 use Rattle.machine.specs.Folded.{Folded}
-use Rattle.machine.specs.Claims.{CodeFixes}
+use Rattle.machine.specs.Claims.{CodeRuns, CodeFixes}
 
 -- From what the table held first, t, by a call for each event, to what it holds then, u. "Each event gets the table that the one before returned or left, and
 -- nobody else writes it."
@@ -19,5 +19,7 @@ pub data Applied : Table → List Event → Table → Type 0 where
 pub record SessionFixes (n : ℕ) : Type 0 where
   -- its calls are steps of the machine
   pub folds : (t : Table) (es : List Event) (u : Table) → Applied t es u → Folded t es u
-  -- demand 3, whole, of what the table holds from call to call
+  -- what the table holds from call to call is in the model's run
+  pub runs : CodeRuns Applied
+  -- and demand 3, whole, holds of it
   pub fixes : CodeFixes Applied n
