@@ -9,7 +9,7 @@ use Rattle.node_set.specs.NodeSet.{with, count}
 use Rattle.model.specs.Node.{groupOf, asks, calls, readies, replies}
 use Rattle.model.specs.State.{State, startingNode, start, wrongCount, nodeAt}
 use Rattle.model.specs.Step.{Result, refused, accepted, step, after, runFrom, run}
-use Rattle.model.specs.History.{Entry, Task, history}
+use Rattle.model.specs.History.{Entry, NoTask, Task, history}
 use Rattle.model.specs.Answers.{statusNumber}
 use Rattle.model.specs.declared.Status.{Status}
 use Rattle.model.specs.declared.Status.the-variants.{Down, Election, Reorganization, Normal}
@@ -143,6 +143,8 @@ pub record NamedCases : Type 0 where
   pub k1-last : wrongCount 16 ≡ false
   -- "K2 n = 2, recover 1: group 16, task 1, Normal."
   pub k2 : printedFields (run 2 (Recover 1 ∷ [])) 1 ≡ 1 ∷ 3 ∷ 1 ∷ 16 ∷ 1 ∷ 1 ∷ 0 ∷ []
+  -- the history has it with its solo task
+  pub k2-task : history 2 (Recover 1 ∷ []) .entry 16 ≡ Task 1
   -- the other node stays as it was
   pub k2-other : printedFields (run 2 (Recover 1 ∷ [])) 2 ≡ 2 ∷ 0 ∷ 0 ∷ 0 ∷ 0 ∷ 0 ∷ 0 ∷ []
   -- with members before: they are emptied, and the last call number is kept
@@ -207,7 +209,9 @@ pub record NamedCases : Type 0 where
   pub k10-first : printedFields (run 2 k10) 1 ≡ 1 ∷ 3 ∷ 2 ∷ 33 ∷ 100 ∷ 1 ∷ 0 ∷ []
   pub k10-second : printedFields (run 2 k10) 2 ≡ 2 ∷ 3 ∷ 2 ∷ 33 ∷ 100 ∷ 2 ∷ 1 ∷ []
   pub k10-messages : length (run 2 k10 .queue) ≡ 0
+  -- the history's task of group 33, and before the finish none
   pub k10-task : history 2 k10 .entry 33 ≡ Task 100
+  pub k10-no-task : history 2 collecting .entry 33 ≡ NoTask
   -- "K11 with 64 waiting, a check that must ask: 14; a delivery passes."
   pub k11-refused : step (pair Normal none Idle (queued 64)) (Check 1) ≡ refused 14
   pub k11-passes : after (pair Normal none Idle (queued 64)) (Deliver 2 1) ≡ pair Normal none Idle (queued 63 ++ (replies 1 2 (callNo 1) true ∷ []))
