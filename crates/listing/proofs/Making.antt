@@ -2,11 +2,10 @@
 use Prim.Native.Nat.{ℕ, zero, suc, _+_, _-_, _/_, _%_, _≤_, _<_}
 use native.Mathlib.Numerals.{add-one}
 use native.Mathlib.Omega.{arith}
-use mathlib.Core.Path.{_≡_, refl, sym, _∙_, ap}
+use mathlib.Core.Path.{_≡_, refl, _∙_, ap}
 use mathlib.Core.List.{List, [], _∷_, _++_, append-assoc}
 use lib.ListN.{length, getD, take, drop, set, length-append, length-set, length-drop}
 use lib.Seq.{drop-cons, drop-set-lt, drop-drop, getD-set-same, take-suc, set-at, set-split, append-snoc, length-take-le}
-use lib.Dec.{ltb}
 use Rattle.model.specs.Pick.{by-test}
 use Rattle.listing.specs.Decimal.{digits, decimal}
 use Rattle.listing.specs.Lines.{row}

@@ -1,8 +1,6 @@
 -- `listing::field_at` meets its contract: a byte and then a number are one piece.
 use borrow.Author.Needs.{needs}
-use Prim.Native.Nat.{_+_}
-use mathlib.Core.Path.{_≡_, _∙_}
-use native.Mathlib.Omega.{arith}
+use mathlib.Core.Path.{_∙_}
 use denote.Ref.{now}
 use lib.ListN.{length-set}
 use Rattle.listing.proofs.Making.{field-piece}
