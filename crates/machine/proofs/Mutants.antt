@@ -9,7 +9,7 @@ use lib.Bits.{bitAnd, bitOr}
 use lib.Dec.{eqb}
 use lib.ListN.{length, getD, set, replicate}
 use lib.Seq.{getD-set-same}
-use borrow.Author.Tests.{le-leb, ne-eqb, eqb-true}
+use borrow.Author.Tests.{not-false, le-leb, ne-eqb, eqb-true}
 use Rattle.node_set.specs.NodeSet.{has, without, lowest}
 use Rattle.model.specs.Pick.{pick, by-test}
 use Rattle.model.specs.Limits.{queueLimit, counterEnd, callEnd}
@@ -18,14 +18,14 @@ use Rattle.model.specs.Procedures.{inviteNext, merges, handNext, finishes, forw
 use Rattle.model.specs.React.{checked, timedOut, ticked, expired, resumed, onAreYouCoordinator, onAreYouThere, onInvitation, onAccept, onReady, onReply, received, react}
 use Rattle.model.specs.Range.{activityInRange, nodeInRange, messageInRange}
 use Rattle.model.specs.State.{State, startingNode, start, nodeAt, waits, oldest, withoutOldest, every, inRange, firstOf, view}
-use Rattle.model.specs.Step.{actor, reactionTo, remaining, effect, forms, isCalling, isSending, grounds, judged, Result, accepted, step, kept, after, runFrom, run}
+use Rattle.model.specs.Step.{actor, reactionTo, remaining, effect, forms, isCalling, isSending, grounds, judged, Result, refused, accepted, step, kept, after, runFrom, run}
 use Rattle.model.specs.Answers.{answerNumber, resultNumber}
 use Rattle.model.specs.Claims.{isActive}
 use Rattle.model.proofs.Judged.{Clear, by-step, accepted-is}
 use Rattle.model.proofs.Numbers.{actor-in}
 use Rattle.model.proofs.Local.{both-right}
 use Rattle.model.proofs.Fields.{in-range-size}
-use Rattle.model.proofs.InRange.{stays-in-range}
+use Rattle.model.proofs.InRange.{delivery-never-full, stays-in-range}
 use Rattle.model.specs.declared.Status.the-variants.{Election}
 use Rattle.model.specs.declared.Activity.{Activity}
 use Rattle.model.specs.declared.Activity.the-variants.{Idle, Asking, Waiting, Handing}
@@ -269,6 +269,10 @@ run-keeps s (e ∷ es) = run-keeps (after s e) es ∙ by-step (λ (q : Result). 
 run-nodes : (n : ℕ) (es : List Event) → run n es .n ≡ n
 run-nodes n es = run-keeps (start n) es
 
+full : (s : State) (a b : ℕ) (q : Result) → step s (Deliver a b) ≡ q → resultNumber q ≡ 14 → ⊥
+full s a b (refused k) i e = delivery-never-full s a b (i ∙ ap refused e)
+full s a b (accepted u k) i e = omega (arith, e)
+
 pub no-mutant : NoMutant
 no-mutant =
     record {
@@ -288,5 +292,8 @@ no-mutant =
       late-recovery-moves = λ n l h {es} {t} c i low high.
           recovering t i (code-runs .in-range n l h es t c) low (omega (arith, high, ap (λ (s : State). s .n) (code-runs .from-start n es t c) ∙ run-nodes n es));
       accepts-all = λ {r} x h. let z : _≡_ {A = ℕ} 0 9 = sym (ap answerNumber h) ∙ x .answer ∙ computed .away in omega arith;
+      delivers-none = λ t a b {r} w x h.
+          true≢false (sym (not-false _ (accepted-is (view t) (Deliver a b) _ _ (accepted-alike x .model-accepts h) .clear .waiting)) ∙ w);
+      delivery-full = λ t a b {r} x h. full (view t) a b (step (view t) (Deliver a b)) refl (sym (x .answer) ∙ ap answerNumber h);
       no-cry = λ n e {r} x h. first-small n e (rw (x .answer ∙ ap (λ (s : State). resultNumber (step s e)) (start-is n)) at h);
     }

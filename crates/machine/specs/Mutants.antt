@@ -1,5 +1,6 @@
 -- "Try these impostors", and "Wrong turnings in this protocol": what no machine does that meets `Stepped` (mutant: 01's impostor). A machine is here whatever
--- answers an event e on a table t with an outcome r; nothing is asked of how it comes to r, so it may also remember. Each field takes as little of the
+-- answers an event e on a table t with an outcome r, as a function f from tables and events does with f t e; nothing is asked of how it comes to r, so it may also
+-- remember. Each field takes as little of the
 -- mutant's behaviour as shuts it out: one event, and one thing that is wrong then. The proofs are in proofs/Mutants.
 use Prim.Native.Nat.{ℕ, _-_, _≤_}
 use mathlib.Core.Bool.{Bool, true, false, _||_}
@@ -10,7 +11,7 @@ use lib.ListN.{length, replicate}
 use Rattle.node_set.specs.NodeSet.{has}
 use Rattle.model.specs.Limits.{nodeLimit, queueLimit, counterEnd}
 use Rattle.model.specs.Node.{isDown, replies}
-use Rattle.model.specs.State.{State, startingNode, nodeAt, noMessage, oldest, inRange, view}
+use Rattle.model.specs.State.{State, startingNode, nodeAt, noMessage, waits, oldest, inRange, view}
 use Rattle.model.specs.Answers.{answerNumber}
 use Rattle.model.specs.Claims.{isActive}
 use Rattle.model.specs.declared.Status.{Status}
@@ -23,7 +24,7 @@ use Rattle.model.specs.declared.Table.{Table}
 use Rattle.model.specs.declared.Event.{Event}
 use Rattle.model.specs.declared.Event.the-variants.{Crash, Recover, Check, Timeout, Tick, Expire, Finish, Deliver, Lose}
 use Rattle.model.specs.declared.Outcome.{Outcome}
-use Rattle.model.specs.declared.Answer.the-variants.{Accepted}
+use Rattle.model.specs.declared.Answer.the-variants.{Accepted, QueueFull}
 use Rattle.machine.specs.Stepped.{Stepped, startingTable}
 use Rattle.machine.specs.Folded.{Folded}
 use Rattle.machine.specs.Claims.{Reached}
@@ -147,6 +148,9 @@ pub record NoMutant : Type 0 where
   pub accepts-all : {r : Outcome} → Stepped (startingTable 2) (Crash 1) r → r .answer ≡ Accepted → ⊥
   -- "one that cries 12, 13 or 14 at the first event": at any first event, for any n
   pub no-cry : (n : ℕ) (e : Event) {r : Outcome} → Stepped (startingTable n) e r → 12 ≤ answerNumber (r .answer) → ⊥
+  -- nor one that delivers a message that does not wait, or that finds the queue full for the reply to a delivery ("a delivered one is already out")
+  pub delivers-none : (t : Table) (a b : ℕ) {r : Outcome} → waits a b (view t .queue) ≡ false → Stepped t (Deliver a b) r → r .answer ≡ Accepted → ⊥
+  pub delivery-full : (t : Table) (a b : ℕ) {r : Outcome} → Stepped t (Deliver a b) r → r .answer ≡ QueueFull → ⊥
 
 -- ── the wrong turnings ──
 
