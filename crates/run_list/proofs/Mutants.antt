@@ -5,7 +5,7 @@ use mathlib.Core.Path.{_≡_, refl, sym, _∙_, ap}
 use mathlib.Core.Bool.{Bool}
 use mathlib.Core.List.{List, [], _∷_, _++_}
 use lib.Dec.{ltb}
-use lib.ListN.{length, getD, drop, length-append, take-append-drop}
+use lib.ListN.{length, getD, drop, length-append}
 use borrow.Author.Tests.{le-leb, ltb-true}
 use Rattle.model.specs.Pick.{pick, by-test, pick-true}
 use lib.Count.{onesIn, ones, leadingZeros, trailingZeros}
@@ -19,7 +19,9 @@ use Rattle.listing.specs.Lines.{row, cabinetsLine, refusedLine, stoppedLine, no
 use Rattle.listing.specs.Printing.{joined}
 use Rattle.listing.specs.declared.Put.the-variants.{Next, NoRoom}
 use Rattle.run_list.specs.Text.{noteLines, refusedLines, linesOf, textOf}
-use Rattle.run_list.specs.Cases.{bytes, nodes, recover, k10-list}
+use Rattle.event_list.specs.Cases.{nodes, recover}
+use Rattle.listing.specs.Ascii.{bytes}
+use Rattle.run_list.specs.Cases.{k10-list}
 use Rattle.run_list.specs.Mutants.{Holds, by-print, by-whole, NoMutantText}
 use Rattle.run_list.proofs.NamedCases.{list-cases}
 
@@ -30,7 +32,7 @@ record Texts : Type 0 where
   stopped : textOf (nodes 2 ++ (0x11 ∷ [])) ≡ bytes "cabinets 2\nstopped 4 3\n1 0 0 0 0 0 0\n2 0 0 0 0 0 0\nmessages 0\n"
 
 texts : Texts
-unfolding pick onesIn ones leadingZeros trailingZeros activityInRange nodeInRange messageInRange react every inRange reactionTo remaining effect grounds judged step runFrom lengthOf cutShort checked eventOf nextAt nodesOf firstOf readFrom rest reading digits decimal row cabinetsLine refusedLine stoppedLine nodeLine messagesLine nodeLines tableLines joined noteLines refusedLines linesOf bytes
+unfolding pick onesIn ones leadingZeros trailingZeros activityInRange nodeInRange messageInRange react every inRange reactionTo remaining effect grounds judged step runFrom lengthOf cutShort checked eventOf nextAt nodesOf firstOf readFrom rest reading digits decimal row cabinetsLine refusedLine stoppedLine nodeLine messagesLine nodeLines tableLines joined noteLines refusedLines linesOf
 texts = record { refused = refl; stopped = refl }
 
 -- the buffer begins with the text x
@@ -40,7 +42,7 @@ record Begins (o x : List ℕ) : Type 0 where
 
 begins : (l o x : List ℕ) → Holds l o → textOf l ≡ x → Begins o x
 begins l o x (by-print {b} p h) e = record { behind = drop (length (textOf l)) b; whole = p .whole h ∙ ap (λ (z : List ℕ). z ++ drop (length (textOf l)) b) e }
-begins l o x (by-whole {r} w) e = record { behind = drop r o; whole = sym (take-append-drop r o) ∙ ap (λ (z : List ℕ). z ++ drop r o) (w .bytes ∙ e) }
+begins l o x (by-whole {b} {r} w) e = record { behind = drop r b; whole = w .bytes ∙ ap (λ (z : List ℕ). z ++ drop r b) e }
 
 -- two texts with different bytes at k
 apart : (o x y : List ℕ) (k a b : ℕ) → o ≡ x → o ≡ y → getD x k 0 ≡ a → getD y k 0 ≡ b → (a ≡ b → ⊥) → ⊥
@@ -82,7 +84,6 @@ one-alone k y v =
     (all-digits 10 k)
 
 pub no-mutant-text : NoMutantText
-unfolding bytes
 no-mutant-text =
     record {
       turns-away = λ o y h e. let t = begins _ o _ h (list-cases .k10) in apart o _ _ 11 49 114 (t .whole) e refl refl (λ z. omega arith);

@@ -8,12 +8,14 @@ use Rattle.listing.specs.Decimal.{decimal}
 use Rattle.listing.specs.declared.Put.{Put}
 use Rattle.listing.specs.declared.Put.the-variants.{NoRoom}
 use Rattle.run_list.specs.Text.{textOf, Printed, Whole}
-use Rattle.run_list.specs.Cases.{bytes, nodes, recover, k10-list}
+use Rattle.event_list.specs.Cases.{nodes, recover}
+use Rattle.listing.specs.Ascii.{bytes}
+use Rattle.run_list.specs.Cases.{k10-list}
 
 -- o is what a printer of the list l left in its buffer: one that meets `Printed`, where there was room, or one that meets `Whole`
 pub data Holds (l o : List ℕ) : Type 0 where
   by-print : {b : List ℕ} {a : Put} → Printed l b o a → length (textOf l) ≤ length b → Holds l o
-  by-whole : {r : ℕ} → Whole l o r → Holds l o
+  by-whole : {b : List ℕ} {r : ℕ} → Whole l b o r → Holds l o
 
 pub record NoMutantText : Type 0 where
   -- "a machine that turns every event away", or any: behind `cabinets 2` comes no line `refused e r`

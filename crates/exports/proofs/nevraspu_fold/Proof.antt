@@ -1,19 +1,13 @@
 -- `nevraspu_fold` meets its contract, by the list's first field.
 use borrow.Author.Needs.{needs}
-use borrow.Author.Tests.{le-leb}
-use Prim.Native.Nat.{ℕ, _≤_}
 use denote.Ref.{now}
-use mathlib.Core.Bool.{true, false, not, _&&_}
 use mathlib.Core.Path.{_≡_, refl, sym, _∙_, ap}
-use Rattle.model.specs.State.{State, wrongCount}
+use Rattle.model.specs.State.{State}
 use Rattle.event_list.specs.Format.{rest}
 use Rattle.event_list.proofs.Reading.{reading-failed, reading-begun, first-good}
 use Rattle.exports.specs.Boundary.{acceptedFrom, acceptedListed}
 use Rattle.exports.proofs.nevraspu_fold.Statement.{statement}
 use Rattle.exports.proofs.nevraspu_fold.Tie as tie
-
-count-good : (n : ℕ) → 1 ≤ n → n ≤ 16 → wrongCount n ≡ false
-count-good n l h = rw (le-leb 1 n l, le-leb n 16 h)
 
 fold-from-requires : tie.Need-fold-from-requires
 fold-from-requires c κs =
@@ -31,9 +25,8 @@ returns-2 c =
     let f = c .before .before .before .before .before .before in
     let l = now (f .before .before .args .list) in
     let n = c .before .before .before .before .n .given .1 in
-    let g = first-good l (f .first-of .ensures) n in
     c .fold-from .ensures
-    ∙ ap (λ (s : State). acceptedFrom s (rest l 4 .events)) (c .before .before .starting .ensures .table (count-good _ (g .2) (g .3)))
+    ∙ ap (λ (s : State). acceptedFrom s (rest l 4 .events)) (c .before .before .starting .ensures .table)
     ∙ sym (ap acceptedListed (reading-begun l (f .first-of .ensures) n))
 
 pub nevraspu-fold-spec : {M : Type 1} → statement M
