@@ -55,8 +55,8 @@ pub record CodeRuns (chain : Chain) : Type 0 where
   -- and so they are in range
   pub in-range : (n : ℕ) → 1 ≤ n → n ≤ nodeLimit → (es : List Event) (t : Table) → Reached chain n es t → inRange (view t) ≡ true
 
--- Demand 3 of the tables that the code returned: each field is that of `RunFixes` (model/specs/Claims), of them. es led to the table t, and fs from there to
--- the table u; e is then answered with r, and accepted.
+-- Demand 3 of the tables that the code returned: each field is that of `RunFixes` (model/specs/Claims), of them. t is any table that events led to; u is the one
+-- on which e is answered with r, and accepted; in `fresh`, fs led from t to u.
 pub record CodeFixes (chain : Chain) (n : ℕ) : Type 0 where
   -- two nodes in Reorganization or Normal with the same group have the same coordinator
   pub same-coordinator : {es : List Event} {t : Table} → Reached chain n es t → (i j : ℕ) → 1 ≤ i → i ≤ n → 1 ≤ j → j ≤ n

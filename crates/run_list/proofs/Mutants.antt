@@ -1,4 +1,4 @@
--- No mutant prints K10: its text is computed, and a byte of the mutant's stands against it.
+-- No mutant prints the text: it is computed, and a byte of the mutant's stands against it.
 use Prim.Native.Nat.{ℕ, zero, suc, _+_, _/_, _%_, _≤_}
 use native.Mathlib.Omega.{arith}
 use mathlib.Core.Path.{_≡_, refl, sym, _∙_, ap}
@@ -8,26 +8,39 @@ use lib.Dec.{ltb}
 use lib.ListN.{length, getD, drop, length-append, take-append-drop}
 use borrow.Author.Tests.{le-leb, ltb-true}
 use Rattle.model.specs.Pick.{pick, by-test, pick-true}
+use lib.Count.{onesIn, ones, leadingZeros, trailingZeros}
+use Rattle.model.specs.Range.{activityInRange, nodeInRange, messageInRange}
+use Rattle.model.specs.React.{react}
+use Rattle.model.specs.State.{every, inRange}
+use Rattle.model.specs.Step.{reactionTo, remaining, effect, grounds, judged, step, runFrom}
+use Rattle.event_list.specs.Format.{lengthOf, cutShort, checked, eventOf, nextAt, nodesOf, firstOf, readFrom, rest, reading}
 use Rattle.listing.specs.Decimal.{digits, decimal}
+use Rattle.listing.specs.Lines.{row, cabinetsLine, refusedLine, stoppedLine, nodeLine, messagesLine, nodeLines, tableLines}
+use Rattle.listing.specs.Printing.{joined}
 use Rattle.listing.specs.declared.Put.the-variants.{Next, NoRoom}
-use Rattle.run_list.specs.Text.{textOf}
-use Rattle.run_list.specs.Cases.{bytes, k10-list}
+use Rattle.run_list.specs.Text.{noteLines, refusedLines, linesOf, textOf}
+use Rattle.run_list.specs.Cases.{bytes, nodes, recover, k10-list}
 use Rattle.run_list.specs.Mutants.{Holds, by-print, by-whole, NoMutantText}
 use Rattle.run_list.proofs.NamedCases.{list-cases}
 
--- ── the text of K10 ──
+-- ── the texts ──
 
-abbrev text : List ℕ
-text = bytes "cabinets 2\n1 3 2 33 100 1 0\n2 3 2 33 100 2 1\nmessages 0\n"
+record Texts : Type 0 where
+  refused : textOf (nodes 2 ++ (recover 1 ++ recover 1)) ≡ bytes "cabinets 2\nrefused 2 9\n1 3 1 16 1 1 0\n2 0 0 0 0 0 0\nmessages 0\n"
+  stopped : textOf (nodes 2 ++ (0x11 ∷ [])) ≡ bytes "cabinets 2\nstopped 4 3\n1 0 0 0 0 0 0\n2 0 0 0 0 0 0\nmessages 0\n"
 
--- the buffer begins with it
-record Ten (o : List ℕ) : Type 0 where
+texts : Texts
+unfolding pick onesIn ones leadingZeros trailingZeros activityInRange nodeInRange messageInRange react every inRange reactionTo remaining effect grounds judged step runFrom lengthOf cutShort checked eventOf nextAt nodesOf firstOf readFrom rest reading digits decimal row cabinetsLine refusedLine stoppedLine nodeLine messagesLine nodeLines tableLines joined noteLines refusedLines linesOf bytes
+texts = record { refused = refl; stopped = refl }
+
+-- the buffer begins with the text x
+record Begins (o x : List ℕ) : Type 0 where
   behind : List ℕ
-  whole : o ≡ text ++ behind
+  whole : o ≡ x ++ behind
 
-ten : (o : List ℕ) → Holds k10-list o → Ten o
-ten o (by-print {b} p h) = record { behind = drop (length (textOf k10-list)) b; whole = p .whole h ∙ ap (λ (x : List ℕ). x ++ drop (length (textOf k10-list)) b) (list-cases .k10) }
-ten o (by-whole {r} w) = record { behind = drop r o; whole = sym (take-append-drop r o) ∙ ap (λ (x : List ℕ). x ++ drop r o) (w .bytes ∙ list-cases .k10) }
+begins : (l o x : List ℕ) → Holds l o → textOf l ≡ x → Begins o x
+begins l o x (by-print {b} p h) e = record { behind = drop (length (textOf l)) b; whole = p .whole h ∙ ap (λ (z : List ℕ). z ++ drop (length (textOf l)) b) e }
+begins l o x (by-whole {r} w) e = record { behind = drop r o; whole = sym (take-append-drop r o) ∙ ap (λ (z : List ℕ). z ++ drop r o) (w .bytes ∙ e) }
 
 -- two texts with different bytes at k
 apart : (o x y : List ℕ) (k a b : ℕ) → o ≡ x → o ≡ y → getD x k 0 ≡ a → getD y k 0 ≡ b → (a ≡ b → ⊥) → ⊥
@@ -72,11 +85,14 @@ pub no-mutant-text : NoMutantText
 unfolding bytes
 no-mutant-text =
     record {
-      turns-away = λ o y h e. let t = ten o h in apart o _ _ 11 49 114 (t .whole) e refl refl (λ z. omega arith);
-      same-table = λ o y h e. let t = ten o h in apart o _ _ 13 51 48 (t .whole) e refl refl (λ z. omega arith);
-      idles = λ o y h e. let t = ten o h in apart o _ _ 15 50 49 (t .whole) e refl refl (λ z. omega arith);
-      idles-last = λ o y h e. let t = ten o h in apart o _ _ 30 51 50 (t .whole) e refl refl (λ z. omega arith);
-      thin-air = λ o y k h e d. let t = ten o h in d (one-alone k y _ (ap (drop 43) (sym e ∙ t .whole)));
+      turns-away = λ o y h e. let t = begins _ o _ h (list-cases .k10) in apart o _ _ 11 49 114 (t .whole) e refl refl (λ z. omega arith);
+      same-table = λ o y h e. let t = begins _ o _ h (list-cases .k10) in apart o _ _ 13 51 48 (t .whole) e refl refl (λ z. omega arith);
+      idles = λ o y h e. let t = begins _ o _ h (list-cases .k10) in apart o _ _ 15 50 49 (t .whole) e refl refl (λ z. omega arith);
+      idles-last = λ o y h e. let t = begins _ o _ h (list-cases .k10) in apart o _ _ 30 51 50 (t .whole) e refl refl (λ z. omega arith);
+      thin-air = λ o y k h e d. let t = begins _ o _ h (list-cases .k10) in d (one-alone k y _ (ap (drop 43) (sym e ∙ t .whole)));
+      from-zero = λ o y h e. let t = begins _ o _ h (texts .refused) in apart o _ _ 19 50 49 (t .whole) e refl refl (λ z. omega arith);
+      next-ground = λ o y h e. let t = begins _ o _ h (texts .refused) in apart o _ _ 21 57 49 (t .whole) e refl refl (λ z. omega arith);
+      stops-elsewhere = λ o y h e. let t = begins _ o _ h (texts .stopped) in apart o _ _ 19 52 48 (t .whole) e refl refl (λ z. omega arith);
       no-room = λ b o {a} p h e. apart-answers (sym (p .answer ∙ ap (λ (t : Bool). pick t (Next (length (textOf k10-list))) NoRoom) (le-leb _ _ h) ∙ pick-true _ _) ∙ e);
     }
   where

@@ -1,14 +1,14 @@
 -- "Try these impostors", of the printed text: what no printer leaves in its buffer that meets `Printed` or `Whole` (mutant: 01's impostor). Each field takes as
--- little of the text as shuts the mutant out, and lets any bytes y follow. The list is K10's, of which no event is refused. The proofs are in proofs/Mutants.
+-- little of the text as shuts the mutant out, and lets any bytes y follow. The list is K10's, of which no event is refused, where no other is named. The proofs are in proofs/Mutants.
 use Prim.Native.Nat.{ℕ, _≤_}
 use mathlib.Core.Path.{_≡_}
-use mathlib.Core.List.{List, _∷_, _++_}
+use mathlib.Core.List.{List, [], _∷_, _++_}
 use lib.ListN.{length}
 use Rattle.listing.specs.Decimal.{decimal}
 use Rattle.listing.specs.declared.Put.{Put}
 use Rattle.listing.specs.declared.Put.the-variants.{NoRoom}
 use Rattle.run_list.specs.Text.{textOf, Printed, Whole}
-use Rattle.run_list.specs.Cases.{bytes, k10-list}
+use Rattle.run_list.specs.Cases.{bytes, nodes, recover, k10-list}
 
 -- o is what a printer of the list l left in its buffer: one that meets `Printed`, where there was room, or one that meets `Whole`
 pub data Holds (l o : List ℕ) : Type 0 where
@@ -26,5 +26,10 @@ pub record NoMutantText : Type 0 where
   pub idles-last : (o y : List ℕ) → Holds k10-list o → o ≡ bytes "cabinets 2\n1 3 2 33 100 1 0\n2 2" ++ y → ⊥
   -- "one that prints a member count out of thin air": node 2 has one member, and no other number k stands there before the line's end
   pub thin-air : (o y : List ℕ) (k : ℕ) → Holds k10-list o → o ≡ bytes "cabinets 2\n1 3 2 33 100 1 0\n2 3 2 33 100 2 " ++ (decimal k ++ (10 ∷ y)) → (k ≡ 1 → ⊥) → ⊥
+  -- nor one that counts events from 0, that gives the next ground's number, or that stops at another offset: the second recovery is refused with 9, and the field
+  -- at 4 is cut short
+  pub from-zero : (o y : List ℕ) → Holds (nodes 2 ++ (recover 1 ++ recover 1)) o → o ≡ bytes "cabinets 2\nrefused 1" ++ y → ⊥
+  pub next-ground : (o y : List ℕ) → Holds (nodes 2 ++ (recover 1 ++ recover 1)) o → o ≡ bytes "cabinets 2\nrefused 2 1" ++ y → ⊥
+  pub stops-elsewhere : (o y : List ℕ) → Holds (nodes 2 ++ (0x11 ∷ [])) o → o ≡ bytes "cabinets 2\nstopped 0" ++ y → ⊥
   -- and none that finds no room where there is
   pub no-room : (b o : List ℕ) {a : Put} → Printed k10-list b o a → length (textOf k10-list) ≤ length b → a ≡ NoRoom → ⊥
