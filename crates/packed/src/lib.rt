@@ -25,7 +25,7 @@ pub struct Ruling {
     pub verdict: Verdict,
 }
 
-// No message waits.
+// Words for a queue in which no message waits yet: which messages they hold does not matter.
 pub fn none() -> [u32; WORDS]
     ensures { λ r. ⌜ length r ≡ 256 ⌝ }
 {

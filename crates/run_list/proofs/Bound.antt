@@ -31,7 +31,7 @@ use Rattle.listing.specs.Lines.{cabinetsLine, refusedLine, stoppedLine, tableLi
 use Rattle.listing.specs.Printing.{shown, printed, joined}
 use Rattle.listing.proofs.Lengths.{cabinets-long, refused-long, stopped-long, table-long, joined-append, joined-one}
 use Rattle.listing.proofs.Printing.{printed-whole, printed-no-room}
-use Rattle.run_list.specs.Text.{noteLines, refusedLines, endingLines, runLines, linesOf, textOf, Printed, textLimit, Whole}
+use Rattle.run_list.specs.Text.{noteLines, refusedLines, endingLines, runLines, linesOf, textOf, Printed, textLimit, TextFits, Whole}
 use Rattle.run_list.proofs.Laws.{left, lines-failed, lines-begun}
 
 -- ── numbers of refusals have two digits at most ──
@@ -112,7 +112,7 @@ left-long l n h i j k =
 -- ── the whole ──
 
 -- A buffer of textLimit bytes is enough for every list.
-pub text-fits : (l : List ℕ) → length (textOf l) ≤ textLimit
+pub text-fits : TextFits
 text-fits l = by (firstOf l) refl
   where
     by : (x : First) → x ≡ firstOf l → length (textOf l) ≤ textLimit

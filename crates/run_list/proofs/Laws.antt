@@ -1,11 +1,14 @@
 -- The lines that are left at a field, by what is read there, and those of a whole list, by its first field.
-use Prim.Native.Nat.{ℕ, _+_}
+use Prim.Native.Nat.{ℕ, _+_, _≤_}
+use native.Mathlib.Omega.{arith}
 use mathlib.Core.Path.{_≡_, refl, sym, _∙_, ap}
-use mathlib.Core.Bool.{true, false}
+use mathlib.Core.Bool.{Bool, true, false}
+use lib.Dec.{eqb}
+use lib.ListN.{length, getD}
 use mathlib.Core.List.{List, [], _∷_, _++_, append-assoc}
 use borrow.Author.Tests.{le-leb}
 use Rattle.model.specs.Limits.{nodeLimit}
-use Rattle.model.specs.Pick.{pick}
+use Rattle.model.specs.Pick.{pick, pick-true}
 use Rattle.model.specs.State.{State, start, wrongCount, inRange}
 use Rattle.model.specs.Step.{Result, refused, accepted, step, kept, after, runFrom}
 use Rattle.model.specs.Answers.{resultNumber}
@@ -21,9 +24,10 @@ use Rattle.event_list.proofs.Reading.{rest-done, rest-stopped, rest-got, readin
 use Rattle.listing.specs.declared.Put.{Put}
 use Rattle.listing.specs.declared.Put.the-variants as Put
 use Rattle.listing.specs.Lines.{cabinetsLine, stoppedLine, tableLines}
-use Rattle.listing.specs.Printing.{shown, printed}
+use Rattle.listing.specs.Printing.{putNumber, shown, printed}
 use Rattle.listing.proofs.Printing.{then-next, then-refused}
-use Rattle.run_list.specs.Text.{noteLines, refusedLines, runLines, linesOf}
+use Rattle.run_list.specs.Text.{noteLines, refusedLines, runLines, linesOf, Headed}
+use Rattle.run_list.specs.declared.Heading.the-variants as Heading
 
 -- A table in range stays in range, whether the event is accepted or refused.
 pub after-in-range : (s : State) (v : Event) → inRange s ≡ true → inRange (after s v) ≡ true
@@ -79,3 +83,38 @@ module _ (l : List ℕ) {x : First} (i : x ≡ firstOf l) where
 
     pub start-in-range : inRange (start n) ≡ true
     start-in-range = let g = first-good l i f in stays-in-range .starts n (g .2) (g .3)
+
+-- ── behind the heading ──
+
+answer-room : (a : Put) → (eqb (putNumber a) 0 ≡ true → ⊥) → a ≡ Put.NoRoom
+answer-room (Put.Next p) z = absurd (z refl)
+answer-room Put.NoRoom z = refl
+
+-- where no run follows, the line is all, or it has no room
+pub headed-ended : (l b o : List ℕ) (a : Put) → Headed l b o (Heading.Ended a) → shown a o ≡ printed b 0 (linesOf l)
+headed-ended l b o a h = by (firstOf l) refl
+  where
+    by : (x : First) → x ≡ firstOf l → shown a o ≡ printed b 0 (linesOf l)
+    by (First.Stopped s) i = h .line ∙ rw (← i, lines-failed l i refl)
+    by (First.Nodes n) i =
+        let e : [] ≡ pick (eqb (putNumber a) 0) (n ∷ []) [] = h .nodes ∙ rw (← i) in
+        let z = answer-room a (λ q. omega (arith, ap length (e ∙ ap (λ (t : Bool). pick t (n ∷ []) []) q ∙ pick-true (n ∷ []) []))) in
+        let w : shown a o ≡ printed b 0 (cabinetsLine n ∷ []) = h .line ∙ rw (← i) in
+        ap (λ (x : Put). shown x o) z ∙ sym (rw (lines-begun l i refl) (then-refused b o 0 a (cabinetsLine n ∷ []) (left l (start n) 4 1) w z))
+
+-- where one does, the first field is good, and what is printed behind the line is the rest of all lines
+pub record Follows (l b o : List ℕ) (n p : ℕ) : Type 0 where
+  pub first : firstOf l ≡ First.Nodes n
+  pub behind : printed o p (left l (start n) 4 1) ≡ printed b 0 (linesOf l)
+
+pub headed-nodes : (l b o : List ℕ) (n p : ℕ) → Headed l b o (Heading.Nodes n p) → Follows l b o n p
+headed-nodes l b o n p h = by (firstOf l) refl
+  where
+    by : (x : First) → x ≡ firstOf l → Follows l b o n p
+    by (First.Stopped s) i = let e : n ∷ [] ≡ [] = h .nodes ∙ rw (← i) (pick-true [] []) in absurd (omega (arith, ap length e))
+    by (First.Nodes k) i =
+        let d : n ∷ [] ≡ k ∷ [] = h .nodes ∙ rw (← i) (pick-true (k ∷ []) []) in
+        let e : n ≡ k = ap (λ (x : List ℕ). getD x 0 0) d in
+        let f : firstOf l ≡ First.Nodes n = sym i ∙ ap First.Nodes (sym e) in
+        let w : shown (Put.Next p) o ≡ printed b 0 (cabinetsLine n ∷ []) = h .line ∙ rw f in
+        record { first = f; behind = rw (lines-begun l refl f) (sym (then-next b o 0 p (Put.Next p) (cabinetsLine n ∷ []) (left l (start n) 4 1) w refl)) }

@@ -1,7 +1,7 @@
 pub mod Laws
 pub mod Bound
 pub mod Behind
-pub mod NamedCases
+pub mod Cases
 pub mod Mutants
 pub mod Turns
 pub mod Shows

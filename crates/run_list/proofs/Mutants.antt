@@ -23,7 +23,7 @@ use Rattle.event_list.specs.Cases.{nodes, recover}
 use Rattle.listing.specs.Ascii.{bytes}
 use Rattle.run_list.specs.Cases.{k10-list}
 use Rattle.run_list.specs.Mutants.{Holds, by-print, by-whole, NoMutantText}
-use Rattle.run_list.proofs.NamedCases.{list-cases}
+use Rattle.run_list.proofs.Cases.{list-cases}
 
 -- ── the texts ──
 

@@ -1,9 +1,9 @@
--- "Named cases": K1 to K13 jointly, with K1 and K10 also from the bytes of a list to the printed text.
+-- "Named cases": K1 to K13 jointly, with K1 and K10 also from the bytes of a list to the printed text; and a text with refusals.
 use Prim.Native.Nat.{ℕ}
 use mathlib.Core.Path.{_≡_}
-use mathlib.Core.List.{List, _++_}
+use mathlib.Core.List.{List, [], _∷_, _++_}
 use Rattle.model.specs.Cases.{NamedCases}
-use Rattle.event_list.specs.Cases.{nodes, recover, check, finish, deliver}
+use Rattle.event_list.specs.Cases.{nodes, crash, recover, check, finish, deliver}
 use Rattle.listing.specs.Ascii.{bytes}
 use Rattle.run_list.specs.Text.{textOf}
 
@@ -29,3 +29,9 @@ pub record ListCases : Type 0 where
       ++ bytes "13 0 0 0 0 0 0\n14 0 0 0 0 0 0\n15 0 0 0 0 0 0\n16 0 0 0 0 0 0\nmessages 0\n"))
   -- K10's lines
   pub k10 : textOf k10-list ≡ bytes "cabinets 2\n1 3 2 33 100 1 0\n2 3 2 33 100 2 1\nmessages 0\n"
+  -- refused events are counted with the others, and a stop comes behind them and before the table so far: a second recovery, a crash of a node that is Down, and
+  -- a field cut short behind a good event
+  pub refused-stopped : textOf (nodes 2 ++ (recover 1 ++ (recover 1 ++ (crash 2 ++ (recover 2 ++ (0x17 ∷ 0 ∷ []))))))
+      ≡ bytes "cabinets 2\nrefused 2 9\nrefused 3 9\nstopped 20 3\n1 3 1 16 1 1 0\n2 3 2 17 2 1 0\nmessages 0\n"
+  -- "if the whole list or the first field failed, that line is all that is printed"
+  pub failed-alone : textOf (0x01 ∷ 0 ∷ 2 ∷ 2 ∷ 2 ∷ []) ≡ bytes "stopped 0 5\n"

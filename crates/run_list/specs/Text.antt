@@ -9,10 +9,11 @@ use Rattle.model.specs.State.{State, start}
 use Rattle.model.specs.Step.{step, after, runFrom}
 use Rattle.model.specs.Answers.{resultNumber}
 use Rattle.model.specs.declared.Event.{Event}
-use Rattle.event_list.specs.declared.First.the-variants.{Nodes}
-use Rattle.event_list.specs.Format.{firstOf, rest, stopNumber, Ending, complete, stopped, Reading, Listed, failed, begun, reading}
+use Rattle.event_list.specs.declared.First.{First}
+use Rattle.event_list.specs.declared.First.the-variants as First
+use Rattle.event_list.specs.Format.{firstOf, stopNumber, Ending, complete, stopped, Reading, Listed, failed, begun, reading}
 use Rattle.listing.specs.Lines.{cabinetsLine, refusedLine, stoppedLine, tableLines}
-use Rattle.listing.specs.Printing.{shown, printed, joined}
+use Rattle.listing.specs.Printing.{putNumber, shown, printed, joined}
 use Rattle.listing.specs.declared.Put.{Put}
 use Rattle.listing.specs.declared.Put.the-variants.{Next, NoRoom}
 use Rattle.run_list.specs.declared.Heading.{Heading}
@@ -60,9 +61,13 @@ pub record Printed (l b o : List ℕ) (a : Put) : Type 0 where
   -- in any case the lines are written one after the other, up to the first that does not fit
   pub lines : shown a o ≡ printed b 0 (linesOf l)
 
--- No text is longer: `cabinets n`, a line for each of at most 16,383 events (of four bytes or more) and for a stop, and the table of 16 nodes.
+-- A bound: `cabinets n`, a line for each of at most 16,383 events (of four bytes or more) and for a stop, and the table of 16 nodes.
 abbrev pub textLimit : ℕ
 textLimit = 12 + 17 * 16384 + (34 * 16 + 12)
+
+-- No text is longer.
+abbrev pub TextFits : Type 0
+TextFits = (l : List ℕ) → length (textOf l) ≤ textLimit
 
 -- What printing the list l into a buffer of that size answers, r, and leaves there, o: the text, and behind it what was there, b.
 pub record Whole (l b o : List ℕ) (r : ℕ) : Type 0 where
@@ -72,15 +77,29 @@ pub record Whole (l b o : List ℕ) (r : ℕ) : Type 0 where
   pub within : r ≤ length o
   pub counted : r ≡ length (take r o)
 
--- The list l is good up to its first field, which says n, and what is printed behind that field's line, from the offset p of the buffer o on, is the rest
--- of what is printed into b.
-pub record Follows (l b o : List ℕ) (n p : ℕ) : Type 0 where
-  pub first : firstOf l ≡ Nodes n
-  pub rest-of : printed o p (runLines (start n) 1 (rest l 4)) ≡ printed b 0 (linesOf l)
+-- ── the first line ──
 
--- What the first line of the list l leaves in the buffer, o, where b was before.
-abbrev pub Headed : List ℕ → List ℕ → List ℕ → Heading → Type 0
--- there are no more lines, or there was no room
-Headed l b o (Heading.Ended a) = shown a o ≡ printed b 0 (linesOf l)
--- the lines of a run come next
-Headed l b o (Heading.Nodes n p) = Follows l b o n p
+-- by what the first field says: its line
+abbrev pub firstLine : First → List ℕ
+firstLine (First.Stopped s) = stoppedLine 0 (stopNumber s)
+firstLine (First.Nodes n) = cabinetsLine n
+
+-- and the number of nodes of the run behind it, where one follows
+abbrev pub firstNodes : First → List ℕ
+firstNodes (First.Stopped s) = []
+firstNodes (First.Nodes n) = n ∷ []
+
+-- of an answer: what printing the line answers, and the number of nodes of the run behind it, where one follows
+abbrev pub headingPut : Heading → Put
+headingPut (Heading.Ended a) = a
+headingPut (Heading.Nodes n p) = Next p
+
+abbrev pub headingNodes : Heading → List ℕ
+headingNodes (Heading.Ended a) = []
+headingNodes (Heading.Nodes n p) = n ∷ []
+
+-- What printing the first line of the list l into a buffer that held b answers, h, and leaves there, o. A run follows where the first field is good and its line
+-- has room.
+pub record Headed (l b o : List ℕ) (h : Heading) : Type 0 where
+  pub line : shown (headingPut h) o ≡ printed b 0 (firstLine (firstOf l) ∷ [])
+  pub nodes : headingNodes h ≡ pick (eqb (putNumber (headingPut h)) 0) (firstNodes (firstOf l)) []

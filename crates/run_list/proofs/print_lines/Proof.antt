@@ -3,7 +3,7 @@ use borrow.Author.Needs.{needs}
 use denote.Ref.{now}
 use mathlib.Core.Path.{refl, _∙_}
 use Rattle.event_list.proofs.Reading.{first-good}
-use Rattle.run_list.proofs.Laws.{start-in-range}
+use Rattle.run_list.proofs.Laws.{start-in-range, headed-ended, headed-nodes}
 use Rattle.run_list.proofs.Turns.{start-empty}
 use Rattle.run_list.proofs.print_lines.Statement.{statement}
 use Rattle.run_list.proofs.print_lines.Tie as tie
@@ -13,13 +13,13 @@ run-requires c κs =
     let m = c .before .before .before .before in
     let h = m .before .before .before .before in
     let l = now (h .before .before .before .before .args .list) in
-    let f = rw (m .n .given .1) at (h .put-heading .ensures) in
+    let f = headed-nodes l _ _ _ _ (rw (m .n .given .1) at (h .put-heading .ensures)) in
     let g = first-good l refl (f .first) in
     let b = c .before .before .starting .ensures .table in
     (g .0, g .1, rw b (start-in-range l refl (f .first)), start-empty _ _ b)
 
 returns : tie.Need-returns
-returns c = rw (c .before .a .given .1) at (c .before .before .before .before .before .put-heading .ensures)
+returns c = headed-ended _ _ _ _ (rw (c .before .a .given .1) at (c .before .before .before .before .before .put-heading .ensures))
 
 returns-2 : tie.Need-returns-2
 returns-2 c =
@@ -28,8 +28,8 @@ returns-2 c =
     let m = s .before .before in
     let h = m .before .before .before .before in
     let l = now (h .before .before .before .before .args .list) in
-    let f = rw (m .n .given .1) at (h .put-heading .ensures) in
-    r .run .ensures ∙ rw (s .starting .ensures .table) (f .rest-of)
+    let f = headed-nodes l _ _ _ _ (rw (m .n .given .1) at (h .put-heading .ensures)) in
+    r .run .ensures ∙ rw (s .starting .ensures .table) (f .behind)
 
 pub print-lines-spec : {M : Type 1} → statement M
 print-lines-spec =

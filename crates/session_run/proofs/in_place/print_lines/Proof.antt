@@ -3,6 +3,7 @@ use borrow.Author.Needs.{needs}
 use denote.Ref.{now}
 use mathlib.Core.Path.{refl, _∙_}
 use Rattle.event_list.proofs.Reading.{first-good}
+use Rattle.run_list.proofs.Laws.{headed-ended, headed-nodes}
 use Rattle.session_run.proofs.in_place.print_lines.Statement.{statement}
 use Rattle.session_run.proofs.in_place.print_lines.Tie as tie
 
@@ -10,11 +11,12 @@ run-requires : tie.Need-run-requires
 run-requires c κs =
     let m = c .before .before .before .before in
     let h = m .before .before .before .before in
-    let g = first-good (now (h .before .before .before .before .args .list)) refl ((rw (m .n .given .1) at (h .put-heading .ensures)) .first) in
+    let l = now (h .before .before .before .before .args .list) in
+    let g = first-good l refl (headed-nodes l _ _ _ _ (rw (m .n .given .1) at (h .put-heading .ensures)) .first) in
     (g .0, g .1)
 
 returns : tie.Need-returns
-returns c = rw (c .before .a .given .1) at (c .before .before .before .before .before .put-heading .ensures)
+returns c = headed-ended _ _ _ _ (rw (c .before .a .given .1) at (c .before .before .before .before .before .put-heading .ensures))
 
 returns-2 : tie.Need-returns-2
 returns-2 c =
@@ -23,8 +25,8 @@ returns-2 c =
     let m = s .before .before in
     let h = m .before .before .before .before in
     let l = now (h .before .before .before .before .args .list) in
-    let f = rw (m .n .given .1) at (h .put-heading .ensures) in
-    r .run .ensures ∙ rw (s .starting .ensures .table) (f .rest-of)
+    let f = headed-nodes l _ _ _ _ (rw (m .n .given .1) at (h .put-heading .ensures)) in
+    r .run .ensures ∙ rw (s .starting .ensures .table) (f .behind)
 
 pub print-lines-spec : {M : Type 1} → statement M
 print-lines-spec =

@@ -25,4 +25,6 @@ list-cases =
       k1-first = refl;
       k1-last = refl;
       k10 = refl;
+      refused-stopped = refl;
+      failed-alone = refl;
     }
