@@ -10,7 +10,7 @@ use lib.Seq.{take-append-le, drop-at}
 use borrow.Author.Needs.{needs}
 use borrow.Author.Tests.{lt-leb, lt-ltb, le-ltb, ltb-true, ltb-false, ne-eqb}
 use Rattle.model.specs.Pick.{pick, pick-true, pick-false, by-test}
-use Rattle.model.specs.State.{State, noMessage, startingNode}
+use Rattle.model.specs.State.{State, noMessage, startingNode, inRange}
 use Rattle.model.specs.Step.{Ground, grounds, Result, refused, accepted, judged, step}
 use Rattle.model.specs.Answers.{resultNumber}
 use Rattle.model.specs.declared.Event.{Event}
@@ -96,14 +96,18 @@ module _ (t f b : List ℕ) where
   unfolding stepNumber
   short h = rw (lt-ltb (length b) size h, pick-true)
 
-  long : size ≤ length b → stepNumber t f b ≡ fieldNumber (stateOf t) (nextAt f 0)
+  not-in-range : size ≤ length b → inRange (stateOf t) ≡ false → stepNumber t f b ≡ 1
   unfolding stepNumber
-  long h = rw (le-ltb (length b) size h, pick-false)
+  not-in-range h q = rw (le-ltb (length b) size h, pick-false, q, pick-true)
+
+  long : size ≤ length b → inRange (stateOf t) ≡ true → stepNumber t f b ≡ fieldNumber (stateOf t) (nextAt f 0)
+  unfolding stepNumber
+  long h q = rw (le-ltb (length b) size h, pick-false, q, pick-false)
 
   only-short : stepNumber t f b ≡ 255 → length b < size
   unfolding stepNumber
   only-short =
-      by-test (λ (n : ℕ). n ≡ 255 → length b < size) (λ q _. ltb-true (length b) size q) (λ _ z. absurd (omega (arith, field-small (stateOf t) (nextAt f 0))))
+      by-test (λ (n : ℕ). n ≡ 255 → length b < size) (λ q _. ltb-true (length b) size q) (λ _. by-test (λ (n : ℕ). n ≡ 255 → length b < size) (λ _ z. absurd (omega (arith, z))) (λ _ z. absurd (omega (arith, field-small (stateOf t) (nextAt f 0)))))
 
   keeps : (stepNumber t f b ≡ 0 → ⊥) → stepBytes t f b ≡ b
   unfolding stepBytes
@@ -119,12 +123,12 @@ module _ (t f b : List ℕ) where
       state-long : (s : State) → length (stateBytes s) ≡ size
       state-long s = encoded-size (tableOf s) (first-length 16 startingNode (s .nodes)) (first-length 64 noMessage (s .queue))
 
-  no-event : (s : Stop) → size ≤ length b → nextAt f 0 ≡ Stopped s → (3 ≤ stepNumber t f b) × (stepNumber t f b ≤ 5)
-  no-event s h q = rw (long h, q) (rw q at (bad-at f 0))
+  no-event : (s : Stop) → size ≤ length b → inRange (stateOf t) ≡ true → nextAt f 0 ≡ Stopped s → (3 ≤ stepNumber t f b) × (stepNumber t f b ≤ 5)
+  no-event s h g q = rw (long h g, q) (rw q at (bad-at f 0))
 
-empty : (t b : List ℕ) → size ≤ length b → stepNumber t [] b ≡ 3
+empty : (t b : List ℕ) → size ≤ length b → inRange (stateOf t) ≡ true → stepNumber t [] b ≡ 3
 unfolding nextAt pick
-empty t b h = long t [] b h
+empty t b h g = long t [] b h g
 
 module _ (t f g b : List ℕ) (h : cutShort f 0 ≡ false) where
   same-number : stepNumber t (f ++ g) b ≡ stepNumber t f b
@@ -136,4 +140,4 @@ module _ (t f g b : List ℕ) (h : cutShort f 0 ≡ false) where
   same-bytes = rw (same-number, same-field f g h)
 
 pub step-claims : StepClaims
-step-claims = record { short = short; only-short = only-short; keeps = keeps; behind = behind; empty = empty; no-event = no-event; first-alone = λ t f g b h. (same-number t f g b h, same-bytes t f g b h) }
+step-claims = record { short = short; only-short = only-short; keeps = keeps; behind = behind; not-in-range = not-in-range; empty = empty; no-event = no-event; first-alone = λ t f g b h. (same-number t f g b h, same-bytes t f g b h) }

@@ -1,13 +1,14 @@
--- The promise of `nevraspu_step` by its cases: too little room, a field that is no event, and an event.
+-- The promise of `nevraspu_step` by its cases: too little room, a table not in range, a field that is no event, and an event.
 use Prim.Native.Nat.{ℕ, _≤_, _<_}
 use native.Mathlib.Omega.{arith}
 use mathlib.Core.Path.{_≡_, refl, sym, _∙_, ap}
+use mathlib.Core.Bool.{true, false}
 use mathlib.Core.List.{List, _++_}
 use lib.Dec.{eqb, ltb}
 use lib.ListN.{length, drop}
 use borrow.Author.Tests.{lt-ltb, le-ltb, eqb-true, eqb-false, ne-eqb}
 use Rattle.model.specs.Pick.{pick, pick-true, pick-false, by-test}
-use Rattle.model.specs.State.{State, view}
+use Rattle.model.specs.State.{State, inRange, view}
 use Rattle.model.specs.declared.Event.{Event}
 use Rattle.model.specs.declared.Outcome.{Outcome}
 use Rattle.machine.specs.Stepped.{Stepped}
@@ -28,10 +29,14 @@ module _ (t f b : List ℕ) where
   unfolding stepNumber
   short h = keeps 255 (rw (lt-ltb (length b) size h, pick-true)) (λ z. omega arith)
 
-  module _ (room : size ≤ length b) where
+  pub away : size ≤ length b → inRange (stateOf t) ≡ false → StepExported t f b b 1
+  unfolding stepNumber
+  away h q = keeps 1 (rw (le-ltb (length b) size h, pick-false, q, pick-true)) (λ z. omega arith)
+
+  module _ (room : size ≤ length b) (good : inRange (stateOf t) ≡ true) where
     long : stepNumber t f b ≡ fieldNumber (stateOf t) (nextAt f 0)
     unfolding stepNumber
-    long = rw (le-ltb (length b) size room, pick-false)
+    long = rw (le-ltb (length b) size room, pick-false, good, pick-false)
 
     -- x: what stands in the field
     pub no-event : (x : Next) → x ≡ nextAt f 0 → (r : ℕ) → r ≡ fieldNumber (stateOf t) x → (r ≡ 0 → ⊥) → StepExported t f b b r

@@ -1,12 +1,13 @@
 -- What the exported functions promise: for any bytes at all, the number that is answered and what the lent buffer then holds.
 use mathlib.Core.Path.{_≡_}
+use mathlib.Core.Bool.{not}
 use mathlib.Core.List.{List, [], _∷_, _++_}
 use Prim.Native.Nat.{ℕ, _+_}
 use lib.Dec.{eqb, ltb}
 use lib.ListN.{length, drop}
 use Rattle.model.specs.Pick.{pick}
 use Rattle.model.specs.Limits.{nodeLimit, queueLimit}
-use Rattle.model.specs.State.{State, start, startingNode, noMessage, firstOf, view}
+use Rattle.model.specs.State.{State, start, startingNode, noMessage, firstOf, inRange, view}
 use Rattle.model.specs.Step.{step, after}
 use Rattle.model.specs.Answers.{resultNumber}
 use Rattle.model.specs.declared.Event.{Event}
@@ -49,9 +50,10 @@ fieldAfter s Done = s
 fieldAfter s (Stopped x) = s
 fieldAfter s (Got e next) = after s e
 
--- What is answered for the bytes of a table, t, and of a field, f, with a lent buffer that holds b. Whether b has the room of a table is looked at first
+-- What is answered for the bytes of a table, t, and of a field, f, with a lent buffer that holds b. Whether b has the room of a table is looked at first; then, as in
+-- 01's table of grounds, the "table handed in", the field and the event
 unfoldable pub stepNumber : List ℕ → List ℕ → List ℕ → ℕ
-stepNumber t f b = pick (ltb (length b) size) 255 (fieldNumber (stateOf t) (nextAt f 0))
+stepNumber t f b = pick (ltb (length b) size) 255 (pick (not (inRange (stateOf t))) 1 (fieldNumber (stateOf t) (nextAt f 0)))
 
 -- What the buffer then holds: the table after the event, and behind it what was there; "lent bytes stay as they stood" by any other answer than 0
 unfoldable pub stepBytes : List ℕ → List ℕ → List ℕ → List ℕ

@@ -107,7 +107,7 @@ fn answered(answer: Answer, t: Table, out: &mut [u8]) -> u8
 // One event on a table. table is the table in bytes, in the form of crate table_bytes: any bytes are some table, in range or not. field is the event as a field of
 // a list: tag, two-byte length, contents; bytes behind it are not looked at. out needs the room of a table, 1,362 bytes. The answer:
 //   0         accepted: out starts with the table after the event, with 0 in all places that are no part of it
-//   1         the table is not in range
+//   1         the table is not in range; this is looked at next
 //   3, 4, 5   no event: cut short, or no bytes at all; a tag that is no event's; a length that is wrong for the tag
 //   7 to 14   the event is refused, by 01's number
 //   255       out is too short; this is looked at first
@@ -119,11 +119,15 @@ pub extern "C" fn nevraspu_step(table: &[u8], field: &[u8], out: &mut [u8]) -> u
     if out.len() < table_bytes::SIZE {
         return 255;
     }
+    let t = table_bytes::decode(table);
+    if !machine::in_range(t) {
+        return 1;
+    }
     match event_list::event_at(field, 0) {
         Next::Done => 3,
         Next::Stopped(s) => event_list::stop_number(s),
         Next::Got(event, _) => {
-            let o = machine::step(table_bytes::decode(table), event);
+            let o = machine::advance(t, event);
             let next = o.table;
             let answer = o.answer;
             answered(answer, next, out)
