@@ -285,7 +285,7 @@ pub fn field_difference(
     let mut own = table.clone();
     let expected = match first_event(field) {
         _ if room < TABLE_BYTES => Err(TOO_SHORT),
-        Err(_) if answer == 1 && !table.in_range() => Err(1),
+        Err(_) if !table.in_range() => Err(1),
         Err(number) => Err(number),
         Ok(event) => step(&mut own, &event),
     };

@@ -28,9 +28,10 @@ pub trait Library {
 
     /// One event, as a field of a list, on a table: zeros are read behind the end of a table that is cut
     /// short, and what is longer is not looked at. Accepted is 0, and out begins with the table after
-    /// it. A refusal is its number, and out stays as it was: 3, 4 or 5 where the field is none; what
-    /// stands behind the first field is not looked at. TOO_SHORT, which comes first, is for an out
-    /// shorter than a table, and out stays as it was.
+    /// it. A refusal is its number, and out stays as it was: 1 for a table not in range, whatever the
+    /// field is; then 3, 4 or 5 where the field is none; what stands behind the first field is not
+    /// looked at. TOO_SHORT, which comes first, is for an out shorter than a table, and out stays as it
+    /// was.
     fn step(&self, table: &[u8], field: &[u8], out: &mut [u8]) -> u8;
 
     /// Every event of a list by the step with the range check: how many were accepted.
@@ -163,7 +164,12 @@ pub fn step_by(
     let length = table.len().min(TABLE_BYTES);
     bytes[..length].copy_from_slice(&table[..length]);
     let mut table = table_from_bytes(&bytes);
-    match first_event(field).and_then(|event| machine(&mut table, &event)) {
+    let answer = match first_event(field) {
+        Err(_) if !table.in_range() => Err(1),
+        Err(number) => Err(number),
+        Ok(event) => machine(&mut table, &event),
+    };
+    match answer {
         Ok(()) => {
             table_to_bytes(&table, out);
             0
