@@ -22,7 +22,7 @@ use Rattle.event_list.proofs.Reading.{reading-failed, reading-begun, first-good
 use Rattle.listing.specs.Lines.{cabinetsLine, refusedLine, stoppedLine, messagesLine, nodeLines, tableLines}
 use Rattle.listing.specs.Printing.{joined}
 use Rattle.listing.proofs.Parted.{Each, Stops, each-map, each-append, parted, IsLine, joined-same}
-use Rattle.listing.proofs.Claims.{lines-determine, cabinets-line, refused-line, stopped-line, table-lines, table-same, node-low}
+use Rattle.listing.proofs.Claims.{lines-determine, cabinets-line, refused-line, stopped-line, table-lines, table-same, table-small, node-low}
 use Rattle.run_list.specs.Text.{noteLines, refusedLines, endingLines, runLines, linesOf, textOf}
 use Rattle.run_list.specs.Shows.{Refusal, refusals, SameText, TextDetermines}
 use Rattle.run_list.proofs.Bound.{step-small, stop-small}
@@ -208,7 +208,7 @@ read-same l k n m r q e f t =
       nodes = lines-determine .cabinets n m (omega arith) (omega arith) (head-eq-of-cons-eq w);
       refused = map-same a1 a2 (refusals-small (start n) 1 (r .events) (omega arith)) (refusals-small (start m) 1 (q .events) (omega arith)) (z .0);
       ending = ending-same (r .ending) (q .ending) (g .ending) (h .ending) (z .1);
-      table = table-same (run n (r .events)) (run m (q .events)) i j (y .1);
+      table = table-same (run n (r .events)) (run m (q .events)) (table-small (run n (r .events)) i) (table-small (run m (q .events)) j) (y .1);
     }
 
 -- where the whole list or the first field failed
