@@ -78,7 +78,7 @@ pub record ReadingCases : Type 0 where
   pub high-cut : reading (0x01 ∷ 1 ∷ 1 ∷ 2 ∷ []) ≡ failed CutShort
   pub high-first : reading (0x01 ∷ 1 ∷ 1 ∷ replicate 257 2) ≡ failed WrongLength
   pub high-event : reading (nodes 2 ++ (0x10 ∷ 1 ∷ 1 ∷ replicate 257 1)) ≡ begun 2 (ended (stopped 4 WrongLength))
-  -- "Checked from the top; the first that applies is given". 2 before 3: 65,537 bytes, one fewer than the first field says
+  -- "Checked from the top; the first that applies is given". 2 before 3: 65,537 bytes, one fewer than the first field needs
   pub two-three : reading (0x01 ∷ 255 ∷ 255 ∷ replicate 65534 2) ≡ failed TooLong
   -- 2 before 4: 65,537 bytes with another tag first
   pub two-four : reading (replicate 65537 0) ≡ failed TooLong
