@@ -1,4 +1,4 @@
--- The short lists, computed over the definitions.
+-- The single lists, computed over the definitions.
 use mathlib.Core.Path.{refl}
 use Rattle.model.specs.Pick.{pick}
 use Rattle.event_list.specs.Format.{lengthOf, cutShort, checked, eventOf, nextAt, nodesOf, firstOf, readFrom, rest, reading}
@@ -8,20 +8,38 @@ pub reading-cases : ReadingCases
 unfolding lengthOf cutShort checked eventOf nextAt nodesOf firstOf readFrom rest reading pick
 reading-cases =
     record {
-      k1-number = refl;
+      number-two = refl;
+      number-three = refl;
+      number-four = refl;
+      number-five = refl;
+      number-six = refl;
       k1-low = refl;
       k1-high = refl;
       k1-first = refl;
       k1-last = refl;
-      cut-number = refl;
+      longest = refl;
+      too-long = refl;
       empty = refl;
+      one-left = refl;
       two-left = refl;
       no-contents = refl;
       other-first = refl;
-      long-first = refl;
-      unknown-cut = refl;
-      unknown-short = refl;
       first-again = refl;
+      three-left = refl;
+      long-first = refl;
       known-long = refl;
+      high-cut = refl;
+      high-first = refl;
+      high-event = refl;
+      two-three = refl;
+      two-four = refl;
+      other-cut = refl;
+      unknown-cut = refl;
+      other-long = refl;
+      unknown-long = refl;
+      again-long = refl;
+      none-first = refl;
+      long-low = refl;
+      long-high = refl;
       every-event = refl;
     }

@@ -187,7 +187,7 @@ few-events (suc k) l at h = by (nextAt l at) (past-at l at) (λ n u. few-events 
     by (Next.Stopped s) g r = omega arith
     by (Next.Got e n) g r = let z = r n (g .1) in omega arith
 
-pub rest-few : (l : List ℕ) (at : ℕ) → at ≤ length l → at + 4 * length (rest l at .events) ≤ length l
+rest-few : (l : List ℕ) (at : ℕ) → at ≤ length l → at + 4 * length (rest l at .events) ≤ length l
 unfolding rest
 rest-few l at h = few-events (length l) l at h
 

@@ -122,19 +122,34 @@ fn decode(tag: u8, contents: &[u8], next: usize) -> Next
     ensures { λ r. ⌜ r ≡ decoded tag (now (contents .entry)) next ⌝ }
 {
     let size = contents.len();
-    let a = byte(contents, 0);
-    let b = byte(contents, 1);
-    let c = byte(contents, 2);
     match tag {
-        0x10 => sized_event(size, 1, Event::Crash(a), next),
-        0x11 => sized_event(size, 1, Event::Recover(a), next),
-        0x12 => sized_event(size, 1, Event::Check(a), next),
-        0x13 => sized_event(size, 1, Event::Timeout(a), next),
-        0x14 => sized_event(size, 1, Event::Tick(a), next),
-        0x15 => sized_event(size, 1, Event::Expire(a), next),
-        0x16 => sized_event(size, 3, Event::Finish(a, task_of(b, c)), next),
-        0x17 => sized_event(size, 2, Event::Deliver(a, b), next),
-        0x18 => sized_event(size, 2, Event::Lose(a, b), next),
+        0x10 => sized_event(size, 1, Event::Crash(byte(contents, 0)), next),
+        0x11 => sized_event(size, 1, Event::Recover(byte(contents, 0)), next),
+        0x12 => sized_event(size, 1, Event::Check(byte(contents, 0)), next),
+        0x13 => sized_event(size, 1, Event::Timeout(byte(contents, 0)), next),
+        0x14 => sized_event(size, 1, Event::Tick(byte(contents, 0)), next),
+        0x15 => sized_event(size, 1, Event::Expire(byte(contents, 0)), next),
+        0x16 => sized_event(
+            size,
+            3,
+            Event::Finish(
+                byte(contents, 0),
+                task_of(byte(contents, 1), byte(contents, 2)),
+            ),
+            next,
+        ),
+        0x17 => sized_event(
+            size,
+            2,
+            Event::Deliver(byte(contents, 0), byte(contents, 1)),
+            next,
+        ),
+        0x18 => sized_event(
+            size,
+            2,
+            Event::Lose(byte(contents, 0), byte(contents, 1)),
+            next,
+        ),
         0..=0x0f | 0x19..=255 => Next::Stopped(Stop::WrongTag),
     }
 }

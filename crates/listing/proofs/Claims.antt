@@ -15,14 +15,14 @@ use Rattle.model.specs.declared.Status.{Status}
 use Rattle.model.specs.declared.Status.the-variants.{Down, Election, Reorganization, Normal}
 use Rattle.model.specs.Answers.{statusNumber}
 use Rattle.model.specs.Range.{nodeInRange}
-use Rattle.model.specs.State.{State, startingNode, every, inRange}
+use Rattle.model.specs.State.{State, startingNode, nodeAt, inRange}
 use Rattle.model.proofs.Local.{both-left, both-right}
-use Rattle.model.proofs.Fields.{node-facts, in-range-size, in-range-nodes}
+use Rattle.model.proofs.Fields.{node-facts, in-range-size, in-range-node}
 use Rattle.listing.specs.Ascii.{bytes}
 use Rattle.listing.specs.Decimal.{decimal, valueOf}
 use Rattle.listing.specs.Lines.{row, cabinetsLine, refusedLine, stoppedLine, nodeLine, messagesLine, nodeLines, tableLines}
 use Rattle.listing.specs.Printing.{joined}
-use Rattle.listing.specs.Claims.{SameShown, SameTable, LinesDetermine, BufferKept}
+use Rattle.listing.specs.Claims.{SameShown, SameTable, SmallNode, SmallTable, LinesDetermine, BufferKept}
 use Rattle.listing.proofs.Decimal.{decimal-each, decimal-denotes}
 use Rattle.listing.proofs.Printing.{printed-before, printed-long}
 use Rattle.listing.proofs.Lengths.{status-small}
@@ -140,13 +140,8 @@ status-same a b e = sym (back a) ∙ ap (λ (n : ℕ). of n) e ∙ back b
 abbrev numbers : Node → List ℕ
 numbers c = statusNumber (c .status) ∷ c .coordinator ∷ c .group .number ∷ c .task .number ∷ c .counter ∷ count (c .members) ∷ []
 
-numbers-small : (n i : ℕ) (c : Node) → n ≤ 16 → nodeInRange n i c ≡ true → Each Small (numbers c)
-numbers-small n i c h e =
-    let f = node-facts n i c e in
-    let s = status-small (c .status) in
-    let g : c .group .number ≤ 16777215 = ⊎-elim (λ e. omega arith) (λ e. omega arith) (f .group) in
-    let m = count-within n (c .members) (f .members .inside) in
-    (omega arith, (omega arith, (omega arith, (omega arith, (omega arith, (omega arith, tt))))))
+numbers-small : (c : Node) → SmallNode c → Each Small (numbers c)
+numbers-small c f = let s = status-small (c .status) in (omega arith, (f .coordinator, (f .group, (f .task, (f .counter, (f .members, tt))))))
 
 numbers-same : (c d : Node) → numbers c ≡ numbers d → SameShown c d
 numbers-same c d e =
@@ -164,11 +159,18 @@ numbers-same c d e =
       members = head-eq-of-cons-eq t5;
     }
 
-node-same : (n i : ℕ) (c : Node) (m j : ℕ) (d : Node) → n ≤ 16 → i ≤ n → nodeInRange n i c ≡ true → m ≤ 16 → j ≤ m → nodeInRange m j d ≡ true → nodeLine i c ≡ nodeLine j d → (i ≡ j) × SameShown c d
+node-same : (i : ℕ) (c : Node) (j : ℕ) (d : Node) → Small i → SmallNode c → Small j → SmallNode d → nodeLine i c ≡ nodeLine j d → (i ≡ j) × SameShown c d
 unfolding nodeLine
-node-same n i c m j d h k f h' k' g e =
-    let r = number-row i j (numbers c) (numbers d) (omega arith) (omega arith) e in
-    (r .0, numbers-same c d (row-same (numbers c) (numbers d) (numbers-small n i c h f) (numbers-small m j d h' g) (r .1)))
+node-same i c j d h f k g e =
+    let r = number-row i j (numbers c) (numbers d) h k e in
+    (r .0, numbers-same c d (row-same (numbers c) (numbers d) (numbers-small c f) (numbers-small d g) (r .1)))
+
+node-small : (n i : ℕ) (c : Node) → n ≤ 16 → nodeInRange n i c ≡ true → SmallNode c
+node-small n i c h e =
+    let f = node-facts n i c e in
+    let g : c .group .number ≤ 16777215 = ⊎-elim (λ e. omega arith) (λ e. omega arith) (f .group) in
+    let m = count-within n (c .members) (f .members .inside) in
+    record { coordinator = omega arith; group = omega arith; task = omega arith; counter = omega arith; members = omega arith }
 
 -- ── a table ──
 
@@ -203,28 +205,35 @@ more c d cs ds k j h r = record { long = ap suc (r .long); at = at; waiting = r 
     at zero l = h
     at (suc q) l = r .at q (omega arith)
 
-module _ (n m : ℕ) (h : n ≤ 16) (h' : m ≤ 16) (k j : ℕ) (u : Small k) (v : Small j) where
-  nodes-same : (i : ℕ) (cs ds : List Node) → i + length cs ≤ n + 1 → i + length ds ≤ m + 1 → every (nodeInRange n) i cs ≡ true → every (nodeInRange m) i ds ≡ true →
-      nodeLines i cs ++ (messagesLine k ∷ []) ≡ nodeLines i ds ++ (messagesLine j ∷ []) → SameNodes cs ds k j
-  unfolding nodeLines every messagesLine
-  nodes-same i [] [] a b f g e = record { long = refl; at = λ q l. absurd (omega arith); waiting = one-same (bytes "messages") u v (head-eq-of-cons-eq e) }
-  nodes-same i [] (d ∷ ds) a b f g e = absurd (not-messages i d k (sym (head-eq-of-cons-eq e)))
-  nodes-same i (c ∷ cs) [] a b f g e = absurd (not-messages i c j (head-eq-of-cons-eq e))
-  nodes-same i (c ∷ cs) (d ∷ ds) a b f g e =
-      more c d cs ds k j
-      (node-same n i c m i d h (omega arith) (both-left _ _ f) h' (omega arith) (both-left _ _ g) (head-eq-of-cons-eq e) .1)
-      (nodes-same (i + 1) cs ds (omega arith) (omega arith) (both-right (nodeInRange n i c) _ f) (both-right (nodeInRange m i d) _ g) (tail-eq-of-cons-eq e))
+abbrev SmallNodes : List Node → Type 0
+SmallNodes cs = (q : ℕ) → q < length cs → SmallNode (getD cs q startingNode)
 
-pub table-same : (s t : State) → inRange s ≡ true → inRange t ≡ true → tableLines s ≡ tableLines t → SameTable s t
+module _ (k j : ℕ) (u : Small k) (v : Small j) where
+  nodes-same : (i : ℕ) (cs ds : List Node) → i + length cs ≤ 2 ^ 32 → SmallNodes cs → SmallNodes ds → nodeLines i cs ++ (messagesLine k ∷ []) ≡ nodeLines i ds ++ (messagesLine j ∷ []) → SameNodes cs ds k j
+  unfolding nodeLines messagesLine
+  nodes-same i [] [] a f g e = record { long = refl; at = λ q l. absurd (omega arith); waiting = one-same (bytes "messages") u v (head-eq-of-cons-eq e) }
+  nodes-same i [] (d ∷ ds) a f g e = absurd (not-messages i d k (sym (head-eq-of-cons-eq e)))
+  nodes-same i (c ∷ cs) [] a f g e = absurd (not-messages i c j (head-eq-of-cons-eq e))
+  nodes-same i (c ∷ cs) (d ∷ ds) a f g e =
+      more c d cs ds k j
+      (node-same i c i d (omega arith) (f zero (omega arith)) (omega arith) (g zero (omega arith)) (head-eq-of-cons-eq e) .1)
+      (nodes-same (i + 1) cs ds (omega arith) (λ q l. f (suc q) (omega arith)) (λ q l. g (suc q) (omega arith)) (tail-eq-of-cons-eq e))
+
+small-nodes : (s : State) → SmallTable s → SmallNodes (s .nodes)
+small-nodes s f q l = let z : q + 1 - 1 ≡ q = omega arith in rw z at (f .node (q + 1) (omega arith) (omega (arith, f .long)))
+
+pub table-same : (s t : State) → SmallTable s → SmallTable t → tableLines s ≡ tableLines t → SameTable s t
 unfolding tableLines
 table-same s t f g e =
-    let a = in-range-size s f in
-    let b = in-range-size t g in
     let r =
-    nodes-same (s .n) (t .n) (a .1) (b .1) (length (s .queue)) (length (t .queue)) (omega arith) (omega arith) 1 (s .nodes) (t .nodes) (omega arith) (omega arith)
-    (in-range-nodes s f) (in-range-nodes t g) e
+    nodes-same (length (s .queue)) (length (t .queue)) (f .waiting) (g .waiting) 1 (s .nodes) (t .nodes) (omega (arith, f .long, f .n)) (small-nodes s f) (small-nodes t g) e
     in
-    record { n = omega arith; node = λ i l o. r .at (i - 1) (omega arith); waiting = r .waiting }
+    record { n = sym (f .long) ∙ r .long ∙ g .long; node = λ i l o. r .at (i - 1) (omega (arith, f .long)); waiting = r .waiting }
+
+pub table-small : (s : State) → inRange s ≡ true → SmallTable s
+table-small s e =
+    let a = in-range-size s e in
+    record { long = a .2; n = omega arith; node = λ i l h. node-small (s .n) i (nodeAt s i) (a .1) (in-range-node s i e l h); waiting = omega arith }
 
 -- ── the claims ──
 
@@ -239,9 +248,11 @@ lines-determine =
       node = node-same;
       table = λ s t f g e. table-same s t f g (joined-same (tableLines s) (tableLines t) (table-lines s) (table-lines t) e);
       whole = whole;
+      node-in-range = node-small;
+      table-in-range = table-small;
     }
   where
-    whole : (n m : ℕ) (s t : State) → Small n → Small m → inRange s ≡ true → inRange t ≡ true → joined (cabinetsLine n ∷ tableLines s) ≡ joined (cabinetsLine m ∷ tableLines t) → (n ≡ m) × SameTable s t
+    whole : (n m : ℕ) (s t : State) → Small n → Small m → SmallTable s → SmallTable t → joined (cabinetsLine n ∷ tableLines s) ≡ joined (cabinetsLine m ∷ tableLines t) → (n ≡ m) × SameTable s t
     whole n m s t h k f g e =
         let r = joined-same (cabinetsLine n ∷ tableLines s) (cabinetsLine m ∷ tableLines t) (cabinets-line n, table-lines s) (cabinets-line m, table-lines t) e in
         (one-same (bytes "cabinets") h k (head-eq-of-cons-eq r), table-same s t f g (tail-eq-of-cons-eq r))

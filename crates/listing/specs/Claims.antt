@@ -38,16 +38,33 @@ pub record SameTable (s t : State) : Type 0 where
   pub node : (i : ℕ) → 1 ≤ i → i ≤ s .n → SameShown (nodeAt s i) (nodeAt t i)
   pub waiting : length (s .queue) ≡ length (t .queue)
 
+-- a node whose line has numbers of 32 bits only
+pub record SmallNode (c : Node) : Type 0 where
+  pub coordinator : c .coordinator < 2 ^ 32
+  pub group : c .group .number < 2 ^ 32
+  pub task : c .task .number < 2 ^ 32
+  pub counter : c .counter < 2 ^ 32
+  pub members : count (c .members) < 2 ^ 32
+
+-- a table whose lines have numbers of 32 bits only, with as many records as it says
+pub record SmallTable (s : State) : Type 0 where
+  pub long : length (s .nodes) ≡ s .n
+  pub n : s .n < 2 ^ 32
+  pub node : (i : ℕ) → 1 ≤ i → i ≤ s .n → SmallNode (nodeAt s i)
+  pub waiting : length (s .queue) < 2 ^ 32
+
 -- Equal lines have equal numbers, and from the bytes of a table's lines all that they show can be told.
 pub record LinesDetermine : Type 0 where
   pub cabinets : (n m : ℕ) → n < 2 ^ 32 → m < 2 ^ 32 → cabinetsLine n ≡ cabinetsLine m → n ≡ m
   pub refused : (e r f q : ℕ) → e < 2 ^ 32 → r < 2 ^ 32 → f < 2 ^ 32 → q < 2 ^ 32 → refusedLine e r ≡ refusedLine f q → (e ≡ f) × (r ≡ q)
   pub stopped : (a r b q : ℕ) → a < 2 ^ 32 → r < 2 ^ 32 → b < 2 ^ 32 → q < 2 ^ 32 → stoppedLine a r ≡ stoppedLine b q → (a ≡ b) × (r ≡ q)
   pub messages : (k j : ℕ) → k < 2 ^ 32 → j < 2 ^ 32 → messagesLine k ≡ messagesLine j → k ≡ j
-  pub node : (n i : ℕ) (c : Node) (m j : ℕ) (d : Node) → n ≤ 16 → i ≤ n → nodeInRange n i c ≡ true → m ≤ 16 → j ≤ m → nodeInRange m j d ≡ true
-      → nodeLine i c ≡ nodeLine j d → (i ≡ j) × SameShown c d
+  pub node : (i : ℕ) (c : Node) (j : ℕ) (d : Node) → i < 2 ^ 32 → SmallNode c → j < 2 ^ 32 → SmallNode d → nodeLine i c ≡ nodeLine j d → (i ≡ j) × SameShown c d
   -- the lines after one another, as bytes
-  pub table : (s t : State) → inRange s ≡ true → inRange t ≡ true → joined (tableLines s) ≡ joined (tableLines t) → SameTable s t
+  pub table : (s t : State) → SmallTable s → SmallTable t → joined (tableLines s) ≡ joined (tableLines t) → SameTable s t
   -- and behind `cabinets n`
-  pub whole : (n m : ℕ) (s t : State) → n < 2 ^ 32 → m < 2 ^ 32 → inRange s ≡ true → inRange t ≡ true
+  pub whole : (n m : ℕ) (s t : State) → n < 2 ^ 32 → m < 2 ^ 32 → SmallTable s → SmallTable t
       → joined (cabinetsLine n ∷ tableLines s) ≡ joined (cabinetsLine m ∷ tableLines t) → (n ≡ m) × SameTable s t
+  -- what is in range is such
+  pub node-in-range : (n i : ℕ) (c : Node) → n ≤ 16 → nodeInRange n i c ≡ true → SmallNode c
+  pub table-in-range : (s : State) → inRange s ≡ true → SmallTable s

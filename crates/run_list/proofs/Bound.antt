@@ -1,5 +1,5 @@
 -- How long the text of a list can be, and what a buffer of a given length then holds.
-use Prim.Native.Nat.{ℕ, zero, suc, _+_, _*_, _≤_, _<_}
+use Prim.Native.Nat.{ℕ, _+_, _*_, _≤_, _<_}
 use native.Mathlib.Omega.{arith}
 use mathlib.Core.Path.{_≡_, refl, sym, _∙_, ap}
 use mathlib.Core.Bool.{Bool, true, false}
@@ -21,10 +21,8 @@ use Rattle.event_list.specs.declared.Stop.{Stop}
 use Rattle.event_list.specs.declared.Stop.the-variants.{TooLong, CutShort, WrongTag, WrongLength, WrongCount}
 use Rattle.event_list.specs.declared.First.{First}
 use Rattle.event_list.specs.declared.First.the-variants as First
-use Rattle.event_list.specs.declared.Next.{Next}
-use Rattle.event_list.specs.declared.Next.the-variants as Next
-use Rattle.event_list.specs.Format.{stopNumber, nextAt, firstOf, Ending, complete, stopped, onward, readFrom, rest}
-use Rattle.event_list.proofs.Reading.{rest-few, next-past, first-good}
+use Rattle.event_list.specs.Format.{stopNumber, firstOf, Ending, complete, stopped, rest}
+use Rattle.event_list.proofs.Reading.{first-good, reads-all}
 use Rattle.listing.specs.declared.Put.{Put}
 use Rattle.listing.specs.declared.Put.the-variants as Put
 use Rattle.listing.specs.Lines.{cabinetsLine, refusedLine, stoppedLine, tableLines}
@@ -45,11 +43,11 @@ unfolding judged
 judged-small u k [] h = omega arith
 judged-small u k (g ∷ gs) h = by-test (λ (r : Result). resultNumber r ≤ 22) (λ q. h .0) (λ q. judged-small u k gs (h .1))
 
-step-small : (s : State) (v : Event) → resultNumber (step s v) ≤ 22
+pub step-small : (s : State) (v : Event) → resultNumber (step s v) ≤ 22
 unfolding step grounds
 step-small s v = judged-small _ _ _ (search needs)
 
-stop-small : (s : Stop) → stopNumber s ≤ 22
+pub stop-small : (s : Stop) → stopNumber s ≤ 22
 stop-small TooLong = omega arith
 stop-small CutShort = omega arith
 stop-small WrongTag = omega arith
@@ -72,25 +70,11 @@ refusals-long s e (v ∷ vs) h =
     let b = refusals-long (after s v) (e + 1) vs (omega arith) in
     rw (joined-append (noteLines e (resultNumber (step s v))) (refusedLines (after s v) (e + 1) vs)) (omega arith)
 
--- a list stops at one of its bytes
-abbrev Within : ℕ → Ending → Type 0
-Within m complete = Unit {0}
-Within m (stopped b s) = b ≤ m
-
-ends-within : (k : ℕ) (l : List ℕ) (at : ℕ) → at ≤ length l → Within (length l) (readFrom k l at .ending)
-unfolding readFrom
-ends-within zero l at h = tt
-ends-within (suc k) l at h = by (nextAt l at) refl (λ n u. ends-within k l n u)
-  where
-    by : (x : Next) → x ≡ nextAt l at → ((n : ℕ) → n ≤ length l → Within (length l) (readFrom k l n .ending)) → Within (length l) (onward at x (readFrom k l) .ending)
-    by Next.Done i f = tt
-    by (Next.Stopped s) i f = h
-    by (Next.Got v n) i f = f n (next-past l at i refl .1)
-
-ending-long : (m : ℕ) (x : Ending) → Within m x → m ≤ 65536 → length (joined (endingLines x)) ≤ 17
+-- a list stops at one of its m bytes
+ending-long : (m : ℕ) (x : Ending) → ((b : ℕ) (s : Stop) → x ≡ stopped b s → b < m) → m ≤ 65536 → length (joined (endingLines x)) ≤ 17
 unfolding joined
 ending-long m complete h i = omega arith
-ending-long m (stopped b s) h i = rw (joined-one (stoppedLine b (stopNumber s))) (stopped-long b (stopNumber s) (omega arith) (stop-small s))
+ending-long m (stopped b s) h i = let k = h b s refl in rw (joined-one (stoppedLine b (stopNumber s))) (stopped-long b (stopNumber s) (omega arith) (stop-small s))
 
 run-table-long : (n : ℕ) (vs : List Event) → 1 ≤ n → n ≤ 16 → length (joined (tableLines (run n vs))) ≤ 34 * 16 + 12
 run-table-long n vs h i =
@@ -100,12 +84,11 @@ run-table-long n vs h i =
     omega arith
 
 left-long : (l : List ℕ) (n : ℕ) → 1 ≤ n → n ≤ 16 → 4 ≤ length l → length l ≤ 65536 → length (joined (left l (start n) 4 1)) ≤ 17 * 16384 + (34 * 16 + 12)
-unfolding rest
 left-long l n h i j k =
     let r = rest l 4 in
-    let f = rest-few l 4 j in
+    let f = reads-all .few l 4 j in
     let a = refusals-long (start n) 1 (r .events) (omega arith) in
-    let b = ending-long (length l) (r .ending) (ends-within (length l) l 4 j) k in
+    let b = ending-long (length l) (r .ending) (reads-all .before l 4) k in
     let c = run-table-long n (r .events) h i in
     rw (joined-append (refusedLines (start n) 1 (r .events)) (endingLines (r .ending) ++ tableLines (run n (r .events))), joined-append (endingLines (r .ending)) (tableLines (run n (r .events)))) (omega arith)
 

@@ -6,13 +6,11 @@ use mathlib.Core.Bool.{Bool, true, false}
 use mathlib.Core.List.{List, [], _∷_, _++_, map, append-assoc, head-eq-of-cons-eq, tail-eq-of-cons-eq}
 use lib.ListN.{length, getD}
 use lib.Dec.{eqb}
-use borrow.Author.Needs.{needs}
 use Rattle.model.specs.Pick.{pick, by-test}
 use Rattle.model.specs.State.{State, start}
-use Rattle.model.specs.Step.{Ground, grounds, Result, accepted, judged, step, after, runFrom, run}
+use Rattle.model.specs.Step.{step, after, runFrom, run}
 use Rattle.model.specs.Answers.{resultNumber}
 use Rattle.model.specs.declared.Event.{Event}
-use Rattle.model.specs.declared.Mark.{Mark}
 use Rattle.model.specs.declared.Node.{Node}
 use Rattle.model.proofs.InRange.{stays-in-range}
 use Rattle.event_list.specs.declared.Stop.{Stop}
@@ -24,35 +22,16 @@ use Rattle.event_list.proofs.Reading.{reading-failed, reading-begun, first-good
 use Rattle.listing.specs.Lines.{cabinetsLine, refusedLine, stoppedLine, messagesLine, nodeLines, tableLines}
 use Rattle.listing.specs.Printing.{joined}
 use Rattle.listing.proofs.Parted.{Each, Stops, each-map, each-append, parted, IsLine, joined-same}
-use Rattle.listing.proofs.Claims.{lines-determine, cabinets-line, refused-line, stopped-line, table-lines, table-same, node-low}
+use Rattle.listing.proofs.Claims.{lines-determine, cabinets-line, refused-line, stopped-line, table-lines, table-same, table-small, node-low}
 use Rattle.run_list.specs.Text.{noteLines, refusedLines, endingLines, runLines, linesOf, textOf}
 use Rattle.run_list.specs.Shows.{Refusal, refusals, SameText, TextDetermines}
+use Rattle.run_list.proofs.Bound.{step-small, stop-small}
 use Rattle.run_list.proofs.Behind.{behind}
 
 abbrev Small : ℕ → Type 0
 Small x = x < 2 ^ 32
 
 -- ── the numbers of refusals ──
-
-abbrev SmallGrounds : List Ground → Type 0
-SmallGrounds [] = Unit {0}
-SmallGrounds (g ∷ gs) = Small (g .number) × SmallGrounds gs
-
-judged-small : (u : State) (k : Mark) (gs : List Ground) → SmallGrounds gs → Small (resultNumber (judged (accepted u k) gs))
-unfolding judged
-judged-small u k [] h = omega arith
-judged-small u k (g ∷ gs) h = by-test (λ (r : Result). Small (resultNumber r)) (λ q. h .0) (λ q. judged-small u k gs (h .1))
-
-step-small : (s : State) (v : Event) → Small (resultNumber (step s v))
-unfolding step grounds
-step-small s v = judged-small _ _ _ (search needs)
-
-stop-small : (s : Stop) → Small (stopNumber s)
-stop-small TooLong = omega arith
-stop-small CutShort = omega arith
-stop-small WrongTag = omega arith
-stop-small WrongLength = omega arith
-stop-small WrongCount = omega arith
 
 stop-same : (a b : Stop) → stopNumber a ≡ stopNumber b → a ≡ b
 stop-same a b e = sym (back a) ∙ ap (λ (n : ℕ). of n) e ∙ back b
@@ -96,7 +75,8 @@ unfolding refusals
 refusals-small s e [] h = tt
 refusals-small s e (v ∷ vs) h =
     let later = refusals-small (after s v) (e + 1) vs (omega arith) in
-    by-test (λ (l : List Refusal). Each SmallRefusal (l ++ refusals (after s v) (e + 1) vs)) (λ t. later) (λ t. ((omega arith, step-small s v), later))
+    let small = step-small s v in
+    by-test (λ (l : List Refusal). Each SmallRefusal (l ++ refusals (after s v) (e + 1) vs)) (λ t. later) (λ t. ((omega arith, omega arith), later))
 
 same-refusal : (x y : Refusal) → (x .event ≡ y .event) × (x .number ≡ y .number) → x ≡ y
 same-refusal x y e = λ i. record { event = e .0 i; number = e .1 i }
@@ -159,7 +139,9 @@ ending-same complete complete f g e = refl
 ending-same complete (stopped b s) f g e = let z : _≡_ {A = ℕ} 0 1 = cc in absurd (omega arith)
 ending-same (stopped b s) complete f g e = let z : _≡_ {A = ℕ} 0 1 = cc in absurd (omega arith)
 ending-same (stopped b s) (stopped c t) f g e =
-    let r = lines-determine .stopped b (stopNumber s) c (stopNumber t) f (stop-small s) g (stop-small t) (head-eq-of-cons-eq e) in
+    let i = stop-small s in
+    let j = stop-small t in
+    let r = lines-determine .stopped b (stopNumber s) c (stopNumber t) f (omega arith) g (omega arith) (head-eq-of-cons-eq e) in
     let h = stop-same s t (r .1) in
     rw (r .0, h)
 
@@ -226,7 +208,7 @@ read-same l k n m r q e f t =
       nodes = lines-determine .cabinets n m (omega arith) (omega arith) (head-eq-of-cons-eq w);
       refused = map-same a1 a2 (refusals-small (start n) 1 (r .events) (omega arith)) (refusals-small (start m) 1 (q .events) (omega arith)) (z .0);
       ending = ending-same (r .ending) (q .ending) (g .ending) (h .ending) (z .1);
-      table = table-same (run n (r .events)) (run m (q .events)) i j (y .1);
+      table = table-same (run n (r .events)) (run m (q .events)) (table-small (run n (r .events)) i) (table-small (run m (q .events)) j) (y .1);
     }
 
 -- where the whole list or the first field failed
@@ -240,7 +222,9 @@ failed-same l k s t e f h =
     joined-same (stoppedLine 0 (stopNumber s) ∷ []) (stoppedLine 0 (stopNumber t) ∷ []) (stopped-line 0 (stopNumber s), tt) (stopped-line 0 (stopNumber t), tt)
     (sym (failed-text l s e) ∙ h ∙ failed-text k t f)
     in
-    stop-same s t (lines-determine .stopped 0 (stopNumber s) 0 (stopNumber t) (omega arith) (stop-small s) (omega arith) (stop-small t) (head-eq-of-cons-eq w) .1)
+    let i = stop-small s in
+    let j = stop-small t in
+    stop-same s t (lines-determine .stopped 0 (stopNumber s) 0 (stopNumber t) (omega arith) (omega arith) (omega arith) (omega arith) (head-eq-of-cons-eq w) .1)
 
 failed-apart : (l k : List ℕ) (s : Stop) (m : ℕ) (q : Reading) → reading l ≡ failed s → reading k ≡ begun m q → textOf l ≡ textOf k → ⊥
 unfolding stoppedLine cabinetsLine

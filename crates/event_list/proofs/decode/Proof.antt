@@ -18,7 +18,7 @@ unknown : tie.Need-returns-10
 unfolding decoded pick
 unknown c =
     let r = c .match .rest in
-    rw (not-between 0x10 0x18 (c .before .before .before .before .before .args .tag)
+    rw (not-between 0x10 0x18 (c .before .before .args .tag)
     (λ a b.
     let h1 = up 0x10 _ a (r .0 .0 .0 .0 .0 .0 .0 .0 .1) in
     let h2 = up 0x11 _ h1 (r .0 .0 .0 .0 .0 .0 .0 .1) in
@@ -36,28 +36,19 @@ unfolding decoded eventOf lengthOf pick
 decode-spec =
     tie.close
     (tie.spec
-    (λ c κs. search needs)
-    (λ c κs. search needs)
-    (λ c κs. search needs)
-    (λ c κs. search needs)
-    (λ c κs. search needs)
-    (λ c κs. search needs)
-    (λ c κs. search needs)
-    (λ c κs. search needs)
-    (λ c κs. search needs)
-    (λ c κs. search needs)
-    (λ c κs. search needs)
-    (λ c κs. search needs)
-    (λ c κs. search needs)
-    (λ c. rw (c .sized-event .ensures, c .before .match .keys1, c .before .before .before .before .byte .ensures))
-    (λ c. rw (c .sized-event2 .ensures, c .before .match .keys2, c .before .before .before .before .byte .ensures))
-    (λ c. rw (c .sized-event3 .ensures, c .before .match .keys3, c .before .before .before .before .byte .ensures))
-    (λ c. rw (c .sized-event4 .ensures, c .before .match .keys4, c .before .before .before .before .byte .ensures))
-    (λ c. rw (c .sized-event5 .ensures, c .before .match .keys5, c .before .before .before .before .byte .ensures))
-    (λ c. rw (c .sized-event6 .ensures, c .before .match .keys6, c .before .before .before .before .byte .ensures))
+    (λ c κs. search needs) (λ c κs. search needs) (λ c κs. search needs) (λ c κs. search needs) (λ c κs. search needs) (λ c κs. search needs)
+    (λ c κs. search needs) (λ c κs. search needs) (λ c κs. search needs) (λ c κs. search needs) (λ c κs. search needs) (λ c κs. search needs)
+    (λ c κs. search needs) (λ c κs. search needs) (λ c κs. search needs) (λ c κs. search needs) (λ c κs. search needs) (λ c κs. search needs)
+    (λ c κs. search needs) (λ c κs. search needs) (λ c κs. search needs) (λ c κs. search needs) (λ c κs. search needs)
+    (λ c. rw (c .sized-event .ensures, c .before .before .match .keys1, c .before .byte .ensures))
+    (λ c. rw (c .sized-event2 .ensures, c .before .before .match .keys2, c .before .byte2 .ensures))
+    (λ c. rw (c .sized-event3 .ensures, c .before .before .match .keys3, c .before .byte3 .ensures))
+    (λ c. rw (c .sized-event4 .ensures, c .before .before .match .keys4, c .before .byte4 .ensures))
+    (λ c. rw (c .sized-event5 .ensures, c .before .before .match .keys5, c .before .byte5 .ensures))
+    (λ c. rw (c .sized-event6 .ensures, c .before .before .match .keys6, c .before .byte6 .ensures))
     (λ c.
-    let b = c .before .before .before in
-    rw (c .sized-event7 .ensures, c .before .before .match .keys7, c .before .task-of .ensures, b .byte3 .ensures, b .before .byte2 .ensures, b .before .before .byte .ensures))
-    (λ c. rw (c .sized-event8 .ensures, c .before .match .keys8, c .before .before .before .byte2 .ensures, c .before .before .before .before .byte .ensures))
-    (λ c. rw (c .sized-event9 .ensures, c .before .match .keys9, c .before .before .before .byte2 .ensures, c .before .before .before .before .byte .ensures))
+    let b = c .before .before in
+    rw (c .sized-event7 .ensures, b .before .before .before .match .keys7, c .before .task-of .ensures, b .byte9 .ensures, b .before .byte8 .ensures, b .before .before .byte7 .ensures))
+    (λ c. rw (c .sized-event8 .ensures, c .before .before .before .match .keys8, c .before .byte11 .ensures, c .before .before .byte10 .ensures))
+    (λ c. rw (c .sized-event9 .ensures, c .before .before .before .match .keys9, c .before .byte13 .ensures, c .before .before .byte12 .ensures))
     unknown)
