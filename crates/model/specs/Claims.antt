@@ -7,7 +7,7 @@ use mathlib.Core.List.{List, [], _∷_, _++_}
 use lib.ListN.{length}
 use Rattle.model.specs.Limits.{nodeLimit}
 use Rattle.model.specs.State.{State, start, nodeAt, goes, waits, oldest, inRange}
-use Rattle.model.specs.Step.{actor, reactionTo, remaining, sent, forms, Result, refused, accepted, step, after, run}
+use Rattle.model.specs.Step.{actor, reactionTo, remaining, sent, forms, Ground, ground, grounds, Result, refused, accepted, step, after, run}
 use Rattle.model.specs.History.{Entry, NotFormed, NoTask, Task, History, newest, coming, history}
 use Rattle.model.specs.Answers.{resultNumber}
 use Rattle.model.specs.declared.Status.{Status}
@@ -124,7 +124,25 @@ pub record Accepts (s : State) (e : Event) : Type 0 where
   pub mark : Mark
   pub is : step s e ≡ accepted state mark
 
+-- no ground of the list applies
+abbrev pub NoneApplies : List Ground → Type 0
+NoneApplies [] = Unit {0}
+NoneApplies (g ∷ gs) = (g .applies ≡ false) × NoneApplies gs
+
+-- the ground of number r applies, and none before it in the list does
+pub record FirstApplies (gs : List Ground) (r : ℕ) : Type 0 where
+  pub before : List Ground
+  pub behind : List Ground
+  pub whole : gs ≡ before ++ (ground r true ∷ behind)
+  pub none-before : NoneApplies before
+
 pub record RefusesByGround : Type 0 where
+  -- "the first that applies is given, and none without its ground", over the table of grounds: a refusal's number is that of the first ground that applies
+  pub first : (s : State) (e : Event) (r : ℕ) → step s e ≡ refused r → FirstApplies (grounds s e) r
+  pub first-given : (s : State) (e : Event) (r : ℕ) → FirstApplies (grounds s e) r → step s e ≡ refused r
+  -- and an event is accepted exactly where none applies
+  pub none : (s : State) (e : Event) (u : State) (k : Mark) → step s e ≡ accepted u k → NoneApplies (grounds s e)
+  pub none-accepts : (s : State) (e : Event) → NoneApplies (grounds s e) → Accepts s e
   -- a refusal's number is that of a ground of events: 1, or 7 to 14
   pub numbers : (s : State) (e : Event) (r : ℕ) → step s e ≡ refused r → (r ≡ 1) ⊎ ((7 ≤ r) × (r ≤ 14))
   -- so none has number 0, and a result of number 0 is an accepted event
