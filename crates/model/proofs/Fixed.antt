@@ -13,7 +13,7 @@ use Rattle.model.specs.Step.{actor, reactionTo, forms, Result, refused, 
 use Rattle.model.specs.History.{Entry, NotFormed, NoTask, Task, History, blank, updated, newest, coming, marked, given, noted, historyFrom, history}
 use Rattle.model.specs.Claims.{RunFixes, Recovering, Finishing, Fixes, TaskFromList}
 use Rattle.model.proofs.Judged.{accepted-is}
-use Rattle.model.proofs.Invariant.{updated-same, no-task≢task, not-formed≢task}
+use Rattle.model.proofs.Invariant.{updated-same, task-is, no-task≢task, not-formed≢task}
 use Rattle.model.proofs.Origin.{finish-mark}
 use Rattle.model.proofs.Whole.{history-append, run-fixes}
 use Rattle.model.specs.declared.Status.the-variants.{Normal}
@@ -31,9 +31,6 @@ history-one s h e = refl
 -- the history of a list with one event more
 history-next : (n : ℕ) (es : List Event) (e : Event) → history n (es ++ (e ∷ [])) ≡ noted (history n es) e (step (run n es) e)
 history-next n es e = history-append blank (start n) es (e ∷ []) ∙ history-one (run n es) (history n es) e
-
-task-is : (x y : ℕ) → Task x ≡ Task y → x ≡ y
-task-is x y e = cc
 
 given-count : (h : History) (e : Event) → given h e .count ≡ h .count
 given-count h (Crash i) = refl

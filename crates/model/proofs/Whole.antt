@@ -18,7 +18,7 @@ use Rattle.model.specs.Step.{actor, reactionTo, remaining, sent, effect,
 use Rattle.model.specs.History.{Entry, NotFormed, NoTask, Task, History, blank, newest, coming, marked, given, noted, historyFrom, history}
 use Rattle.model.specs.Claims.{isActive, Unsent, Lacks, RunFixes}
 use Rattle.model.proofs.Judged.{Clear, by-step, Accepted, accepted-is}
-use Rattle.model.proofs.Invariant.{NodeNumber, Led, Gathering, NodeOk, MessageOk, HistoryOk, OutgoingOk, MarkOk, ReactionOk, Extends, extends-refl, extends-trans, owner-of, counter-of, message-extends, node-extends, coming-not-formed, marked-extends, marked-ok, tasked-extends, tasked-ok}
+use Rattle.model.proofs.Invariant.{NodeNumber, Led, Gathering, NodeOk, MessageOk, HistoryOk, OutgoingOk, MarkOk, ReactionOk, Extends, extends-refl, extends-trans, owner-of, counter-of, message-extends, node-extends, task-is, coming-not-formed, marked-extends, marked-ok, tasked-extends, tasked-ok}
 use Rattle.model.proofs.Local.{stays-ok, react-ok, collecting-gathers, finish-ok}
 use Rattle.model.proofs.Numbers.{actor-in}
 use Rattle.model.proofs.Origin.{finish-mark, Source, group-source, oldest-held}
@@ -287,7 +287,8 @@ run-fixes n small =
       same-coordinator = λ es i j l h l′ h′ a a′ q.
           let c = good es .state .nodes in
           led-active (nodeAt (run n es) i .status) _ _ a (c i l (reach es h) .led) ∙ ap ownerOf q ∙ sym (led-active (nodeAt (run n es) j .status) _ _ a′ (c j l′ (reach es h′) .led));
-      fixed-task = λ es fs i l h e. growth es fs .lasts _ _ (rw e at (good es .state .nodes i l (reach es h) .settled));
+      same-task = λ es i j l h l′ h′ a a′ q. task-is _ _ (sym (settled es i l h a) ∙ ap (history n es .entry) q ∙ settled es j l′ h′ a′);
+      fixed-task = λ es fs i l h e. growth es fs .lasts _ _ (settled es i l h e);
       numbered = λ es e u k q f. group-number es e u k f (accepted-is (run n es) e u k q);
       fresh = λ es fs e u k q f. lacks-coming (history n es) (history n (es ++ fs)) (run n es) (actor e) (actor-number (es ++ fs) e (accepted-is (run n (es ++ fs)) e u k q .clear)) (good es .state) (growth es fs);
       borrowed = λ es e u k q f j l h x. none-new es e u k f j l h (accepted-is (run n es) e u k q) x;
@@ -307,6 +308,10 @@ run-fixes n small =
 
     reach : (es : List Event) {i : ℕ} → i ≤ n → i ≤ run n es .n
     reach es h = omega (arith, same-n (start n) es refl, h)
+
+    -- a Normal node's task is the history's
+    settled : (es : List Event) (i : ℕ) → 1 ≤ i → i ≤ n → nodeAt (run n es) i .status ≡ Normal → history n es .entry (nodeAt (run n es) i .group .number) ≡ Task (nodeAt (run n es) i .task .number)
+    settled es i l h e = rw e at (good es .state .nodes i l (reach es h) .settled)
 
     event : (es : List Event) (e : Event) → Clear (run n es) e → EventOk (history n es) (run n es) e
     event es e c = event-ok (history n es) (run n es) (good es .history) (good es .state) e c

@@ -42,11 +42,16 @@ pub record Lacks (s : State) (g : ℕ) : Type 0 where
 -- Demand 3 ("What a run fixes", and the agreement of groups that it is for), of every list of events from the starting table of n nodes. `es` is a beginning
 -- of the list, `fs` what comes next, and `e` an event after them that is accepted with the mark k and leaves the table u.
 pub record RunFixes (n : ℕ) : Type 0 where
-  -- two nodes in Reorganization or Normal with the same group have the same coordinator
+  -- two nodes in Reorganization or Normal with the same group have the same coordinator (002, Assertion 3 a)
   pub same-coordinator : (es : List Event) (i j : ℕ) → 1 ≤ i → i ≤ n → 1 ≤ j → j ≤ n
       → isActive (nodeAt (run n es) i .status) ≡ true → isActive (nodeAt (run n es) j .status) ≡ true
       → nodeAt (run n es) i .group .number ≡ nodeAt (run n es) j .group .number
       → nodeAt (run n es) i .coordinator ≡ nodeAt (run n es) j .coordinator
+  -- and two Normal ones the same task (002, Assertion 3 b)
+  pub same-task : (es : List Event) (i j : ℕ) → 1 ≤ i → i ≤ n → 1 ≤ j → j ≤ n
+      → nodeAt (run n es) i .status ≡ Normal → nodeAt (run n es) j .status ≡ Normal
+      → nodeAt (run n es) i .group .number ≡ nodeAt (run n es) j .group .number
+      → nodeAt (run n es) i .task .number ≡ nodeAt (run n es) j .task .number
   -- "The book's task is the one the list fixed": a Normal node's task, in any table of the run, is the task that the whole list's history has for its group
   pub fixed-task : (es fs : List Event) (i : ℕ) → 1 ≤ i → i ≤ n → nodeAt (run n es) i .status ≡ Normal
       → history n (es ++ fs) .entry (nodeAt (run n es) i .group .number) ≡ Task (nodeAt (run n es) i .task .number)
