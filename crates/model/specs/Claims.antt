@@ -6,6 +6,7 @@ use mathlib.Core.Logic.{_⊎_}
 use mathlib.Core.List.{List, [], _∷_, _++_}
 use lib.ListN.{length}
 use Rattle.model.specs.Limits.{nodeLimit}
+use Rattle.model.specs.Range.{carriesGroup}
 use Rattle.model.specs.State.{State, start, nodeAt, goes, waits, oldest, inRange}
 use Rattle.model.specs.Step.{actor, reactionTo, remaining, sent, forms, Ground, ground, grounds, Result, refused, accepted, step, after, run}
 use Rattle.model.specs.History.{Entry, NotFormed, NoTask, Task, History, newest, coming, history}
@@ -39,6 +40,11 @@ pub record Lacks (s : State) (g : ℕ) : Type 0 where
   pub in-nodes : (j : ℕ) → 1 ≤ j → j ≤ s .n → nodeAt s j .group .number ≡ g → ⊥
   pub in-messages : Unsent g (s .queue)
 
+-- P holds of the group of each message that carries one
+abbrev pub EachGroup : (ℕ → Type 0) → List Message → Type 0
+EachGroup P [] = Unit {0}
+EachGroup P (m ∷ ms) = (carriesGroup (m .kind) ≡ true → P (m .group .number)) × EachGroup P ms
+
 -- Demand 3 ("What a run fixes", and the agreement of groups that it is for), of every list of events from the starting table of n nodes. `es` is a beginning
 -- of the list, `fs` what comes next, and `e` an event after them that is accepted with the mark k and leaves the table u.
 pub record RunFixes (n : ℕ) : Type 0 where
@@ -64,6 +70,9 @@ pub record RunFixes (n : ℕ) : Type 0 where
   -- and no other group is new: where no group is formed, the table before held each node's group, in a node or a message
   pub borrowed : (es : List Event) (e : Event) (u : State) (k : Mark) → step (run n es) e ≡ accepted u k → forms k ≡ false
       → (j : ℕ) → 1 ≤ j → j ≤ n → Lacks (run n es) (nodeAt u j .group .number) → ⊥
+  -- and where a message carries a group that the table before did not hold, it is the one that the event forms
+  pub borrowed-messages : (es : List Event) (e : Event) (u : State) (k : Mark) → step (run n es) e ≡ accepted u k
+      → EachGroup (λ g. Lacks (run n es) g → (forms k ≡ true) × (g ≡ coming (history n es) (actor e))) (u .queue)
   -- "no group ever gets a second task": a group that is formed was not formed before, and a group that gets its task by a finish has none
   pub formed-once : (es : List Event) (e : Event) (u : State) (k : Mark) → step (run n es) e ≡ accepted u k → forms k ≡ true
       → history n es .entry (coming (history n es) (actor e)) ≡ NotFormed
