@@ -84,7 +84,7 @@ pub record RunFixes (n : ℕ) : Type 0 where
   -- and a task once given stays
   pub lasts : (es fs : List Event) (g t : ℕ) → history n es .entry g ≡ Task t → history n (es ++ fs) .entry g ≡ Task t
 
--- ── demand 3 without the history: where in the list a task comes from ──
+-- ── demand 3 by the list itself: where in it a task comes from ──
 
 -- after the events es, e is a recovery that forms the group g, and t is the solo task
 pub record Recovering (n : ℕ) (es : List Event) (e : Event) (g t : ℕ) : Type 0 where
@@ -115,6 +115,9 @@ pub record TaskFromList (n : ℕ) : Type 0 where
   -- a Normal node's task is the solo task of a recovery in the list that formed its group, or else the task of an accepted finish in the list for that group
   pub task : (es : List Event) (i : ℕ) → 1 ≤ i → i ≤ n → nodeAt (run n es) i .status ≡ Normal
       → Fixes n es (nodeAt (run n es) i .group .number) (nodeAt (run n es) i .task .number)
+  -- the history's tasks are those that an event of the list fixes, and no other
+  pub entry-fixed : (es : List Event) (g t : ℕ) → history n es .entry g ≡ Task t → Fixes n es g t
+  pub fixed-entry : (es : List Event) (g t : ℕ) → Fixes n es g t → history n es .entry g ≡ Task t
   -- and there is one such event only
   pub one : (es : List Event) (g t u : ℕ) (a : Fixes n es g t) (b : Fixes n es g u) → a .before ≡ b .before
   pub same : (es : List Event) (g t u : ℕ) → Fixes n es g t → Fixes n es g u → t ≡ u
