@@ -363,6 +363,7 @@ pub record FurtherCases : Type 0 where
   pub check-one : step (run 1 (Recover 1 ∷ [])) (Check 1) ≡ accepted (run 1 (Recover 1 ∷ [])) Plain
   -- "timeout i: if its own coordinator, nothing changes. Else it calls AreYouThere on its coordinator, with its group.", whatever its status
   pub timeout-own : step (pair Normal (setOf (1 ∷ [])) Idle []) (Timeout 2) ≡ accepted (pair Normal (setOf (1 ∷ [])) Idle []) Plain
+  pub timeout-own-reorganizing : step (pair Reorganization (setOf (1 ∷ [])) Idle []) (Timeout 2) ≡ accepted (pair Reorganization (setOf (1 ∷ [])) Idle []) Plain
   pub timeout-led : step (beside (follower Normal 32 100 none 2 Idle) []) (Timeout 2)
       ≡ accepted (beside (follower Normal 32 100 none 3 Contacting) (calls 2 2 1 (callNo 3) (groupNo 32) ∷ [])) Plain
   pub timeout-reorganizing : step (beside (follower Reorganization 32 100 none 2 Idle) []) (Timeout 2)
@@ -409,6 +410,14 @@ pub record FurtherCases : Type 0 where
   pub hands-lowest : step (first (leader Election 1 Collecting) []) (Finish 1 (taskNo 200))
       ≡ accepted (first (filled Reorganization 16 1 200 (setOf (2 ∷ 3 ∷ [])) 2 (Handing (setOf (3 ∷ [])) 2)) (readies 1 2 (callNo 2) (groupNo 16) (taskNo 200) ∷ [])) Plain
   pub hands-last : step (first (leader Reorganization 2 (Handing none 3)) (replies 3 1 (callNo 2) true ∷ [])) (Deliver 3 1) ≡ accepted (first (leader Normal 2 Idle) []) Plain
+  -- "it goes on": inviting, handing, forwarding and accepting do so by a no too
+  pub invite-no : step (first (filled Election 16 1 1 none 4 (Inviting none (setOf (3 ∷ [])) 2)) (replies 2 1 (callNo 4) false ∷ [])) (Deliver 2 1)
+      ≡ accepted (first (filled Election 16 1 1 none 5 (Inviting none none 3)) (calls 1 3 3 (callNo 5) (groupNo 16) ∷ [])) Plain
+  pub hand-no : step (first (leader Reorganization 2 (Handing none 3)) (replies 3 1 (callNo 2) false ∷ [])) (Deliver 3 1) ≡ accepted (first (leader Normal 2 Idle) []) Plain
+  pub forward-no : step (first (filled Election 33 2 100 (setOf (2 ∷ 3 ∷ [])) 3 (Forwarding none 3 2 (callNo 8))) (replies 3 1 (callNo 3) false ∷ [])) (Deliver 3 1)
+      ≡ accepted (first (filled Election 33 2 100 (setOf (2 ∷ 3 ∷ [])) 4 (Accepting 2 (callNo 8))) (calls 1 4 2 (callNo 4) (groupNo 33) ∷ [])) Plain
+  pub accept-no : step (merging (filled Election 32 1 100 none 10 (Accepting 3 (callNo 5))) forwarder (replies 1 2 (callNo 10) false ∷ [])) (Deliver 1 2)
+      ≡ accepted (merging (filled Reorganization 32 1 100 none 10 Idle) forwarder (replies 2 3 (callNo 5) true ∷ [])) Plain
   -- "5: if in Reorganization ..": a Normal node only replies; the activity is kept
   pub ready-normal : step (beside (follower Normal 32 100 none 2 Idle) (ready 32 200)) (Deliver 1 2) ≡ accepted (beside (follower Normal 32 100 none 2 Idle) plain) Plain
   pub ready-busy : step (beside (follower Reorganization 32 100 none 2 Contacting) (ready 32 200)) (Deliver 1 2)
