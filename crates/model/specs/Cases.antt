@@ -329,8 +329,8 @@ question = asks 1 2 (callNo 3) ∷ []
 abbrev pub there : ℕ → List Message
 there g = calls 1 2 2 (callNo 3) (groupNo g) ∷ []
 
-abbrev pub refusal : List Message
-refusal = replies 2 1 (callNo 3) false ∷ []
+abbrev pub denial : List Message
+denial = replies 2 1 (callNo 3) false ∷ []
 
 abbrev pub twoOfPair : List Message
 twoOfPair = asks 1 2 (callNo 2) ∷ asks 2 1 (callNo 1) ∷ asks 1 2 (callNo 3) ∷ []
@@ -374,15 +374,15 @@ pub record FurtherCases : Type 0 where
   pub contact-expires : step (beside (follower Normal 32 100 none 2 Contacting) []) (Expire 2) ≡ accepted (beside alone []) Recovers
   -- "1: reply yes exactly when Normal and its own coordinator": no by one in Election, and by one that another leads
   pub coordinator-yes : step (pair Normal none Idle question) (Deliver 1 2) ≡ accepted (pair Normal none Idle plain) Plain
-  pub coordinator-election : step (pair Election none Collecting question) (Deliver 1 2) ≡ accepted (pair Election none Collecting refusal) Plain
-  pub coordinator-led : step (beside (follower Normal 32 100 none 2 Idle) question) (Deliver 1 2) ≡ accepted (beside (follower Normal 32 100 none 2 Idle) refusal) Plain
+  pub coordinator-election : step (pair Election none Collecting question) (Deliver 1 2) ≡ accepted (pair Election none Collecting denial) Plain
+  pub coordinator-led : step (beside (follower Normal 32 100 none 2 Idle) question) (Deliver 1 2) ≡ accepted (beside (follower Normal 32 100 none 2 Idle) denial) Plain
   -- "2: yes exactly when the group is equal, it is its own coordinator and the sender is a member", whatever its status
   pub there-yes : step (pair Normal (setOf (1 ∷ [])) Idle (there 33)) (Deliver 1 2) ≡ accepted (pair Normal (setOf (1 ∷ [])) Idle plain) Plain
   pub there-reorganizing : step (pair Reorganization (setOf (1 ∷ [])) Idle (there 33)) (Deliver 1 2) ≡ accepted (pair Reorganization (setOf (1 ∷ [])) Idle plain) Plain
-  pub there-group : step (pair Normal (setOf (1 ∷ [])) Idle (there 17)) (Deliver 1 2) ≡ accepted (pair Normal (setOf (1 ∷ [])) Idle refusal) Plain
+  pub there-group : step (pair Normal (setOf (1 ∷ [])) Idle (there 17)) (Deliver 1 2) ≡ accepted (pair Normal (setOf (1 ∷ [])) Idle denial) Plain
   pub there-led : step (beside (follower Normal 32 100 (setOf (1 ∷ [])) 2 Idle) (there 32)) (Deliver 1 2)
-      ≡ accepted (beside (follower Normal 32 100 (setOf (1 ∷ [])) 2 Idle) refusal) Plain
-  pub there-no-member : step (pair Normal none Idle (there 33)) (Deliver 1 2) ≡ accepted (pair Normal none Idle refusal) Plain
+      ≡ accepted (beside (follower Normal 32 100 (setOf (1 ∷ [])) 2 Idle) denial) Plain
+  pub there-no-member : step (pair Normal none Idle (there 33)) (Deliver 1 2) ≡ accepted (pair Normal none Idle denial) Plain
   -- "3: .. it forwards the invitation to each member": node 3, which leads node 2, is invited by node 1
   pub invited-forwards : step (merging (filled Normal 18 3 100 none 9 Idle) formerCoordinator (calls 1 3 3 (callNo 7) (groupNo 32) ∷ [])) (Deliver 1 3)
       ≡ accepted (merging (filled Normal 18 3 100 none 9 Idle) forwarder (calls 3 3 2 (callNo 5) (groupNo 32) ∷ [])) Plain
