@@ -1,4 +1,4 @@
--- The named cases and the wrong turnings, computed over the definitions.
+-- The named cases, the wrong turnings and the further cases, computed over the definitions.
 use mathlib.Core.Path.{_≡_, refl}
 use lib.Count.{onesIn, ones, leadingZeros, trailingZeros}
 use lib.Bits.{bitAnd, bitOr}
@@ -9,7 +9,7 @@ use Rattle.model.specs.Range.{activityInRange, nodeInRange, messageInRan
 use Rattle.model.specs.State.{waits, oldest, withoutOldest, every, inRange}
 use Rattle.model.specs.Step.{reactionTo, remaining, effect, wrongNumber, wrongTask, wrongStatus, wrongActivity, noneWaits, grounds, judged, step, runFrom}
 use Rattle.model.specs.History.{updated, historyFrom}
-use Rattle.model.specs.Cases.{NamedCases, WrongTurnings}
+use Rattle.model.specs.Cases.{NamedCases, WrongTurnings, FurtherCases}
 
 pub named-cases : NamedCases
 unfolding pick onesIn ones leadingZeros trailingZeros bitAnd bitOr inviteNext merges handNext finishes forwardNext askedAll askAt askAfter checked timedOut ticked expired resumed onAreYouCoordinator onAreYouThere onInvitation onAccept onReady onReply received react activityInRange nodeInRange messageInRange waits oldest withoutOldest every inRange reactionTo remaining effect wrongNumber wrongTask wrongStatus wrongActivity noneWaits grounds judged step runFrom updated historyFrom
@@ -85,4 +85,82 @@ wrong-turnings =
       task-too-soon = refl;
       ready-on = refl;
       ready-no-more = refl;
+    }
+
+pub further-cases : FurtherCases
+unfolding pick onesIn ones leadingZeros trailingZeros bitAnd bitOr inviteNext merges handNext finishes forwardNext askedAll askAt askAfter checked timedOut ticked expired resumed onAreYouCoordinator onAreYouThere onInvitation onAccept onReady onReply received react activityInRange nodeInRange messageInRange waits oldest withoutOldest every inRange reactionTo remaining effect wrongNumber wrongTask wrongStatus wrongActivity noneWaits grounds judged step runFrom updated historyFrom
+further-cases =
+    record {
+      highest-found = refl;
+      asks-others = refl;
+      reply-newer = refl;
+      reply-other = refl;
+      oldest-delivered = refl;
+      oldest-lost = refl;
+      lost-down = refl;
+      delivered-from-down = refl;
+      check-led = refl;
+      check-one = refl;
+      timeout-own = refl;
+      timeout-own-reorganizing = refl;
+      timeout-led = refl;
+      timeout-reorganizing = refl;
+      contact-yes = refl;
+      contact-no = refl;
+      contact-expires = refl;
+      coordinator-yes = refl;
+      coordinator-election = refl;
+      coordinator-led = refl;
+      there-yes = refl;
+      there-reorganizing = refl;
+      there-group = refl;
+      there-led = refl;
+      there-no-member = refl;
+      invited-forwards = refl;
+      invited-accepts = refl;
+      accepted-replies = refl;
+      forwarded-accepts = refl;
+      accepting-expires = refl;
+      forwards-lowest = refl;
+      forwarding-expires = refl;
+      forwarding-ends = refl;
+      hands-lowest = refl;
+      hands-last = refl;
+      invite-no = refl;
+      hand-no = refl;
+      forward-no = refl;
+      accept-no = refl;
+      ready-normal = refl;
+      ready-busy = refl;
+      range-node = refl;
+      range-message = refl;
+      range-queue = refl;
+      range-count = refl;
+      range-kept = refl;
+      number-none = refl;
+      number-same = refl;
+      number-same-lost = refl;
+      number-sender = refl;
+      number-receiver = refl;
+      down-crash = refl;
+      down-check = refl;
+      down-timeout = refl;
+      down-tick = refl;
+      down-expire = refl;
+      down-deliver = refl;
+      down-none-waits = refl;
+      activity-check = refl;
+      activity-timeout = refl;
+      activity-tick = refl;
+      activity-expire = refl;
+      activity-collecting = refl;
+      none-to-deliver = refl;
+      none-to-lose = refl;
+      calls-end = refl;
+      calls-last = refl;
+      calls-reply = refl;
+      ends-twelve = refl;
+      ends-thirteen = refl;
+      ends-fourteen = refl;
+      ends-pass = refl;
     }

@@ -1,4 +1,4 @@
--- Demand 3 without the history: the event of the list that fixed a task, and that there is one only.
+-- Demand 3 by the list itself: the event of the list that fixed a task, and that there is one only.
 use Prim.Native.Nat.{ℕ, _+_, _≤_}
 use native.Mathlib.Omega.{arith}
 use mathlib.Core.Path.{_≡_, refl, sym, _∙_, ap, subst}
@@ -13,7 +13,7 @@ use Rattle.model.specs.Step.{actor, reactionTo, forms, Result, refused, 
 use Rattle.model.specs.History.{Entry, NotFormed, NoTask, Task, History, blank, updated, newest, coming, marked, given, noted, historyFrom, history}
 use Rattle.model.specs.Claims.{RunFixes, Recovering, Finishing, Fixes, TaskFromList}
 use Rattle.model.proofs.Judged.{accepted-is}
-use Rattle.model.proofs.Invariant.{updated-same, no-task≢task, not-formed≢task}
+use Rattle.model.proofs.Invariant.{updated-same, task-is, no-task≢task, not-formed≢task}
 use Rattle.model.proofs.Origin.{finish-mark}
 use Rattle.model.proofs.Whole.{history-append, run-fixes}
 use Rattle.model.specs.declared.Status.the-variants.{Normal}
@@ -31,9 +31,6 @@ history-one s h e = refl
 -- the history of a list with one event more
 history-next : (n : ℕ) (es : List Event) (e : Event) → history n (es ++ (e ∷ [])) ≡ noted (history n es) e (step (run n es) e)
 history-next n es e = history-append blank (start n) es (e ∷ []) ∙ history-one (run n es) (history n es) e
-
-task-is : (x y : ℕ) → Task x ≡ Task y → x ≡ y
-task-is x y e = cc
 
 given-count : (h : History) (e : Event) → given h e .count ≡ h .count
 given-count h (Crash i) = refl
@@ -178,19 +175,16 @@ module _ (n : ℕ) (small : n ≤ 16) where
   unfolding historyFrom
   blank-entry g = refl
 
-  task-from : (es : List Event) (i : ℕ) → 1 ≤ i → i ≤ n → nodeAt (run n es) i .status ≡ Normal
-      → Fixes n es (nodeAt (run n es) i .group .number) (nodeAt (run n es) i .task .number)
-  task-from es i l u q = by (fixed-after [] es g t (rw append-nil at (run-fixes n small .fixed-task es [] i l u q)))
+  entry-fixed : (es : List Event) (g t : ℕ) → history n es .entry g ≡ Task t → Fixes n es g t
+  entry-fixed es g t q = by (fixed-after [] es g t q)
     where
-      g : ℕ
-      g = nodeAt (run n es) i .group .number
-
-      t : ℕ
-      t = nodeAt (run n es) i .task .number
-
       by : (history n [] .entry g ≡ Task t) ⊎ Fixes n es g t → Fixes n es g t
       by (inl p) = absurd (not-formed≢task _ t (blank-entry g) p)
       by (inr p) = p
+
+  task-from : (es : List Event) (i : ℕ) → 1 ≤ i → i ≤ n → nodeAt (run n es) i .status ≡ Normal
+      → Fixes n es (nodeAt (run n es) i .group .number) (nodeAt (run n es) i .task .number)
+  task-from es i l u q = entry-fixed es _ _ (rw append-nil at (run-fixes n small .fixed-task es [] i l u q))
 
   -- ── before that event the group has no task, and from it on it has this one ──
   module _ (es : List Event) (e : Event) (g t : ℕ) where
@@ -226,6 +220,10 @@ module _ (n : ℕ) (small : n ≤ 16) where
     still-has fs x =
         subst (λ (l : List Event). history n l .entry g ≡ Task t) (append-assoc es (e ∷ []) fs) (run-fixes n small .lasts (es ++ (e ∷ [])) fs g t (has-task x))
 
+  fixed-entry : (es : List Event) (g t : ℕ) → Fixes n es g t → history n es .entry g ≡ Task t
+  fixed-entry es g t a =
+      subst (λ (l : List Event). history n l .entry g ≡ Task t) (sym (a .whole)) (still-has (a .before) (a .event) g t (a .behind) (a .how))
+
   -- ── so there is one such event only ──
   module _ (es : List Event) (g t u : ℕ) (a : Fixes n es g t) (b : Fixes n es g u) where
     places : Order (a .before) (b .before) (a .event) (b .event)
@@ -243,10 +241,7 @@ module _ (n : ℕ) (small : n ≤ 16) where
 
     same-task : t ≡ u
     same-task =
-        task-is t u
-        (sym (still-has (a .before) (a .event) g t (a .behind) (a .how))
-        ∙ ap (λ (l : List Event). history n l .entry g) (sym (a .whole) ∙ b .whole)
-        ∙ still-has (b .before) (b .event) g u (b .behind) (b .how))
+        task-is t u (sym (fixed-entry es g t a) ∙ fixed-entry es g u b)
 
 pub task-from-list : (n : ℕ) → n ≤ 16 → TaskFromList n
-task-from-list n small = record { task = task-from n small; one = one n small; same = same-task n small }
+task-from-list n small = record { task = task-from n small; entry-fixed = entry-fixed n small; fixed-entry = fixed-entry n small; one = one n small; same = same-task n small }

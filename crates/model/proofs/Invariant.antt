@@ -184,6 +184,9 @@ node-extends {i} {h} {d} j c s q x ok =
     going-on Hands e = x .lasts (c .group .number) (c .task .number) e
 
 -- two entries that are told apart
+pub task-is : (x y : ℕ) → Task x ≡ Task y → x ≡ y
+task-is x y e = cc
+
 pub no-task≢task : (o : Entry) (t : ℕ) → o ≡ NoTask → o ≡ Task t → ⊥
 no-task≢task o t p q = let z : _≡_ {A = ℕ} 0 1 = cc in omega arith
 

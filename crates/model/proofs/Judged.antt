@@ -11,15 +11,11 @@ use Rattle.model.specs.Pick.{pick, by-test}
 use Rattle.model.specs.Limits.{queueLimit, counterEnd, callEnd}
 use Rattle.model.specs.State.{State, nodeAt, inRange}
 use Rattle.model.specs.Step.{actor, reactionTo, remaining, effect, wrongNumber, wrongTask, wrongStatus, wrongActivity, noneWaits, forms, isCalling, isSending, Ground, grounds, Result, refused, accepted, judged, step}
+use Rattle.model.specs.Claims.{NoneApplies}
 use Rattle.model.specs.declared.Mark.{Mark}
 use Rattle.model.specs.declared.Event.{Event}
 
--- no ground of the list applies
-abbrev AllClear : List Ground → Type 0
-AllClear [] = Unit {0}
-AllClear (g ∷ gs) = (g .applies ≡ false) × AllClear gs
-
-judged-by : (P : Result → Type 0) (r : Result) (gs : List Ground) → ((x : ℕ) → P (refused x)) → (AllClear gs → P r) → P (judged r gs)
+judged-by : (P : Result → Type 0) (r : Result) (gs : List Ground) → ((x : ℕ) → P (refused x)) → (NoneApplies gs → P r) → P (judged r gs)
 unfolding judged
 judged-by P r [] f g = g tt
 judged-by P r (x ∷ gs) f g = by-test P (λ _. f (x .number)) (λ q. judged-by P r gs f (λ c. g (q, c)))

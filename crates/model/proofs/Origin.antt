@@ -1,4 +1,4 @@
--- Where a node's group comes from: a reaction that forms no group keeps it, or takes the group of the message that it acts on.
+-- Where groups come from: a reaction that forms no group keeps its node's, or takes that of the message that it acts on; a message out carries its sender's.
 use Prim.Native.Nat.{ℕ, _+_}
 use mathlib.Core.Bool.{Bool, true, false, _&&_, _||_, true≢false}
 use mathlib.Core.Logic.{_⊎_, inl, inr}
@@ -9,6 +9,7 @@ use Rattle.model.specs.Pick.{pick, by-test}
 use Rattle.model.specs.Node.{invited}
 use Rattle.model.specs.Procedures.{stays, recovers, inviteNext, merges, handNext, finishes, forwardNext, askedAll, askAt, askAfter}
 use Rattle.model.specs.React.{checked, timedOut, ticked, expired, resumed, onAreYouCoordinator, onAreYouThere, onInvitation, onAccept, onReady, onReply, received, react}
+use Rattle.model.specs.Range.{carriesGroup}
 use Rattle.model.specs.State.{State, nodeAt, goes, waits, oldest}
 use Rattle.model.specs.Step.{actor, reactionTo, noneWaits, forms}
 use Rattle.model.specs.Claims.{Unsent}
@@ -18,6 +19,8 @@ use Rattle.model.specs.declared.Node.{Node}
 use Rattle.model.specs.declared.CallNo.{CallNo}
 use Rattle.model.specs.declared.TaskNo.{TaskNo}
 use Rattle.model.specs.declared.Message.{Message}
+use Rattle.model.specs.declared.Outgoing.{Outgoing}
+use Rattle.model.specs.declared.Outgoing.the-variants.{Nothing, Send}
 use Rattle.model.specs.declared.Mark.{Mark}
 use Rattle.model.specs.declared.Mark.the-variants.{Plain, Recovers, Merges}
 use Rattle.model.specs.declared.Reaction.{Reaction}
@@ -170,3 +173,108 @@ oldest-held a b (m ∷ ms) g w u =
     later : (x y : Bool) → x ≡ false → (x || y) ≡ true → y ≡ true
     later true y t e = absurd (true≢false t)
     later false y t e = e
+
+-- ── messages out ──
+
+-- what is sent carries the group g, where it carries one
+abbrev pub Carries : ℕ → Outgoing → Type 0
+Carries g Nothing = Unit {0}
+Carries g (Send m) = carriesGroup (m .kind) ≡ true → m .group .number ≡ g
+
+-- and that is the group of the sender's record
+abbrev Own : Reaction → Type 0
+Own r = Carries (r .node .group .number) (r .outgoing)
+
+module _ (i : ℕ) (c : Node) where
+  inviteNext-own : (k : Mark) (f o : ℕ) → Own (inviteNext i c k f o)
+  unfolding inviteNext
+  inviteNext-own k f o = by-test Own (λ _ e. refl) (λ _. by-test Own (λ _ e. refl) (λ _. tt))
+
+  handNext-own : (r : ℕ) → Own (handNext i c r)
+  unfolding handNext
+  handNext-own r = by-test Own (λ _. tt) (λ _ e. refl)
+
+  forwardNext-own : (r a : ℕ) (k : CallNo) → Own (forwardNext i c r a k)
+  unfolding forwardNext
+  forwardNext-own r a k = by-test Own (λ _ e. refl) (λ _ e. refl)
+
+module _ (i : ℕ) (c : Node) where
+  merges-own : (f : ℕ) → Own (merges i c f)
+  unfolding merges
+  merges-own f = inviteNext-own i _ Merges f (c .members)
+
+  askAt-own : (n j f : ℕ) → Own (askAt n i c j f)
+  unfolding askAt askedAll
+  askAt-own n j f =
+      by-test Own (λ _ e. absurd (true≢false (sym e)))
+      (λ _. by-test Own (λ _. tt) (λ _. by-test Own (λ _. tt) (λ _. merges-own f)))
+
+  askAfter-own : (n j f : ℕ) → Own (askAfter n i c j f)
+  unfolding askAfter
+  askAfter-own n j f = by-test Own (λ _. askAt-own n (j + 2) f) (λ _. askAt-own n (j + 1) f)
+
+  checked-own : (n : ℕ) → Own (checked n i c)
+  unfolding checked
+  checked-own n = by-test Own (λ _. askAfter-own n 0 0) (λ _. tt)
+
+  timedOut-own : Own (timedOut i c)
+  unfolding timedOut
+  timedOut-own = by-test Own (λ _. tt) (λ _ e. refl)
+
+  ticked-own : (a : Activity) → Own (ticked i c a)
+  unfolding ticked
+  ticked-own Idle = tt
+  ticked-own (Asking a f) = tt
+  ticked-own (Waiting k f) = by-test Own (λ _. merges-own f) (λ _. tt)
+  ticked-own (Inviting f o w) = tt
+  ticked-own Collecting = tt
+  ticked-own (Handing r w) = tt
+  ticked-own Contacting = tt
+  ticked-own (Forwarding r w a k) = tt
+  ticked-own (Accepting a k) = tt
+
+  expired-own : (n : ℕ) (a : Activity) → Own (expired n i c a)
+  unfolding expired
+  expired-own n Idle = tt
+  expired-own n (Asking a f) = askAfter-own n a f
+  expired-own n (Waiting k f) = tt
+  expired-own n (Inviting f o w) = inviteNext-own i c Plain f o
+  expired-own n Collecting = tt
+  expired-own n (Handing r w) = tt
+  expired-own n Contacting = tt
+  expired-own n (Forwarding r w a k) = forwardNext-own i c r a k
+  expired-own n (Accepting a k) = tt
+
+  resumed-own : (n : ℕ) (y : Bool) (a : Activity) → Own (resumed n i c y a)
+  unfolding resumed
+  resumed-own n y Idle = tt
+  resumed-own n y (Asking a f) = askAfter-own n a (pick y (with f a) f)
+  resumed-own n y (Waiting k f) = tt
+  resumed-own n y (Inviting f o w) = inviteNext-own i c Plain f o
+  resumed-own n y Collecting = tt
+  resumed-own n y (Handing r w) = handNext-own i c r
+  resumed-own n y Contacting = by-test Own (λ _. tt) (λ _. tt)
+  resumed-own n y (Forwarding r w a k) = forwardNext-own i c r a k
+  resumed-own n y (Accepting a k) = λ e. absurd (true≢false (sym e))
+
+  received-own : (n : ℕ) (m : Message) → Own (received n i c m)
+  unfolding received onAreYouCoordinator onAreYouThere onInvitation onAccept onReady onReply
+  received-own n m =
+      by-test Own (λ _ e. absurd (true≢false (sym e)))
+      (λ _. by-test Own (λ _ e. absurd (true≢false (sym e)))
+      (λ _. by-test Own (λ _. by-test Own (λ _ e. absurd (true≢false (sym e))) (λ _. forwardNext-own i (invited c (m .group)) _ (m .sender) (m .call)))
+      (λ _. by-test Own (λ _ e. absurd (true≢false (sym e)))
+      (λ _. by-test Own (λ _ e. absurd (true≢false (sym e)))
+      (λ _. by-test Own (λ _. by-test Own (λ _. resumed-own n (m .yes) (c .activity)) (λ _. tt)) (λ _. tt))))))
+
+pub group-sent : (s : State) (e : Event) → Carries (reactionTo s e .node .group .number) (reactionTo s e .outgoing)
+unfolding reactionTo react finishes
+group-sent s (Crash i) = tt
+group-sent s (Recover i) = tt
+group-sent s (Check i) = checked-own i (nodeAt s i) (s .n)
+group-sent s (Timeout i) = timedOut-own i (nodeAt s i)
+group-sent s (Tick i) = ticked-own i (nodeAt s i) (nodeAt s i .activity)
+group-sent s (Expire i) = expired-own i (nodeAt s i) (s .n) (nodeAt s i .activity)
+group-sent s (Finish i t) = handNext-own i _ (nodeAt s i .members)
+group-sent s (Deliver a b) = received-own b (nodeAt s b) (s .n) (oldest a b (s .queue))
+group-sent s (Lose a b) = tt

@@ -1,17 +1,17 @@
--- The numbers of refusals: those of the table of grounds, and no other.
+-- Refusals: by the first ground that applies, with its number, and no other.
 use Prim.Native.Nat.{ℕ, _≤_}
 use native.Mathlib.Omega.{arith}
 use mathlib.Core.Bool.{Bool, true, false, _&&_, _||_}
 use mathlib.Core.Logic.{_⊎_, inl, inr, ⊎-elim}
 use mathlib.Core.Path.{_≡_, refl, sym, _∙_, ap, subst}
-use mathlib.Core.List.{List, [], _∷_}
+use mathlib.Core.List.{List, [], _∷_, _++_}
 use lib.Dec.{eqb, leb}
 use borrow.Author.Tests.{eqb-true, leb-true}
-use Rattle.model.specs.Pick.{pick, by-test}
+use Rattle.model.specs.Pick.{pick, pick-true, pick-false, by-test}
 use Rattle.model.specs.State.{State}
-use Rattle.model.specs.Step.{Ground, grounds, Result, refused, accepted, judged, step}
+use Rattle.model.specs.Step.{Ground, ground, grounds, Result, refused, accepted, judged, step}
 use Rattle.model.specs.Answers.{resultNumber}
-use Rattle.model.specs.Claims.{Accepts, RefusesByGround}
+use Rattle.model.specs.Claims.{Accepts, NoneApplies, FirstApplies, RefusesByGround}
 use Rattle.model.proofs.Local.{both-left, both-right}
 use Rattle.model.proofs.Fields.{either}
 use Rattle.model.proofs.InRange.{delivery-never-full}
@@ -57,5 +57,56 @@ zero-accepts s e z = by-result (step s e) refl
     by-result (refused r) q = absurd (never-zero s e (q ∙ ap refused (sym (ap resultNumber q) ∙ z)))
     by-result (accepted u k) q = record { state = u; mark = k; is = q }
 
+-- ── the first ground that applies ──
+
+-- what a result says of the grounds
+abbrev Says : List Ground → Result → Type 0
+Says gs (refused r) = FirstApplies gs r
+Says gs (accepted u k) = NoneApplies gs
+
+-- one ground more before the others, which does not apply
+says-on : (g : Ground) (gs : List Ground) → g .applies ≡ false → (x : Result) → Says gs x → Says (g ∷ gs) x
+says-on g gs q (refused r) f =
+    record { before = g ∷ f .before; behind = f .behind; whole = ap (λ (l : List Ground). g ∷ l) (f .whole); none-before = (q, f .none-before) }
+says-on g gs q (accepted u k) c = (q, c)
+
+judged-says : (u : State) (k : Mark) (gs : List Ground) → Says gs (judged (accepted u k) gs)
+unfolding judged
+judged-says u k [] = tt
+judged-says u k (g ∷ gs) =
+    by-test (Says (g ∷ gs))
+    (λ q. record { before = []; behind = gs; whole = ap (λ (b : Bool). ground (g .number) b ∷ gs) q; none-before = tt })
+    (λ q. says-on g gs q (judged (accepted u k) gs) (judged-says u k gs))
+
+step-says : (s : State) (e : Event) → Says (grounds s e) (step s e)
+unfolding step
+step-says s e = judged-says _ _ (grounds s e)
+
+first : (s : State) (e : Event) (r : ℕ) → step s e ≡ refused r → FirstApplies (grounds s e) r
+first s e r q = subst (Says (grounds s e)) q (step-says s e)
+
+none : (s : State) (e : Event) (u : State) (k : Mark) → step s e ≡ accepted u k → NoneApplies (grounds s e)
+none s e u k q = subst (Says (grounds s e)) q (step-says s e)
+
+judged-none : (x : Result) (gs : List Ground) → NoneApplies gs → judged x gs ≡ x
+unfolding judged
+judged-none x [] c = refl
+judged-none x (g ∷ gs) c =
+    ap (λ (b : Bool). pick b (refused (g .number)) (judged x gs)) (c .0) ∙ pick-false _ _ ∙ judged-none x gs (c .1)
+
+judged-first : (x : Result) (before behind : List Ground) (r : ℕ) → NoneApplies before → judged x (before ++ (ground r true ∷ behind)) ≡ refused r
+unfolding judged
+judged-first x [] behind r c = pick-true _ _
+judged-first x (g ∷ before) behind r c =
+    ap (λ (b : Bool). pick b (refused (g .number)) (judged x (before ++ (ground r true ∷ behind)))) (c .0) ∙ pick-false _ _ ∙ judged-first x before behind r (c .1)
+
+first-given : (s : State) (e : Event) (r : ℕ) → FirstApplies (grounds s e) r → step s e ≡ refused r
+unfolding step
+first-given s e r f = ap (judged _) (f .whole) ∙ judged-first _ (f .before) (f .behind) r (f .none-before)
+
+none-accepts : (s : State) (e : Event) → NoneApplies (grounds s e) → Accepts s e
+unfolding step
+none-accepts s e c = record { state = _; mark = _; is = judged-none _ (grounds s e) c }
+
 pub refuses-by-ground : RefusesByGround
-refuses-by-ground = record { numbers = numbers; never-zero = never-zero; zero-accepts = zero-accepts; delivery-never-full = delivery-never-full }
+refuses-by-ground = record { first = first; first-given = first-given; none = none; none-accepts = none-accepts; numbers = numbers; never-zero = never-zero; zero-accepts = zero-accepts; delivery-never-full = delivery-never-full }

@@ -13,15 +13,16 @@ use borrow.Author.Tests.{eqb-true, eqb-false, not-false}
 use Rattle.model.specs.Pick.{pick, by-test}
 use Rattle.model.specs.Node.{isDown, ownerOf, counterOf}
 use Rattle.model.specs.React.{react}
+use Rattle.model.specs.Range.{carriesGroup}
 use Rattle.model.specs.State.{State, startingNode, start, nodeAt, noMessage, goes, oldest, withoutOldest}
 use Rattle.model.specs.Step.{actor, reactionTo, remaining, sent, effect, wrongStatus, wrongActivity, noneWaits, forms, Result, refused, accepted, step, kept, after, runFrom, run}
 use Rattle.model.specs.History.{Entry, NotFormed, NoTask, Task, History, blank, newest, coming, marked, given, noted, historyFrom, history}
-use Rattle.model.specs.Claims.{isActive, Unsent, Lacks, RunFixes}
+use Rattle.model.specs.Claims.{isActive, Unsent, Lacks, EachGroup, RunFixes}
 use Rattle.model.proofs.Judged.{Clear, by-step, Accepted, accepted-is}
-use Rattle.model.proofs.Invariant.{NodeNumber, Led, Gathering, NodeOk, MessageOk, HistoryOk, OutgoingOk, MarkOk, ReactionOk, Extends, extends-refl, extends-trans, owner-of, counter-of, message-extends, node-extends, coming-not-formed, marked-extends, marked-ok, tasked-extends, tasked-ok}
+use Rattle.model.proofs.Invariant.{NodeNumber, Led, Gathering, NodeOk, MessageOk, HistoryOk, OutgoingOk, MarkOk, ReactionOk, Extends, extends-refl, extends-trans, owner-of, counter-of, message-extends, node-extends, task-is, coming-not-formed, marked-extends, marked-ok, tasked-extends, tasked-ok}
 use Rattle.model.proofs.Local.{stays-ok, react-ok, collecting-gathers, finish-ok}
 use Rattle.model.proofs.Numbers.{actor-in}
-use Rattle.model.proofs.Origin.{finish-mark, Source, group-source, oldest-held}
+use Rattle.model.proofs.Origin.{finish-mark, Source, group-source, oldest-held, Carries, group-sent}
 use Rattle.model.specs.declared.Status.{Status}
 use Rattle.model.specs.declared.Status.the-variants.{Down, Election, Reorganization, Normal}
 use Rattle.model.specs.declared.Node.{Node}
@@ -280,6 +281,32 @@ effect-n : (s : State) (e : Event) → effect s e .n ≡ s .n
 unfolding effect
 effect-n s e = refl
 
+-- each message of a queue is in it
+all-held : (q : List Message) → All (λ (m : Message). Unsent (m .group .number) q → ⊥) q
+all-held [] = tt
+all-held (m ∷ ms) = ((λ u. u .0 refl), all-map (λ x f u. f (u .1)) ms (all-held ms))
+
+each-group : (P : ℕ → Type 0) (q : List Message) → All (λ (m : Message). carriesGroup (m .kind) ≡ true → P (m .group .number)) q → EachGroup P q
+each-group P [] h = tt
+each-group P (m ∷ ms) h = (h .0, each-group P ms (h .1))
+
+all-remaining : (P : Message → Type 0) (s : State) (e : Event) → All P (s .queue) → All P (remaining s e)
+unfolding remaining
+all-remaining P s (Crash i) h = h
+all-remaining P s (Recover i) h = h
+all-remaining P s (Check i) h = h
+all-remaining P s (Timeout i) h = h
+all-remaining P s (Tick i) h = h
+all-remaining P s (Expire i) h = h
+all-remaining P s (Finish i t) h = h
+all-remaining P s (Deliver a b) h = all-without P a b (s .queue) h
+all-remaining P s (Lose a b) h = all-without P a b (s .queue) h
+
+-- what holds of the group of the sender's record holds of the group of the message out
+all-sent : (P : ℕ → Type 0) (g : ℕ) (o : Outgoing) → Carries g o → P g → All (λ (m : Message). carriesGroup (m .kind) ≡ true → P (m .group .number)) (sent o)
+all-sent P g Nothing c h = tt
+all-sent P g (Send m) c h = ((λ e. subst P (sym (c e)) h), tt)
+
 pub run-fixes : (n : ℕ) → n ≤ 16 → RunFixes n
 unfolding effect wrongActivity runFrom
 run-fixes n small =
@@ -287,10 +314,12 @@ run-fixes n small =
       same-coordinator = λ es i j l h l′ h′ a a′ q.
           let c = good es .state .nodes in
           led-active (nodeAt (run n es) i .status) _ _ a (c i l (reach es h) .led) ∙ ap ownerOf q ∙ sym (led-active (nodeAt (run n es) j .status) _ _ a′ (c j l′ (reach es h′) .led));
-      fixed-task = λ es fs i l h e. growth es fs .lasts _ _ (rw e at (good es .state .nodes i l (reach es h) .settled));
+      same-task = λ es i j l h l′ h′ a a′ q. task-is _ _ (sym (settled es i l h a) ∙ ap (history n es .entry) q ∙ settled es j l′ h′ a′);
+      fixed-task = λ es fs i l h e. growth es fs .lasts _ _ (settled es i l h e);
       numbered = λ es e u k q f. group-number es e u k f (accepted-is (run n es) e u k q);
       fresh = λ es fs e u k q f. lacks-coming (history n es) (history n (es ++ fs)) (run n es) (actor e) (actor-number (es ++ fs) e (accepted-is (run n (es ++ fs)) e u k q .clear)) (good es .state) (growth es fs);
       borrowed = λ es e u k q f j l h x. none-new es e u k f j l h (accepted-is (run n es) e u k q) x;
+      borrowed-messages = λ es e u k q. messages-held es e u k (accepted-is (run n es) e u k q);
       formed-once = λ es e u k q f. coming-not-formed (history n es) (actor e) (actor-number es e (accepted-is (run n es) e u k q .clear)) (good es .history);
       given-once = λ es i t u k q. collects es i t (accepted-is (run n es) (Finish i t) u k q .clear) .undecided;
       own-group = λ es i t u k q. collects es i t (accepted-is (run n es) (Finish i t) u k q .clear) .own;
@@ -308,21 +337,28 @@ run-fixes n small =
     reach : (es : List Event) {i : ℕ} → i ≤ n → i ≤ run n es .n
     reach es h = omega (arith, same-n (start n) es refl, h)
 
+    -- a Normal node's task is the history's
+    settled : (es : List Event) (i : ℕ) → 1 ≤ i → i ≤ n → nodeAt (run n es) i .status ≡ Normal → history n es .entry (nodeAt (run n es) i .group .number) ≡ Task (nodeAt (run n es) i .task .number)
+    settled es i l h e = rw e at (good es .state .nodes i l (reach es h) .settled)
+
     event : (es : List Event) (e : Event) → Clear (run n es) e → EventOk (history n es) (run n es) e
     event es e c = event-ok (history n es) (run n es) (good es .history) (good es .state) e c
 
     actor-number : (es : List Event) (e : Event) → Clear (run n es) e → NodeNumber (actor e)
     actor-number es e c = let x = event es e c in number (history n es) (run n es) (good es .history) (good es .state) (actor e) (x .low, x .high)
 
+    formed-number : (es : List Event) (e : Event) (k : Mark) → forms k ≡ true → Clear (run n es) e → k ≡ reactionTo (run n es) e .mark
+        → reactionTo (run n es) e .node .group .number ≡ coming (history n es) (actor e)
+    formed-number es e k f c q =
+        let g : forms (reactionTo (run n es) e .mark) ≡ true = rw (← q) f in
+        mark-number (given (history n es) e) (actor e) _ (reactionTo (run n es) e .mark) g (event es e c .reaction .mark)
+        ∙ ap (λ (d : History). coming d (actor e)) (forming-gives-none (history n es) (run n es) e g)
+
     group-number : (es : List Event) (e : Event) (u : State) (k : Mark) → forms k ≡ true → Accepted (run n es) e u k → nodeAt u (actor e) .group .number ≡ coming (history n es) (actor e)
     group-number es e u k f a =
-        let x = event es e (a .clear) in
-        let g : forms (reactionTo (run n es) e .mark) ≡ true = rw (← a .mark) f in
-        let m = mark-number (given (history n es) e) (actor e) _ (reactionTo (run n es) e .mark) g (x .reaction .mark) in
         ap (λ (v : State). nodeAt v (actor e) .group .number) (a .state)
-        ∙ ap (λ (c : Node). c .group .number) (stored (history n es) (run n es) (good es .history) (good es .state) e x)
-        ∙ m
-        ∙ ap (λ (d : History). coming d (actor e)) (forming-gives-none (history n es) (run n es) e g)
+        ∙ ap (λ (c : Node). c .group .number) (stored (history n es) (run n es) (good es .history) (good es .state) e (event es e (a .clear)))
+        ∙ formed-number es e k f (a .clear) (a .mark)
 
     none-new : (es : List Event) (e : Event) (u : State) (k : Mark) → forms k ≡ false → (j : ℕ) → 1 ≤ j → j ≤ n → Accepted (run n es) e u k → Lacks (run n es) (nodeAt u j .group .number) → ⊥
     none-new es e u k f j l v a lacks =
@@ -340,6 +376,30 @@ run-fixes n small =
         by-number false q x m =
             let m′ = rw (getD-set-other (s .nodes) (actor e - 1) (j - 1) (reactionTo s e .node) startingNode (λ z. eqb-false j (actor e) q (omega (arith, x .low)))) at m in
             m′ .in-nodes j l (reach es v) refl
+
+    messages-held : (es : List Event) (e : Event) (u : State) (k : Mark) → Accepted (run n es) e u k
+        → EachGroup (λ g. Lacks (run n es) g → (forms k ≡ true) × (g ≡ coming (history n es) (actor e))) (u .queue)
+    messages-held es e u k a =
+        each-group New (u .queue)
+        (subst (λ (w : State). All P (w .queue)) (sym (a .state))
+        (all-append P (remaining s e) (sent (reactionTo s e .outgoing))
+        (all-remaining P s e (all-map (λ m f _ x. absurd (f (x .in-messages))) (s .queue) (all-held (s .queue))))
+        (all-sent New (reactionTo s e .node .group .number) (reactionTo s e .outgoing) (group-sent s e) (by-mark (forms k) refl))))
+      where
+        s : State
+        s = run n es
+
+        New : ℕ → Type 0
+        New g = Lacks s g → (forms k ≡ true) × (g ≡ coming (history n es) (actor e))
+
+        P : Message → Type 0
+        P m = carriesGroup (m .kind) ≡ true → New (m .group .number)
+
+        by-mark : (b : Bool) → forms k ≡ b → New (reactionTo s e .node .group .number)
+        by-mark true f x = (f, formed-number es e k f (a .clear) (a .mark))
+        by-mark false f x =
+            let y = event es e (a .clear) in
+            absurd (source-held s e (a .clear) (y .low) (y .high) _ (group-source s e (rw (← a .mark) f)) x)
 
     collects : (es : List Event) (i : ℕ) (t : TaskNo) → Clear (run n es) (Finish i t) → Gathering (history n es) i (nodeAt (run n es) i .group .number)
     collects es i t c =

@@ -1,5 +1,5 @@
--- "Named cases": what is claimed of K1 to K13, jointly, over the definitions. Where 01 names one side of a rule, the other side stands beside it, in a
--- table that differs in that alone. "Wrong turnings in this protocol" follow.
+-- "Named cases": what is claimed of K1 to K13, jointly, over the definitions. Where 01 names one side of a rule, the other side stands beside it. "Wrong
+-- turnings in this protocol" follow, and then further cases. The tables are in range where nothing else is said; not each of them is one that a run reaches.
 use Prim.Native.Nat.{ℕ}
 use mathlib.Core.Bool.{Bool, true, false}
 use mathlib.Core.Path.{_≡_}
@@ -194,8 +194,8 @@ pub record NamedCases : Type 0 where
   -- with no member, or where another leads it, it calls Accept at once
   pub k8-no-member : after (pair Normal none Collecting (invitation 16)) (Deliver 1 2)
       ≡ beside (follower Election 16 100 none 3 (Accepting 1 (callNo 3))) (calls 2 4 1 (callNo 3) (groupNo 16) ∷ [])
-  pub k8-led : after (beside (follower Normal 16 100 (setOf (1 ∷ [])) 2 Idle) (invitation 32)) (Deliver 1 2)
-      ≡ beside (follower Election 32 100 (setOf (1 ∷ [])) 3 (Accepting 1 (callNo 3))) (calls 2 4 1 (callNo 3) (groupNo 32) ∷ [])
+  pub k8-led : after (beside (follower Normal 32 100 (setOf (1 ∷ [])) 2 Idle) (invitation 16)) (Deliver 1 2)
+      ≡ beside (follower Election 16 100 (setOf (1 ∷ [])) 3 (Accepting 1 (callNo 3))) (calls 2 4 1 (callNo 3) (groupNo 16) ∷ [])
   -- "K9 a reply with an older call number is only dropped."
   pub k9 : after (pair Normal (setOf (1 ∷ [])) (Asking 1 none) (reply 1 true)) (Deliver 1 2) ≡ pair Normal (setOf (1 ∷ [])) (Asking 1 none) []
   -- with the last call number it goes on: yes, so that 1 is found, and as it was the last to be asked, node 2 merges
@@ -252,9 +252,9 @@ pub record WrongTurnings : Type 0 where
   -- "Taking the task with the invitation: one group, two tasks." Node 2 has finished with task 100. Node 1, which it invited, has its solo task until Ready comes.
   pub task-waits : printedFields (run 2 (collecting ++ (Finish 2 (taskNo 100) ∷ []))) 1 ≡ 1 ∷ 2 ∷ 2 ∷ 33 ∷ 1 ∷ 1 ∷ 0 ∷ []
   -- the task comes with the Ready of its group, in Reorganization
-  pub task-comes : after (beside (follower Reorganization 16 100 none 2 Idle) (ready 16 200)) (Deliver 1 2) ≡ beside (follower Normal 16 200 none 2 Idle) plain
-  pub task-of-other : after (beside (follower Reorganization 16 100 none 2 Idle) (ready 32 200)) (Deliver 1 2) ≡ beside (follower Reorganization 16 100 none 2 Idle) plain
-  pub task-too-soon : after (beside (follower Election 16 100 none 2 Idle) (ready 16 200)) (Deliver 1 2) ≡ beside (follower Election 16 100 none 2 Idle) plain
+  pub task-comes : after (beside (follower Reorganization 32 100 none 2 Idle) (ready 32 200)) (Deliver 1 2) ≡ beside (follower Normal 32 200 none 2 Idle) plain
+  pub task-of-other : after (beside (follower Reorganization 32 100 none 2 Idle) (ready 16 200)) (Deliver 1 2) ≡ beside (follower Reorganization 32 100 none 2 Idle) plain
+  pub task-too-soon : after (beside (follower Election 32 100 none 2 Idle) (ready 32 200)) (Deliver 1 2) ≡ beside (follower Election 32 100 none 2 Idle) plain
   -- "Sending Ready on after a recovery, under the new group." Node 1 hands Ready to 2, and 3 is still to come. An answer: 3 is next.
   pub ready-on : after (first (leader Reorganization 1 (Handing (setOf (3 ∷ [])) 2)) (replies 2 1 (callNo 1) true ∷ [])) (Deliver 2 1)
       ≡ first (leader Reorganization 2 (Handing none 3)) (readies 1 3 (callNo 2) (groupNo 16) (taskNo 100) ∷ [])
@@ -270,3 +270,204 @@ pub record WrongTurnings : Type 0 where
         last = callNo 1;
         activity = Idle;
       }) []) Recovers
+
+-- ── tables of the further cases ──
+
+-- a node with the counter 1 and, in 01's order, the status s, group g, coordinator o, task t, members m, last call number k and activity a
+abbrev pub filled : Status → ℕ → ℕ → ℕ → ℕ → ℕ → Activity → Node
+filled s g o t m k a =
+    record { status = s; counter = 1; group = groupNo g; coordinator = o; task = taskNo t; members = m; last = callNo k; activity = a }
+
+-- three nodes
+abbrev pub three : Node → Node → Node → List Message → State
+three a b c q = record { n = 3; nodes = a ∷ b ∷ c ∷ []; queue = q }
+
+-- node 2 of three asks node j in its fourth call, with the set found
+abbrev pub asker : ℕ → ℕ → List Message → State
+asker j found q = three startingNode (filled Normal 17 2 2 none 4 (Asking j found)) startingNode q
+
+-- node 1 of three merged into group 32 and waits for the answer to its seventh call; nodes 2 and 3 are b and c
+abbrev pub merging : Node → Node → List Message → State
+merging b c q =
+    three (record {
+      status = Election;
+      counter = 2;
+      group = groupNo 32;
+      coordinator = 1;
+      task = taskNo 1;
+      members = none;
+      last = callNo 7;
+      activity = Inviting none none 3;
+    }) b c q
+
+-- node 3 in its group 18, with node 2 as its member, and what it becomes when node 1 invites it
+abbrev pub formerCoordinator : Node
+formerCoordinator = filled Normal 18 3 100 (setOf (2 ∷ [])) 4 Idle
+
+abbrev pub forwarder : Node
+forwarder = filled Election 32 1 100 (setOf (2 ∷ [])) 5 (Forwarding none 2 1 (callNo 7))
+
+-- node 2 of two, with the counter k and the last call number l, waits for its last tick; it has found node 1
+abbrev pub ending : ℕ → ℕ → List Message → State
+ending k l q =
+    beside (record {
+      status = Normal;
+      counter = k;
+      group = groupNo 17;
+      coordinator = 2;
+      task = taskNo 2;
+      members = none;
+      last = callNo l;
+      activity = Waiting 1 (setOf (1 ∷ []));
+    }) q
+
+-- ── messages of the further cases: node 1's third call, to node 2, and the reply no to it; two of the same pair with another between them ──
+
+abbrev pub question : List Message
+question = asks 1 2 (callNo 3) ∷ []
+
+abbrev pub there : ℕ → List Message
+there g = calls 1 2 2 (callNo 3) (groupNo g) ∷ []
+
+abbrev pub denial : List Message
+denial = replies 2 1 (callNo 3) false ∷ []
+
+abbrev pub twoOfPair : List Message
+twoOfPair = asks 1 2 (callNo 2) ∷ asks 2 1 (callNo 1) ∷ asks 1 2 (callNo 3) ∷ []
+
+-- ── further cases: rules of 01 that the named cases leave open ──
+
+pub record FurtherCases : Type 0 where
+  -- "let p be the highest found": of 1 and 3, so that node 2 waits one tick
+  pub highest-found : step (asker 3 (setOf (1 ∷ [])) (replies 3 2 (callNo 4) true ∷ [])) (Deliver 3 2)
+      ≡ accepted (three startingNode (filled Normal 17 2 2 none 4 (Waiting 1 (setOf (1 ∷ 3 ∷ [])))) startingNode []) Plain
+  -- "in turn": node 2 leaves itself out
+  pub asks-others : step (asker 1 none (replies 1 2 (callNo 4) false ∷ [])) (Deliver 1 2)
+      ≡ accepted (three startingNode (filled Normal 17 2 2 none 5 (Asking 3 none)) startingNode (asks 2 3 (callNo 5) ∷ [])) Plain
+  -- "if a call is open with this number": a newer number is dropped too
+  pub reply-newer : step (pair Normal (setOf (1 ∷ [])) (Asking 1 none) (reply 3 true)) (Deliver 1 2) ≡ accepted (pair Normal (setOf (1 ∷ [])) (Asking 1 none) []) Plain
+  -- "Matching a reply by its sender instead of its call number": by the number it goes on, whoever sent it, and "asking adds the cabinet asked"
+  pub reply-other : step (asker 3 none (replies 1 2 (callNo 4) true ∷ [])) (Deliver 1 2)
+      ≡ accepted (three startingNode (filled Normal 17 2 2 none 4 (Waiting 1 (setOf (3 ∷ [])))) startingNode []) Plain
+  -- "deliver a b: that message is taken out", the oldest from a to b, and the newer one stays
+  pub oldest-delivered : step (pair Normal none Idle twoOfPair) (Deliver 1 2)
+      ≡ accepted (pair Normal none Idle (asks 2 1 (callNo 1) ∷ asks 1 2 (callNo 3) ∷ replies 2 1 (callNo 2) true ∷ [])) Plain
+  -- "lose a b: the oldest message from a to b vanishes"
+  pub oldest-lost : step (pair Normal none Idle twoOfPair) (Lose 1 2) ≡ accepted (pair Normal none Idle (asks 2 1 (callNo 1) ∷ asks 1 2 (callNo 3) ∷ [])) Plain
+  -- lose: also where the receiver is Down
+  pub lost-down : step (pair Down none Idle question) (Lose 1 2) ≡ accepted (pair Down none Idle []) Plain
+  -- deliver: also where the sender is Down
+  pub delivered-from-down : step (pair Down none Idle (queued 1)) (Deliver 2 1) ≡ accepted (pair Down none Idle (replies 1 2 (callNo 1) true ∷ [])) Plain
+  -- "check i: .. Otherwise, or with n = 1, nothing changes": by a Normal member, and with n = 1
+  pub check-led : step (beside (follower Normal 32 100 none 2 Idle) []) (Check 2) ≡ accepted (beside (follower Normal 32 100 none 2 Idle) []) Plain
+  pub check-one : step (run 1 (Recover 1 ∷ [])) (Check 1) ≡ accepted (run 1 (Recover 1 ∷ [])) Plain
+  -- "timeout i: if its own coordinator, nothing changes. Else it calls AreYouThere on its coordinator, with its group.", whatever its status
+  pub timeout-own : step (pair Normal (setOf (1 ∷ [])) Idle []) (Timeout 2) ≡ accepted (pair Normal (setOf (1 ∷ [])) Idle []) Plain
+  pub timeout-own-reorganizing : step (pair Reorganization (setOf (1 ∷ [])) Idle []) (Timeout 2) ≡ accepted (pair Reorganization (setOf (1 ∷ [])) Idle []) Plain
+  pub timeout-led : step (beside (follower Normal 32 100 none 2 Idle) []) (Timeout 2)
+      ≡ accepted (beside (follower Normal 32 100 none 3 Contacting) (calls 2 2 1 (callNo 3) (groupNo 32) ∷ [])) Plain
+  pub timeout-reorganizing : step (beside (follower Reorganization 32 100 none 2 Idle) []) (Timeout 2)
+      ≡ accepted (beside (follower Reorganization 32 100 none 3 Contacting) (calls 2 2 1 (callNo 3) (groupNo 32) ∷ [])) Plain
+  -- "contacting is idle on yes and recovers on no"; expire: it recovers
+  pub contact-yes : step (beside (follower Normal 32 100 none 2 Contacting) (reply 2 true)) (Deliver 1 2) ≡ accepted (beside (follower Normal 32 100 none 2 Idle) []) Plain
+  pub contact-no : step (beside (follower Normal 32 100 none 2 Contacting) (reply 2 false)) (Deliver 1 2) ≡ accepted (beside alone []) Recovers
+  pub contact-expires : step (beside (follower Normal 32 100 none 2 Contacting) []) (Expire 2) ≡ accepted (beside alone []) Recovers
+  -- "1: reply yes exactly when Normal and its own coordinator": no by one in Election, and by one that another leads
+  pub coordinator-yes : step (pair Normal none Idle question) (Deliver 1 2) ≡ accepted (pair Normal none Idle plain) Plain
+  pub coordinator-election : step (pair Election none Collecting question) (Deliver 1 2) ≡ accepted (pair Election none Collecting denial) Plain
+  pub coordinator-led : step (beside (follower Normal 32 100 none 2 Idle) question) (Deliver 1 2) ≡ accepted (beside (follower Normal 32 100 none 2 Idle) denial) Plain
+  -- "2: yes exactly when the group is equal, it is its own coordinator and the sender is a member", whatever its status
+  pub there-yes : step (pair Normal (setOf (1 ∷ [])) Idle (there 33)) (Deliver 1 2) ≡ accepted (pair Normal (setOf (1 ∷ [])) Idle plain) Plain
+  pub there-reorganizing : step (pair Reorganization (setOf (1 ∷ [])) Idle (there 33)) (Deliver 1 2) ≡ accepted (pair Reorganization (setOf (1 ∷ [])) Idle plain) Plain
+  pub there-group : step (pair Normal (setOf (1 ∷ [])) Idle (there 17)) (Deliver 1 2) ≡ accepted (pair Normal (setOf (1 ∷ [])) Idle denial) Plain
+  pub there-led : step (beside (follower Normal 32 100 (setOf (1 ∷ [])) 2 Idle) (there 32)) (Deliver 1 2)
+      ≡ accepted (beside (follower Normal 32 100 (setOf (1 ∷ [])) 2 Idle) denial) Plain
+  pub there-no-member : step (pair Normal none Idle (there 33)) (Deliver 1 2) ≡ accepted (pair Normal none Idle denial) Plain
+  -- "3: .. it forwards the invitation to each member": node 3, which leads node 2, is invited by node 1
+  pub invited-forwards : step (merging (filled Normal 18 3 100 none 9 Idle) formerCoordinator (calls 1 3 3 (callNo 7) (groupNo 32) ∷ [])) (Deliver 1 3)
+      ≡ accepted (merging (filled Normal 18 3 100 none 9 Idle) forwarder (calls 3 3 2 (callNo 5) (groupNo 32) ∷ [])) Plain
+  -- "the new group and its owner as coordinator": node 2's caller is 3 and its coordinator is 1; "then it calls Accept on the new coordinator"
+  pub invited-accepts : step (merging (filled Normal 18 3 100 none 9 Idle) forwarder (calls 3 3 2 (callNo 5) (groupNo 32) ∷ [])) (Deliver 3 2)
+      ≡ accepted (merging (filled Election 32 1 100 none 10 (Accepting 3 (callNo 5))) forwarder (calls 2 4 1 (callNo 10) (groupNo 32) ∷ [])) Plain
+  -- "accepting turns to Reorganization, replies to its caller and is idle": with the number of the caller's call
+  pub accepted-replies : step (merging (filled Election 32 1 100 none 10 (Accepting 3 (callNo 5))) forwarder (replies 1 2 (callNo 10) true ∷ [])) (Deliver 1 2)
+      ≡ accepted (merging (filled Reorganization 32 1 100 none 10 Idle) forwarder (replies 2 3 (callNo 5) true ∷ [])) Plain
+  -- the reply lets node 3 go on: it has forwarded to each member, and accepts in its turn
+  pub forwarded-accepts : step (merging (filled Reorganization 32 1 100 none 10 Idle) forwarder (replies 2 3 (callNo 5) true ∷ [])) (Deliver 2 3)
+      ≡ accepted (merging (filled Reorganization 32 1 100 none 10 Idle) (filled Election 32 1 100 (setOf (2 ∷ [])) 6 (Accepting 1 (callNo 7)))
+      (calls 3 4 1 (callNo 6) (groupNo 32) ∷ [])) Plain
+  -- expire, accepting: "it recovers ..; an invitation's caller then gets no reply"
+  pub accepting-expires : step (beside (follower Election 32 100 (setOf (1 ∷ [])) 2 (Accepting 1 (callNo 3))) []) (Expire 2) ≡ accepted (beside alone []) Recovers
+  -- "Sets are walked from the lowest number up": node 1 forwards to 2, then to 3
+  pub forwards-lowest : step (first (leader Normal 1 Idle) (calls 2 3 1 (callNo 8) (groupNo 33) ∷ [])) (Deliver 2 1)
+      ≡ accepted (first (filled Election 33 2 100 (setOf (2 ∷ 3 ∷ [])) 2 (Forwarding (setOf (3 ∷ [])) 2 2 (callNo 8))) (calls 1 3 2 (callNo 2) (groupNo 33) ∷ [])) Plain
+  -- expire, forwarding: "on to the next", and after the last it accepts
+  pub forwarding-expires : step (first (filled Election 33 2 100 (setOf (2 ∷ 3 ∷ [])) 2 (Forwarding (setOf (3 ∷ [])) 2 2 (callNo 8))) []) (Expire 1)
+      ≡ accepted (first (filled Election 33 2 100 (setOf (2 ∷ 3 ∷ [])) 3 (Forwarding none 3 2 (callNo 8))) (calls 1 3 3 (callNo 3) (groupNo 33) ∷ [])) Plain
+  pub forwarding-ends : step (first (filled Election 33 2 100 (setOf (2 ∷ 3 ∷ [])) 3 (Forwarding none 3 2 (callNo 8))) []) (Expire 1)
+      ≡ accepted (first (filled Election 33 2 100 (setOf (2 ∷ 3 ∷ [])) 4 (Accepting 2 (callNo 8))) (calls 1 4 2 (callNo 4) (groupNo 33) ∷ [])) Plain
+  -- "It hands Ready to each member": to 2 first (then to 3: WrongTurnings.ready-on); "after the last .. Normal and idle"
+  pub hands-lowest : step (first (leader Election 1 Collecting) []) (Finish 1 (taskNo 200))
+      ≡ accepted (first (filled Reorganization 16 1 200 (setOf (2 ∷ 3 ∷ [])) 2 (Handing (setOf (3 ∷ [])) 2)) (readies 1 2 (callNo 2) (groupNo 16) (taskNo 200) ∷ [])) Plain
+  pub hands-last : step (first (leader Reorganization 2 (Handing none 3)) (replies 3 1 (callNo 2) true ∷ [])) (Deliver 3 1) ≡ accepted (first (leader Normal 2 Idle) []) Plain
+  -- "it goes on": inviting, handing, forwarding and accepting do so by a no too
+  pub invite-no : step (first (filled Election 16 1 1 none 4 (Inviting none (setOf (3 ∷ [])) 2)) (replies 2 1 (callNo 4) false ∷ [])) (Deliver 2 1)
+      ≡ accepted (first (filled Election 16 1 1 none 5 (Inviting none none 3)) (calls 1 3 3 (callNo 5) (groupNo 16) ∷ [])) Plain
+  pub hand-no : step (first (leader Reorganization 2 (Handing none 3)) (replies 3 1 (callNo 2) false ∷ [])) (Deliver 3 1) ≡ accepted (first (leader Normal 2 Idle) []) Plain
+  pub forward-no : step (first (filled Election 33 2 100 (setOf (2 ∷ 3 ∷ [])) 3 (Forwarding none 3 2 (callNo 8))) (replies 3 1 (callNo 3) false ∷ [])) (Deliver 3 1)
+      ≡ accepted (first (filled Election 33 2 100 (setOf (2 ∷ 3 ∷ [])) 4 (Accepting 2 (callNo 8))) (calls 1 4 2 (callNo 4) (groupNo 33) ∷ [])) Plain
+  pub accept-no : step (merging (filled Election 32 1 100 none 10 (Accepting 3 (callNo 5))) forwarder (replies 1 2 (callNo 10) false ∷ [])) (Deliver 1 2)
+      ≡ accepted (merging (filled Reorganization 32 1 100 none 10 Idle) forwarder (replies 2 3 (callNo 5) true ∷ [])) Plain
+  -- "5: if in Reorganization ..": a Normal node only replies; the activity is kept
+  pub ready-normal : step (beside (follower Normal 32 100 none 2 Idle) (ready 32 200)) (Deliver 1 2) ≡ accepted (beside (follower Normal 32 100 none 2 Idle) plain) Plain
+  pub ready-busy : step (beside (follower Reorganization 32 100 none 2 Contacting) (ready 32 200)) (Deliver 1 2)
+      ≡ accepted (beside (follower Normal 32 200 none 2 Contacting) plain) Plain
+  -- 1 "not in range", before 7: a coordinator that does not own the group; a message of group 0; 65 waiting; no node
+  pub range-node : step (beside (follower Normal 33 100 none 2 Idle) []) (Crash 9) ≡ refused 1
+  pub range-message : step (pair Normal none Idle (invitation 0)) (Crash 9) ≡ refused 1
+  pub range-queue : step (pair Normal none Idle (queued 65)) (Crash 9) ≡ refused 1
+  pub range-count : step (start 0) (Crash 9) ≡ refused 1
+  pub range-kept : step (pair Normal none Idle (queued 64)) (Crash 9) ≡ refused 7
+  -- 7 "cabinet outside 1 to n, or sender equals receiver"
+  pub number-none : step (pair Normal none Idle []) (Crash 0) ≡ refused 7
+  pub number-same : step (pair Normal none Idle []) (Deliver 2 2) ≡ refused 7
+  pub number-same-lost : step (pair Normal none Idle []) (Lose 2 2) ≡ refused 7
+  pub number-sender : step (pair Normal none Idle []) (Deliver 3 2) ≡ refused 7
+  pub number-receiver : step (pair Normal none Idle []) (Lose 2 3) ≡ refused 7
+  -- 9 "all others but lose: cabinet (for deliver, the receiver) Down", before 10 and 11
+  pub down-crash : step (start 2) (Crash 1) ≡ refused 9
+  pub down-check : step (start 2) (Check 1) ≡ refused 9
+  pub down-timeout : step (start 2) (Timeout 1) ≡ refused 9
+  pub down-tick : step (start 2) (Tick 1) ≡ refused 9
+  pub down-expire : step (start 2) (Expire 1) ≡ refused 9
+  pub down-deliver : step (pair Down none Idle question) (Deliver 1 2) ≡ refused 9
+  pub down-none-waits : step (pair Down none Idle []) (Deliver 1 2) ≡ refused 9
+  -- 10 "check, timeout: not idle; tick: not waiting; expire: no open call"
+  pub activity-check : step (pair Normal none (Waiting 1 (setOf (1 ∷ []))) []) (Check 2) ≡ refused 10
+  pub activity-timeout : step (beside (follower Normal 32 100 none 2 Contacting) []) (Timeout 2) ≡ refused 10
+  pub activity-tick : step (pair Normal none (Asking 1 none) []) (Tick 2) ≡ refused 10
+  pub activity-expire : step (pair Normal none (Waiting 1 (setOf (1 ∷ []))) []) (Expire 2) ≡ refused 10
+  pub activity-collecting : step (pair Election none Collecting []) (Expire 2) ≡ refused 10
+  -- 11 "deliver, lose: no message from a to b": the one that waits goes the other way
+  pub none-to-deliver : step (pair Normal none Idle plain) (Deliver 1 2) ≡ refused 11
+  pub none-to-lose : step (pair Normal none Idle plain) (Lose 1 2) ≡ refused 11
+  -- 13 "a call is needed, last call number 16,777,215": one less passes, and a reply needs no call
+  pub calls-end : step (beside (filled Normal 17 2 2 none 16777215 Idle) []) (Check 2) ≡ refused 13
+  pub calls-last : step (beside (filled Normal 17 2 2 none 16777214 Idle) []) (Check 2)
+      ≡ accepted (beside (filled Normal 17 2 2 none 16777215 (Asking 1 none)) (asks 2 1 (callNo 16777215) ∷ [])) Plain
+  pub calls-reply : step (beside (filled Normal 17 2 2 none 16777215 Idle) question) (Deliver 1 2) ≡ accepted (beside (filled Normal 17 2 2 none 16777215 Idle) plain) Plain
+  -- the merge at the last tick needs a group, a call and a message: 12 before 13 before 14
+  pub ends-twelve : step (ending 1048575 16777215 (queued 64)) (Tick 2) ≡ refused 12
+  pub ends-thirteen : step (ending 1048574 16777215 (queued 64)) (Tick 2) ≡ refused 13
+  pub ends-fourteen : step (ending 1048574 16777214 (queued 64)) (Tick 2) ≡ refused 14
+  pub ends-pass : step (ending 1048574 16777214 (queued 63)) (Tick 2)
+      ≡ accepted (beside (record {
+        status = Election;
+        counter = 1048575;
+        group = groupNo 16777201;
+        coordinator = 2;
+        task = taskNo 2;
+        members = none;
+        last = callNo 16777215;
+        activity = Inviting none none 1;
+      }) (queued 63 ++ (calls 2 3 1 (callNo 16777215) (groupNo 16777201) ∷ []))) Merges

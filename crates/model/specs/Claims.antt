@@ -6,8 +6,9 @@ use mathlib.Core.Logic.{_⊎_}
 use mathlib.Core.List.{List, [], _∷_, _++_}
 use lib.ListN.{length}
 use Rattle.model.specs.Limits.{nodeLimit}
+use Rattle.model.specs.Range.{carriesGroup}
 use Rattle.model.specs.State.{State, start, nodeAt, goes, waits, oldest, inRange}
-use Rattle.model.specs.Step.{actor, reactionTo, remaining, sent, forms, Result, refused, accepted, step, after, run}
+use Rattle.model.specs.Step.{actor, reactionTo, remaining, sent, forms, Ground, ground, grounds, Result, refused, accepted, step, after, run}
 use Rattle.model.specs.History.{Entry, NotFormed, NoTask, Task, History, newest, coming, history}
 use Rattle.model.specs.Answers.{resultNumber}
 use Rattle.model.specs.declared.Status.{Status}
@@ -39,14 +40,24 @@ pub record Lacks (s : State) (g : ℕ) : Type 0 where
   pub in-nodes : (j : ℕ) → 1 ≤ j → j ≤ s .n → nodeAt s j .group .number ≡ g → ⊥
   pub in-messages : Unsent g (s .queue)
 
+-- P holds of the group of each message that carries one
+abbrev pub EachGroup : (ℕ → Type 0) → List Message → Type 0
+EachGroup P [] = Unit {0}
+EachGroup P (m ∷ ms) = (carriesGroup (m .kind) ≡ true → P (m .group .number)) × EachGroup P ms
+
 -- Demand 3 ("What a run fixes", and the agreement of groups that it is for), of every list of events from the starting table of n nodes. `es` is a beginning
 -- of the list, `fs` what comes next, and `e` an event after them that is accepted with the mark k and leaves the table u.
 pub record RunFixes (n : ℕ) : Type 0 where
-  -- two nodes in Reorganization or Normal with the same group have the same coordinator
+  -- two nodes in Reorganization or Normal with the same group have the same coordinator (002, Assertion 3 a)
   pub same-coordinator : (es : List Event) (i j : ℕ) → 1 ≤ i → i ≤ n → 1 ≤ j → j ≤ n
       → isActive (nodeAt (run n es) i .status) ≡ true → isActive (nodeAt (run n es) j .status) ≡ true
       → nodeAt (run n es) i .group .number ≡ nodeAt (run n es) j .group .number
       → nodeAt (run n es) i .coordinator ≡ nodeAt (run n es) j .coordinator
+  -- and two Normal ones the same task (002, Assertion 3 b)
+  pub same-task : (es : List Event) (i j : ℕ) → 1 ≤ i → i ≤ n → 1 ≤ j → j ≤ n
+      → nodeAt (run n es) i .status ≡ Normal → nodeAt (run n es) j .status ≡ Normal
+      → nodeAt (run n es) i .group .number ≡ nodeAt (run n es) j .group .number
+      → nodeAt (run n es) i .task .number ≡ nodeAt (run n es) j .task .number
   -- "The book's task is the one the list fixed": a Normal node's task, in any table of the run, is the task that the whole list's history has for its group
   pub fixed-task : (es fs : List Event) (i : ℕ) → 1 ≤ i → i ≤ n → nodeAt (run n es) i .status ≡ Normal
       → history n (es ++ fs) .entry (nodeAt (run n es) i .group .number) ≡ Task (nodeAt (run n es) i .task .number)
@@ -59,6 +70,9 @@ pub record RunFixes (n : ℕ) : Type 0 where
   -- and no other group is new: where no group is formed, the table before held each node's group, in a node or a message
   pub borrowed : (es : List Event) (e : Event) (u : State) (k : Mark) → step (run n es) e ≡ accepted u k → forms k ≡ false
       → (j : ℕ) → 1 ≤ j → j ≤ n → Lacks (run n es) (nodeAt u j .group .number) → ⊥
+  -- and where a message carries a group that the table before did not hold, it is the one that the event forms
+  pub borrowed-messages : (es : List Event) (e : Event) (u : State) (k : Mark) → step (run n es) e ≡ accepted u k
+      → EachGroup (λ g. Lacks (run n es) g → (forms k ≡ true) × (g ≡ coming (history n es) (actor e))) (u .queue)
   -- "no group ever gets a second task": a group that is formed was not formed before, and a group that gets its task by a finish has none
   pub formed-once : (es : List Event) (e : Event) (u : State) (k : Mark) → step (run n es) e ≡ accepted u k → forms k ≡ true
       → history n es .entry (coming (history n es) (actor e)) ≡ NotFormed
@@ -70,7 +84,7 @@ pub record RunFixes (n : ℕ) : Type 0 where
   -- and a task once given stays
   pub lasts : (es fs : List Event) (g t : ℕ) → history n es .entry g ≡ Task t → history n (es ++ fs) .entry g ≡ Task t
 
--- ── demand 3 without the history: where in the list a task comes from ──
+-- ── demand 3 by the list itself: where in it a task comes from ──
 
 -- after the events es, e is a recovery that forms the group g, and t is the solo task
 pub record Recovering (n : ℕ) (es : List Event) (e : Event) (g t : ℕ) : Type 0 where
@@ -101,6 +115,9 @@ pub record TaskFromList (n : ℕ) : Type 0 where
   -- a Normal node's task is the solo task of a recovery in the list that formed its group, or else the task of an accepted finish in the list for that group
   pub task : (es : List Event) (i : ℕ) → 1 ≤ i → i ≤ n → nodeAt (run n es) i .status ≡ Normal
       → Fixes n es (nodeAt (run n es) i .group .number) (nodeAt (run n es) i .task .number)
+  -- the history's tasks are those that an event of the list fixes, and no other
+  pub entry-fixed : (es : List Event) (g t : ℕ) → history n es .entry g ≡ Task t → Fixes n es g t
+  pub fixed-entry : (es : List Event) (g t : ℕ) → Fixes n es g t → history n es .entry g ≡ Task t
   -- and there is one such event only
   pub one : (es : List Event) (g t u : ℕ) (a : Fixes n es g t) (b : Fixes n es g u) → a .before ≡ b .before
   pub same : (es : List Event) (g t u : ℕ) → Fixes n es g t → Fixes n es g u → t ≡ u
@@ -124,7 +141,25 @@ pub record Accepts (s : State) (e : Event) : Type 0 where
   pub mark : Mark
   pub is : step s e ≡ accepted state mark
 
+-- no ground of the list applies
+abbrev pub NoneApplies : List Ground → Type 0
+NoneApplies [] = Unit {0}
+NoneApplies (g ∷ gs) = (g .applies ≡ false) × NoneApplies gs
+
+-- the ground of number r applies, and none before it in the list does
+pub record FirstApplies (gs : List Ground) (r : ℕ) : Type 0 where
+  pub before : List Ground
+  pub behind : List Ground
+  pub whole : gs ≡ before ++ (ground r true ∷ behind)
+  pub none-before : NoneApplies before
+
 pub record RefusesByGround : Type 0 where
+  -- "the first that applies is given, and none without its ground", over the table of grounds: a refusal's number is that of the first ground that applies
+  pub first : (s : State) (e : Event) (r : ℕ) → step s e ≡ refused r → FirstApplies (grounds s e) r
+  pub first-given : (s : State) (e : Event) (r : ℕ) → FirstApplies (grounds s e) r → step s e ≡ refused r
+  -- and an event is accepted exactly where none applies
+  pub none : (s : State) (e : Event) (u : State) (k : Mark) → step s e ≡ accepted u k → NoneApplies (grounds s e)
+  pub none-accepts : (s : State) (e : Event) → NoneApplies (grounds s e) → Accepts s e
   -- a refusal's number is that of a ground of events: 1, or 7 to 14
   pub numbers : (s : State) (e : Event) (r : ℕ) → step s e ≡ refused r → (r ≡ 1) ⊎ ((7 ≤ r) × (r ≤ 14))
   -- so none has number 0, and a result of number 0 is an accepted event

@@ -76,7 +76,8 @@ nodeInRange n i c =
 abbrev pub carriesGroup : ℕ → Bool
 carriesGroup k = leb 2 k && leb k 5
 
--- a message: "a sender, a receiver (another cabinet), a kind and a call number"; "message groups aren't 0"; "Ready tasks are 100 to 65,535"
+-- a message: "a sender, a receiver (another cabinet), a kind and a call number"; "message groups aren't 0"; "Ready tasks are 100 to 65,535". The group of
+-- kinds 1 and 6, the task of all kinds but 5, and yes or no in all but 6 are free.
 unfoldable pub messageInRange : ℕ → Message → Bool
 messageInRange n m =
     isNode n (m .sender)

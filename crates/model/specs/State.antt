@@ -40,7 +40,7 @@ start n = record { n = n; nodes = replicate n startingNode; queue = [] }
 abbrev pub wrongCount : ℕ → Bool
 wrongCount n = not (leb 1 n && leb n nodeLimit)
 
--- the record of node i, where i is 1 to n
+-- the record of node i, where i is 1 to n; place 0 reads node 1's record, as the numbers start at 1
 abbrev pub nodeAt : State → ℕ → Node
 nodeAt s i = getD (s .nodes) (i - 1) startingNode
 
@@ -106,3 +106,12 @@ firstOf (suc k) d (x ∷ l) = x ∷ firstOf k d l
 -- records or places, n or the number of waiting messages is out of range.
 abbrev pub view : Table → State
 view t = record { n = t .n; nodes = firstOf (t .n) startingNode (t .nodes); queue = firstOf (t .waiting) noMessage (t .messages) }
+
+-- The table of a state. Nothing of it is free: past its n records stands the starting record, and past its waiting messages none.
+abbrev pub tableOf : State → Table
+tableOf s = record {
+  n = s .n;
+  nodes = firstOf nodeLimit startingNode (s .nodes);
+  messages = firstOf queueLimit noMessage (s .queue);
+  waiting = length (s .queue);
+}

@@ -1,5 +1,5 @@
 // The types of the election machine. What they mean, and every rule over them, is in specs/.
-// This crate has no functions: `machine` holds the code.
+// This crate has no functions: `node_step` and `machine` hold the code.
 
 // "group number = counter × 16 + (owner − 1), or 0 for none"
 pub struct GroupNo {

@@ -7,7 +7,7 @@ use native.Mathlib.Nat.{lt-of-le-of-lt, lt-of-lt-of-le, lt-of-not-le, mod-lt, mi
 use native.Mathlib.Omega.{arith}
 use lib.Dec.{eqb, lit<}
 use lib.Pow.{pow-pos, pow-lt, pow-mono, ones-lt}
-use lib.Bits.{bitAnd, bitOr, and-le-l, and-zero-r, and-step, and-mask, or-zero-r, or-lt, or-shr, or-mod, and-shr, and-mod}
+use lib.Bits.{bitAnd, bitOr, and-le-l, and-zero-r, and-step, and-mask, and-high, or-disjoint, or-zero-r, or-lt, or-shr, or-mod, and-shr, and-mod}
 use lib.Count.{ones, trailingZeros, under, ones-le, ones-step, ones-ones, leading-of-zero, leading-top, leading-length, trailing-of-zero}
 use borrow.Author.Tests.{eqb-false, eqb-true, eq-eqb, ne-eqb, ltb-true, lt-ltb}
 use Rattle.node_set.specs.NodeSet.{bitOf, has, with, without, lowest, highest, count, upTo, within}
@@ -297,6 +297,19 @@ without-less s i e =
 pub without-lowest-less : (s : ℕ) → 0 < s → s < 2 ^ 16 → without s (lowest s) < s
 without-lowest-less s p q = without-less s (lowest s) (has-lowest s p q)
 
+-- ---- the mask as a number
+
+-- one digit alone
+and-digit : (s k : ℕ) → bitAnd s (2 ^ k) ≡ digit s k * 2 ^ k
+and-digit s k =
+    let q : 1 + k ≡ suc k = omega arith in
+    let p : 2 ^ (1 + k) - 2 ^ k ≡ 2 ^ k = rw q (omega (arith, pow-suc 2 k)) in
+    ap (bitAnd s) (sym p) ∙ and-high s 1 k
+
+-- with a node that was not in it, a set is more by the node's bit
+pub with-adds : (s i : ℕ) → has s i ≡ false → with s i ≡ s + 2 ^ (i - 1)
+with-adds s i e = or-disjoint s (bitOf i) (and-digit s (i - 1) ∙ ap (λ (d : ℕ). d * 2 ^ (i - 1)) (no-digit s i e) ∙ omega arith)
+
 -- ---- the count
 
 -- a set within n has at most n nodes
@@ -368,9 +381,11 @@ set-laws n h =
       with-within = with-within n;
       with-has = with-has;
       with-others = with-others;
+      with-adds = λ s i l u. with-adds s i;
       without-within = without-within n;
       without-lacks = without-self;
       without-others = λ s i j. without-others n s i j h;
+      lowest-node = λ s p. omega arith;
       lowest-has = λ s w p. has-lowest s p (within-word n s h w);
       lowest-least = lowest-least;
       lowest-none = ap (_+ 1) (trailing-of-zero 16);

@@ -1,6 +1,6 @@
--- What is claimed of sets of nodes, for every number of nodes n at once: s and t are any sets of nodes of 1 to n, and i and j any of these nodes, where nothing
--- else is said. The proofs are in proofs/.
-use Prim.Native.Nat.{ℕ, _+_, _^_, _≤_, _<_}
+-- What is claimed of sets of nodes, for every number of nodes n up to 16 at once: s and t are any sets of nodes of 1 to n, and i and j any of these nodes,
+-- where nothing else is said. The proofs are in proofs/.
+use Prim.Native.Nat.{ℕ, _+_, _-_, _^_, _≤_, _<_}
 use mathlib.Core.Bool.{true, false}
 use mathlib.Core.Path.{_≡_}
 use Rattle.node_set.specs.NodeSet.{has, with, without, lowest, highest, count, upTo, within}
@@ -21,11 +21,14 @@ pub record SetLaws (n : ℕ) : Type 0 where
   pub with-within : (s i : ℕ) → within n s ≡ true → 1 ≤ i → i ≤ n → within n (with s i) ≡ true
   pub with-has : (s i : ℕ) → has (with s i) i ≡ true
   pub with-others : (s i j : ℕ) → 1 ≤ i → 1 ≤ j → (j ≡ i → ⊥) → has (with s i) j ≡ has s j
+  -- node i is bit i - 1 of the mask
+  pub with-adds : (s i : ℕ) → 1 ≤ i → i ≤ n → has s i ≡ false → with s i ≡ s + 2 ^ (i - 1)
   -- s but for node i: it lacks i, and has all others that s has
   pub without-within : (s i : ℕ) → within n s ≡ true → within n (without s i) ≡ true
   pub without-lacks : (s i : ℕ) → has (without s i) i ≡ false
   pub without-others : (s i j : ℕ) → within n s ≡ true → 1 ≤ i → i ≤ n → 1 ≤ j → (j ≡ i → ⊥) → has (without s i) j ≡ has s j
-  -- the lowest of a set that is not empty is in it, and no node of the set is below it
+  -- the lowest of a set that is not empty is a node in it, and no node of the set is below it
+  pub lowest-node : (s : ℕ) → 0 < s → 1 ≤ lowest s
   pub lowest-has : (s : ℕ) → within n s ≡ true → 0 < s → has s (lowest s) ≡ true
   pub lowest-least : (s j : ℕ) → 1 ≤ j → has s j ≡ true → lowest s ≤ j
   pub lowest-none : lowest 0 ≡ 17

@@ -9,7 +9,7 @@ use lib.Count.{trailingZeros, leadingZeros, ones}
 abbrev pub bitOf : ℕ → ℕ
 bitOf i = 2 ^ (i - 1)
 
--- node i is in s
+-- node i is in s. Nodes are numbered from 1 up: `has s 0` is the same as `has s 1`.
 abbrev pub has : ℕ → ℕ → Bool
 has s i = eqb (s / 2 ^ (i - 1) % 2) 1
 
