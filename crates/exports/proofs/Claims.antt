@@ -7,14 +7,10 @@ use mathlib.Core.List.{List, [], _∷_, _++_}
 use lib.Dec.{eqb, ltb}
 use lib.ListN.{length, take, drop, length-append}
 use lib.Seq.{take-append-le, drop-at}
-use borrow.Author.Needs.{needs}
 use borrow.Author.Tests.{lt-leb, lt-ltb, le-ltb, ltb-true, ltb-false, ne-eqb}
 use Rattle.model.specs.Pick.{pick, pick-true, pick-false, by-test}
-use Rattle.model.specs.State.{State, noMessage, startingNode, inRange}
-use Rattle.model.specs.Step.{Ground, grounds, Result, refused, accepted, judged, step}
-use Rattle.model.specs.Answers.{resultNumber}
-use Rattle.model.specs.declared.Event.{Event}
-use Rattle.model.specs.declared.Mark.{Mark}
+use Rattle.model.specs.State.{State, noMessage, startingNode, inRange, tableOf}
+use Rattle.model.proofs.Refusals.{result-small}
 use Rattle.machine.proofs.Laws.{first-length}
 use Rattle.event_list.specs.Format.{twoBytes, stopNumber, lengthOf, cutShort, checked, nextAt}
 use Rattle.event_list.specs.declared.Stop.{Stop}
@@ -23,23 +19,10 @@ use Rattle.event_list.specs.declared.Next.{Next}
 use Rattle.event_list.specs.declared.Next.the-variants.{Done, Stopped, Got}
 use Rattle.table_bytes.specs.Bytes.{size, encoded}
 use Rattle.table_bytes.proofs.RoundTrip.{encoded-size}
-use Rattle.exports.specs.Boundary.{stateOf, tableOf, stateBytes, fieldNumber, fieldAfter, stepNumber, stepBytes}
+use Rattle.exports.specs.Boundary.{stateOf, stateBytes, fieldNumber, fieldAfter, stepNumber, stepBytes}
 use Rattle.exports.specs.Claims.{StepClaims}
 
 -- ── no number of a refusal is 255 ──
-
-abbrev Small : List Ground → Type 0
-Small [] = Unit {0}
-Small (g ∷ gs) = (g .number ≤ 14) × Small gs
-
-judged-small : (u : State) (k : Mark) (gs : List Ground) → Small gs → resultNumber (judged (accepted u k) gs) ≤ 14
-unfolding judged
-judged-small u k [] h = omega arith
-judged-small u k (g ∷ gs) h = by-test (λ (r : Result). resultNumber r ≤ 14) (λ q. h .0) (λ q. judged-small u k gs (h .1))
-
-step-small : (s : State) (e : Event) → resultNumber (step s e) ≤ 14
-unfolding step grounds
-step-small s e = judged-small _ _ _ (search needs)
 
 field-small : (s : State) (x : Next) → fieldNumber s x ≤ 14
 field-small s Done = omega arith
@@ -48,7 +31,7 @@ field-small s (Stopped CutShort) = omega arith
 field-small s (Stopped WrongTag) = omega arith
 field-small s (Stopped WrongLength) = omega arith
 field-small s (Stopped WrongCount) = omega arith
-field-small s (Got e next) = step-small s e
+field-small s (Got e next) = result-small s e
 
 -- ── a field that is no event ──
 

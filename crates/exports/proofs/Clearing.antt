@@ -6,10 +6,9 @@ use mathlib.Core.Path.{_≡_, refl, sym, _∙_, ap}
 use mathlib.Core.List.{List, [], _∷_, _++_, append-assoc, append-nil}
 use lib.ListN.{length, take, set, replicate}
 use lib.Seq.{take-suc-set, take-all}
-use Rattle.model.specs.State.{startingNode, noMessage, firstOf, view}
+use Rattle.model.specs.State.{startingNode, noMessage, firstOf, view, tableOf}
 use Rattle.model.specs.declared.Table.{Table}
 use Rattle.machine.proofs.Laws.{Sized, first-length}
-use Rattle.exports.specs.Boundary.{tableOf}
 
 module _ {A : Type 0} (d : A) where
   -- l, of length k, with d from i on

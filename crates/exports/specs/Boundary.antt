@@ -6,12 +6,10 @@ use Prim.Native.Nat.{ℕ, _+_}
 use lib.Dec.{eqb, ltb}
 use lib.ListN.{length, drop}
 use Rattle.model.specs.Pick.{pick}
-use Rattle.model.specs.Limits.{nodeLimit, queueLimit}
-use Rattle.model.specs.State.{State, start, startingNode, noMessage, firstOf, inRange, view}
+use Rattle.model.specs.State.{State, start, inRange, view, tableOf}
 use Rattle.model.specs.Step.{step, after}
 use Rattle.model.specs.Answers.{resultNumber}
 use Rattle.model.specs.declared.Event.{Event}
-use Rattle.model.specs.declared.Table.{Table}
 use Rattle.event_list.specs.Format.{Reading, Listed, failed, begun, reading, stopNumber, nextAt}
 use Rattle.event_list.specs.declared.Stop.the-variants.{CutShort}
 use Rattle.event_list.specs.declared.Next.{Next}
@@ -24,16 +22,7 @@ use Rattle.table_bytes.specs.Bytes.{decoded, size, encoded}
 abbrev pub stateOf : List ℕ → State
 stateOf t = view (decoded t)
 
--- the code's table of a state. Nothing of it is free: past its n records stands the starting record, and past its waiting messages none
-abbrev pub tableOf : State → Table
-tableOf s = record {
-  n = s .n;
-  nodes = firstOf nodeLimit startingNode (s .nodes);
-  messages = firstOf queueLimit noMessage (s .queue);
-  waiting = length (s .queue);
-}
-
--- and its bytes
+-- the bytes of a state: of its table, in which nothing is free
 abbrev pub stateBytes : State → List ℕ
 stateBytes s = encoded (tableOf s)
 

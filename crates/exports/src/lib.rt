@@ -17,9 +17,9 @@ use model::TaskNo;
 ghost use mathlib.Core.Path.{_≡_};
 ghost use Prim.Native.Nat.{_≤_};
 ghost use lib.ListN.{length};
-ghost use Rattle.model.specs.State.{startingNode, noMessage, firstOf, view};
+ghost use Rattle.model.specs.State.{startingNode, noMessage, firstOf, view, tableOf};
 ghost use Rattle.event_list.specs.Format.{rest};
-ghost use Rattle.exports.specs.Boundary.{tableOf, StepExported, plusAccepted, acceptedFrom, acceptedIn};
+ghost use Rattle.exports.specs.Boundary.{StepExported, plusAccepted, acceptedFrom, acceptedIn};
 ghost use Rattle.exports.specs.Parts.{Answered};
 
 // The record and the message that stand in places which are no part of a table.

@@ -110,3 +110,11 @@ none-accepts s e c = record { state = _; mark = _; is = judged-none _ (grounds s
 
 pub refuses-by-ground : RefusesByGround
 refuses-by-ground = record { first = first; first-given = first-given; none = none; none-accepts = none-accepts; numbers = numbers; never-zero = never-zero; zero-accepts = zero-accepts; delivery-never-full = delivery-never-full }
+
+-- so the number of a result is small
+pub result-small : (s : State) (e : Event) → resultNumber (step s e) ≤ 14
+result-small s e = by (step s e) refl
+  where
+    by : (x : Result) → step s e ≡ x → resultNumber x ≤ 14
+    by (refused r) q = ⊎-elim (λ h. omega arith) (λ h. h .1) (numbers s e r q)
+    by (accepted u k) q = omega arith

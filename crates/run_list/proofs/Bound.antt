@@ -15,6 +15,7 @@ use Rattle.model.specs.Step.{Ground, grounds, Result, refused, accepted, judged
 use Rattle.model.specs.Answers.{resultNumber}
 use Rattle.model.specs.declared.Event.{Event}
 use Rattle.model.specs.declared.Mark.{Mark}
+use Rattle.model.proofs.Refusals.{result-small}
 use Rattle.model.proofs.Fields.{in-range-size}
 use Rattle.model.proofs.InRange.{stays-in-range}
 use Rattle.event_list.specs.declared.Stop.{Stop}
@@ -33,19 +34,6 @@ use Rattle.run_list.specs.Text.{noteLines, refusedLines, endingLines, ru
 use Rattle.run_list.proofs.Laws.{left, lines-failed, lines-begun}
 
 -- ── numbers of refusals have two digits at most ──
-
-abbrev Small : List Ground → Type 0
-Small [] = Unit {0}
-Small (g ∷ gs) = (g .number ≤ 22) × Small gs
-
-judged-small : (u : State) (k : Mark) (gs : List Ground) → Small gs → resultNumber (judged (accepted u k) gs) ≤ 22
-unfolding judged
-judged-small u k [] h = omega arith
-judged-small u k (g ∷ gs) h = by-test (λ (r : Result). resultNumber r ≤ 22) (λ q. h .0) (λ q. judged-small u k gs (h .1))
-
-pub step-small : (s : State) (v : Event) → resultNumber (step s v) ≤ 22
-unfolding step grounds
-step-small s v = judged-small _ _ _ (search needs)
 
 pub stop-small : (s : Stop) → stopNumber s ≤ 22
 stop-small TooLong = omega arith
@@ -66,7 +54,7 @@ refusals-long : (s : State) (e : ℕ) (vs : List Event) → e + length vs ≤ 65
 unfolding refusedLines joined
 refusals-long s e [] h = omega arith
 refusals-long s e (v ∷ vs) h =
-    let a = note-long e (resultNumber (step s v)) (omega arith) (step-small s v) in
+    let a = note-long e (resultNumber (step s v)) (omega arith) (omega (arith, result-small s v)) in
     let b = refusals-long (after s v) (e + 1) vs (omega arith) in
     rw (joined-append (noteLines e (resultNumber (step s v))) (refusedLines (after s v) (e + 1) vs)) (omega arith)
 

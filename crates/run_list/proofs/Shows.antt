@@ -25,7 +25,8 @@ use Rattle.listing.proofs.Parted.{Each, Stops, each-map, each-append, parted, I
 use Rattle.listing.proofs.Claims.{lines-determine, cabinets-line, refused-line, stopped-line, table-lines, table-same, table-small, node-low}
 use Rattle.run_list.specs.Text.{noteLines, refusedLines, endingLines, runLines, linesOf, textOf}
 use Rattle.run_list.specs.Shows.{Refusal, refusals, SameText, TextDetermines}
-use Rattle.run_list.proofs.Bound.{step-small, stop-small}
+use Rattle.model.proofs.Refusals.{result-small}
+use Rattle.run_list.proofs.Bound.{stop-small}
 use Rattle.run_list.proofs.Behind.{behind}
 
 abbrev Small : ℕ → Type 0
@@ -75,7 +76,7 @@ unfolding refusals
 refusals-small s e [] h = tt
 refusals-small s e (v ∷ vs) h =
     let later = refusals-small (after s v) (e + 1) vs (omega arith) in
-    let small = step-small s v in
+    let small = result-small s v in
     by-test (λ (l : List Refusal). Each SmallRefusal (l ++ refusals (after s v) (e + 1) vs)) (λ t. later) (λ t. ((omega arith, omega arith), later))
 
 same-refusal : (x y : Refusal) → (x .event ≡ y .event) × (x .number ≡ y .number) → x ≡ y
