@@ -169,7 +169,7 @@ no-wrong-turning =
       takes-one = λ {r} x h. h (ap (λ (s : State). nodeAt s 2 .task .number) (x .table) ∙ computed .task);
       active-one = λ {r} x h. true≢false (sym h ∙ ap (λ (s : State). isActive (nodeAt s 2 .status)) (x .table) ∙ ap isActive (computed .status));
       empties-members = λ t i j found a d m {r} x y h.
-          let q = accepted-is (view t) (Tick i) _ _ (accepted-alike x .model-accepts y) in
+          let q = accepted-is (view t) (Tick i) _ _ (accepted-alike .model-accepts x y) in
           true≢false (sym (tick-invites (view t) i j found (q .clear) a d m) ∙ sym (ap (λ (s : State). invites (nodeAt s i .activity) j) (q .state)) ∙ h);
       takes-task = λ t a b k {r} x h. h (ap (λ (s : State). nodeAt s b .task) (x .table) ∙ invitation-task (view t) a b k);
       active-early = λ t a b k {r} x p h.
@@ -210,7 +210,7 @@ module _ (s : State) (i : ℕ) (g : inRange s ≡ true) (low : 1 ≤ i) (high : 
 moves : (t : Table) (e : Event) → step (view t) e ≡ accepted (effect (view t) e) (reactionTo (view t) e .mark) → (effect (view t) e ≡ view t → ⊥) → Moves t e
 moves t e a d =
     record {
-      not-away = λ {r} x h. h (accepted-alike x .code-accepts _ _ a);
+      not-away = λ {r} x h. h (accepted-alike .code-accepts x _ _ a);
       not-same = λ {r} x h. d (sym (ap (kept (view t)) a) ∙ sym (x .table) ∙ h);
     }
 
@@ -280,7 +280,7 @@ no-mutant =
           recovering (startingTable n) i (ap inRange (start-is n) ∙ stays-in-range .starts n (omega arith) h) low high
           (ap (λ (s : State). isDown (nodeAt s i .status)) (start-is n) ∙ ap (λ (c : Node). isDown (c .status)) (start-node n (i - 1)))
           (λ e. let z : _≡_ {A = ℕ} 0 counterEnd = sym (ap (λ (s : State). nodeAt s i .counter) (start-is n) ∙ ap (λ (c : Node). c .counter) (start-node n (i - 1))) ∙ e in omega arith);
-      accepted-still = λ t e {r} m x a h. accepted-differs (view t) e _ _ (accepted-alike x .model-accepts a) m h;
+      accepted-still = λ t e {r} m x a h. accepted-differs (view t) e _ _ (accepted-alike .model-accepts x a) m h;
       crash-moves = crashing;
       recovery-moves = recovering;
       second-moves = λ {r} x.
@@ -293,7 +293,7 @@ no-mutant =
           recovering t i (code-runs .in-range n l h es t c) low (omega (arith, high, ap (λ (s : State). s .n) (code-runs .from-start n es t c) ∙ run-nodes n es));
       accepts-all = λ {r} x h. let z : _≡_ {A = ℕ} 0 9 = sym (ap answerNumber h) ∙ x .answer ∙ computed .away in omega arith;
       delivers-none = λ t a b {r} w x h.
-          true≢false (sym (not-false _ (accepted-is (view t) (Deliver a b) _ _ (accepted-alike x .model-accepts h) .clear .waiting)) ∙ w);
+          true≢false (sym (not-false _ (accepted-is (view t) (Deliver a b) _ _ (accepted-alike .model-accepts x h) .clear .waiting)) ∙ w);
       delivery-full = λ t a b {r} x h. full (view t) a b (step (view t) (Deliver a b)) refl (sym (x .answer) ∙ ap answerNumber h);
       no-cry = λ n e {r} x h. first-small n e (rw (x .answer ∙ ap (λ (s : State). resultNumber (step s e)) (start-is n)) at h);
     }

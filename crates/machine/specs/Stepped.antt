@@ -35,10 +35,11 @@ startNumber WrongCount = 6
 abbrev pub startingTable : ℕ → Table
 startingTable n = record { n = n; nodes = replicate nodeLimit startingNode; messages = replicate queueLimit noMessage; waiting = 0 }
 
--- what a starting table of n nodes is answered with: refusal 6, or none; and the table, which is the same beside a refusal
+-- What `starting` answers for n, and the table that it returns, also where it refuses n.
 pub record Begun (n : ℕ) (r : Start) : Type 0 where
+  -- refusal 6, or none
   pub answer : startNumber (r .answer) ≡ pick (wrongCount n) 6 0
-  -- it is the model's
-  pub table : view (r .table) ≡ start n
-  -- and nothing of it is free
+  -- the table in all its places
   pub exact : r .table ≡ startingTable n
+  -- so it is the model's
+  pub table : view (r .table) ≡ start n

@@ -13,6 +13,7 @@ use Rattle.model.specs.declared.Event.{Event}
 use Rattle.model.specs.declared.Status.{Status}
 use Rattle.model.specs.declared.Status.the-variants.{Normal}
 use Rattle.model.proofs.Whole.{run-fixes}
+use Rattle.model.proofs.Fixed.{task-from-list}
 use Rattle.event_list.specs.declared.First.{First}
 use Rattle.event_list.specs.declared.First.the-variants as First
 use Rattle.event_list.specs.Format.{firstOf, Reading, Listed, failed, begun, listed, reading}
@@ -38,6 +39,7 @@ behind l n r e =
       high = g .1;
       text = rw e;
       fixes = d;
+      from-list = task-from-list n (g .1);
       agree = λ i j h₁ h₂ k₁ k₂ p q s. (
         d .same-coordinator (r .events) i j h₁ h₂ k₁ k₂ (ap isActive p) (ap isActive q) s,
         same d (r .events) i j h₁ h₂ k₁ k₂ p q s,

@@ -5,7 +5,7 @@ use mathlib.Core.List.{List, _∷_}
 use Rattle.model.specs.Limits.{nodeLimit}
 use Rattle.model.specs.State.{start, nodeAt}
 use Rattle.model.specs.Step.{run}
-use Rattle.model.specs.Claims.{RunFixes}
+use Rattle.model.specs.Claims.{RunFixes, TaskFromList}
 use Rattle.model.specs.declared.Status.the-variants.{Normal}
 use Rattle.event_list.specs.Format.{Reading}
 use Rattle.listing.specs.Lines.{cabinetsLine}
@@ -20,6 +20,8 @@ pub record Behind (l : List ℕ) (n : ℕ) (r : Reading) : Type 0 where
   pub text : textOf l ≡ joined (cabinetsLine n ∷ runLines (start n) 1 r)
   -- demand 3 of every list of events with n nodes, so of r's events and each beginning of them
   pub fixes : RunFixes n
+  -- and where in the list each task comes from
+  pub from-list : TaskFromList n
   -- so in the table printed, nodes that are Normal with the same group have the same coordinator and the same task
   pub agree : (i j : ℕ) → 1 ≤ i → i ≤ n → 1 ≤ j → j ≤ n
       → nodeAt (run n (r .events)) i .status ≡ Normal → nodeAt (run n (r .events)) j .status ≡ Normal
