@@ -1,7 +1,7 @@
 -- Two calls after `starting` are a chain, so the table is the model's, and demand 3 holds of it.
 use Prim.Native.Nat.{ℕ}
-use mathlib.Core.Path.{_≡_, _∙_, ap}
-use mathlib.Core.List.{List, [], _∷_}
+use mathlib.Core.Path.{_∙_, ap}
+use mathlib.Core.List.{[], _∷_}
 use Rattle.model.specs.State.{State}
 use Rattle.model.specs.Step.{step}
 use Rattle.model.specs.Answers.{resultNumber}

@@ -1,6 +1,5 @@
 -- What ties the code to demand 3: the tables that the code's step returns, one after another, are those of the model's run.
 use Prim.Native.Nat.{ℕ, _+_, _≤_}
-use native.Mathlib.Omega.{arith}
 use mathlib.Core.Path.{_≡_, refl, sym, _∙_, ap, subst}
 use mathlib.Core.List.{List, [], _++_}
 use mathlib.Core.Bool.{true}
@@ -10,7 +9,7 @@ use Rattle.model.specs.Pick.{pick}
 use Rattle.model.specs.State.{State, nodeAt, inRange, view}
 use Rattle.model.specs.Step.{actor, reactionTo, Result, refused, accepted, step, kept, runFrom, run}
 use Rattle.model.specs.Answers.{answerNumber, resultNumber}
-use Rattle.model.specs.History.{Entry, Task, coming, history}
+use Rattle.model.specs.History.{Task, coming, history}
 use Rattle.model.specs.Claims.{isActive, Lacks, Fixes}
 use Rattle.model.proofs.Judged.{accepted-is}
 use Rattle.model.proofs.Refusals.{refuses-by-ground}
@@ -174,6 +173,10 @@ module _ (chain : Chain) (folds : (t : Table) (es : List Event) (u : Table) → 
 -- of the step by value
 folded : (t : Table) (es : List Event) (u : Table) → Folded t es u → Folded t es u
 folded t es u f = f
+
+-- events led on from a table that events led to
+pub folded-reached : {n : ℕ} {es fs : List Event} {t u : Table} → Reached Folded n es t → Folded t fs u → Reached Folded n (es ++ fs) u
+folded-reached c d = record { first = c .first; begun = c .begun; led = folded-append (c .led) d }
 
 pub code-runs : CodeRuns Folded
 code-runs = chain-runs Folded folded

@@ -1,7 +1,6 @@
 -- What the public functions promise, by the definitions of `model`.
-use Prim.Native.Nat.{ℕ, _≤_}
+use Prim.Native.Nat.{ℕ}
 use mathlib.Core.Path.{_≡_}
-use mathlib.Core.Bool.{Bool, true, false}
 use lib.ListN.{replicate}
 use Rattle.model.specs.Pick.{pick}
 use Rattle.model.specs.Limits.{nodeLimit, queueLimit}
@@ -10,7 +9,6 @@ use Rattle.model.specs.Step.{step, after}
 use Rattle.model.specs.Answers.{answerNumber, resultNumber}
 use Rattle.model.specs.declared.Table.{Table}
 use Rattle.model.specs.declared.Event.{Event}
-use Rattle.model.specs.declared.Answer.{Answer}
 use Rattle.model.specs.declared.Answer.the-variants.{Accepted}
 use Rattle.model.specs.declared.Outcome.{Outcome}
 use Rattle.machine.specs.declared.StartAnswer.{StartAnswer}

@@ -2,21 +2,19 @@
 use Prim.Native.Nat.{ℕ, _≤_}
 use native.Mathlib.Omega.{arith}
 use mathlib.Core.Path.{_≡_, refl, sym, _∙_, ap}
-use mathlib.Core.Bool.{true}
-use mathlib.Core.List.{List, append-nil}
+use mathlib.Core.List.{List}
 use Rattle.model.specs.Limits.{nodeLimit}
 use Rattle.model.specs.State.{nodeAt}
 use Rattle.model.specs.Step.{run}
-use Rattle.model.specs.History.{Entry, Task, history}
+use Rattle.model.specs.History.{Task}
 use Rattle.model.specs.Claims.{isActive, RunFixes}
 use Rattle.model.specs.declared.Event.{Event}
-use Rattle.model.specs.declared.Status.{Status}
 use Rattle.model.specs.declared.Status.the-variants.{Normal}
 use Rattle.model.proofs.Whole.{run-fixes}
 use Rattle.model.proofs.Fixed.{task-from-list}
 use Rattle.event_list.specs.declared.First.{First}
 use Rattle.event_list.specs.declared.First.the-variants as First
-use Rattle.event_list.specs.Format.{firstOf, Reading, Listed, failed, begun, listed, reading}
+use Rattle.event_list.specs.Format.{firstOf, Reading, begun, listed, reading}
 use Rattle.event_list.proofs.Reading.{first-good}
 use Rattle.run_list.specs.Text.{linesOf}
 use Rattle.run_list.specs.Claims.{Behind}
