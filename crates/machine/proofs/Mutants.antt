@@ -10,6 +10,7 @@ use lib.Dec.{eqb}
 use lib.ListN.{length, getD, set, replicate}
 use lib.Seq.{getD-set-same}
 use borrow.Author.Tests.{not-false, le-leb, ne-eqb, eqb-true}
+use Rattle.node_set.specs.NodeSet.{has}
 use Rattle.model.specs.Pick.{pick, by-test}
 use Rattle.model.specs.Limits.{queueLimit, counterEnd, callEnd}
 use Rattle.model.specs.Node.{isDown, isNormal, ownerOf, replies}
@@ -29,6 +30,8 @@ use Rattle.model.specs.declared.Activity.{Activity}
 use Rattle.model.specs.declared.Activity.the-variants.{Idle, Asking, Waiting, Inviting, Collecting, Handing, Contacting, Forwarding, Accepting}
 use Rattle.model.specs.declared.Node.{Node}
 use Rattle.model.specs.declared.Message.{Message}
+use Rattle.model.specs.declared.Mark.{Mark}
+use Rattle.model.specs.declared.Mark.the-variants.{Merges}
 use Rattle.model.specs.declared.Reaction.{Reaction}
 use Rattle.model.specs.declared.Table.{Table}
 use Rattle.model.specs.declared.Event.{Event}
@@ -38,7 +41,7 @@ use Rattle.model.specs.declared.Answer.the-variants.{Accepted}
 use Rattle.machine.specs.Stepped.{Stepped, startingTable}
 use Rattle.machine.specs.Mutants.{tableOf, mergingTable, handingTable, invitedTable, askingTable, invites, recoversAtExpire, Moves, NoMutant, NoWrongTurning}
 use Rattle.machine.proofs.Laws.{start-is}
-use Rattle.machine.proofs.Runs.{accepted-alike, code-runs, code-fixes, folded-reached}
+use Rattle.machine.proofs.Runs.{run-nodes, accepted-alike, code-runs, code-fixes, folded-reached}
 use Rattle.machine.proofs.Still.{own-record, accepted-differs, reply-taken}
 use Rattle.machine.proofs.Invites.{event-invites}
 
@@ -156,6 +159,18 @@ reply-dropped s a b k d =
     by-step (λ (q : Result). nodeAt (kept s q) b ≡ nodeAt s b) s (Deliver a b) (λ x. refl)
     (λ c. stored s b _ (λ (x : Node). x) (kind-six (s .n) b (nodeAt s b) _ k d))
 
+-- "at none it merges"
+invite-marks : (i : ℕ) (c : Node) (k : Mark) (f o : ℕ) → inviteNext i c k f o .mark ≡ k
+unfolding inviteNext
+invite-marks i c k f o = by-test P (λ _. refl) (λ _. by-test P (λ _. refl) (λ _. refl))
+  where
+    P : Reaction → Type 0
+    P r = r .mark ≡ k
+
+tick-merges : (s : State) (i found : ℕ) → nodeAt s i .activity ≡ Waiting 1 found → reactionTo s (Tick i) .mark ≡ Merges
+unfolding reactionTo react ticked merges pick
+tick-merges s i found a = ap (λ (x : Activity). ticked i (nodeAt s i) x .mark) a ∙ invite-marks i _ Merges found (nodeAt s i .members)
+
 -- what a reply makes of node b, by its call number and its yes or no alone
 reply-makes : (n b : ℕ) (c : Node) (m k : Message) → m .kind ≡ 6 → k .kind ≡ 6 → m .call .number ≡ k .call .number → m .yes ≡ k .yes → received n b c m ≡ received n b c k
 unfolding received onReply pick
@@ -183,9 +198,8 @@ no-wrong-turning =
       empties-one = λ {r} x h. true≢false (sym (computed .members) ∙ sym (ap (λ (s : State). invites (nodeAt s 1 .activity) 2) (x .table)) ∙ h);
       takes-one = λ {r} x h. h (ap (λ (s : State). nodeAt s 2 .task .number) (x .table) ∙ computed .task);
       active-one = λ {r} x h. true≢false (sym h ∙ ap (λ (s : State). isActive (nodeAt s 2 .status)) (x .table) ∙ ap isActive (computed .status));
-      empties-members = λ t e j k l m {r} x y h.
-          let q = accepted-is (view t) e _ _ (accepted-alike .model-accepts x y) in
-          true≢false (sym (event-invites (view t) e (q .clear) .members k j l m) ∙ sym (ap (λ (c : Node). invites (c .activity) j) (accepted-record t e x y)) ∙ h);
+      empties-members = empties;
+      empties-last-tick = λ t i j found a l m. empties t (Tick i) j (tick-merges (view t) i found a) l m;
       takes-task = λ t a b k {r} x h. h (ap (λ (s : State). nodeAt s b .task) (x .table) ∙ invitation-task (view t) a b k);
       active-early = λ t a b k {r} x p h.
           h (ap (λ (s : State). nodeAt s b) (x .table) ∙ invitation-active (view t) a b k (sym (ap (λ (s : State). isActive (nodeAt s b .status)) (x .table)) ∙ p));
@@ -204,6 +218,12 @@ no-wrong-turning =
           ∙ sym (delivered-record u d b x′ y′));
       other-one = λ {r} x h. asked-apart (sym (computed .other) ∙ sym (ap (λ (s : State). nodeAt s 1 .activity) (x .table)) ∙ h);
     }
+  where
+    empties : (t : Table) (e : Event) (j : ℕ) → reactionTo (view t) e .mark ≡ Merges → 1 ≤ j → has (nodeAt (view t) (actor e) .members) j ≡ true
+        → {r : Outcome} → Stepped t e r → r .answer ≡ Accepted → invites (nodeAt (view (r .table)) (actor e) .activity) j ≡ false → ⊥
+    empties t e j k l m {r} x y h =
+        let q = accepted-is (view t) e _ _ (accepted-alike .model-accepts x y) in
+        true≢false (sym (event-invites (view t) e (q .clear) .members k j l m) ∙ sym (ap (λ (c : Node). invites (c .activity) j) (accepted-record t e x y)) ∙ h)
 
 -- ── crash and recovery, in every table in range ──
 
@@ -283,15 +303,6 @@ first-small n e =
     -- a ground at an end of a range does not apply where the number is 0
     end : (a : Bool) (x y : ℕ) → (a && eqb x y) ≡ true → x ≡ 0 → 1 ≤ y → ⊥
     end a x y q z h = let v = eqb-true x y (both-right a (eqb x y) q) in omega arith
-
--- a run keeps the number of nodes
-run-keeps : (s : State) (es : List Event) → runFrom s es .n ≡ s .n
-unfolding runFrom effect
-run-keeps s [] = refl
-run-keeps s (e ∷ es) = run-keeps (after s e) es ∙ by-step (λ (q : Result). kept s q .n ≡ s .n) s e (λ x. refl) (λ c. refl)
-
-run-nodes : (n : ℕ) (es : List Event) → run n es .n ≡ n
-run-nodes n es = run-keeps (start n) es
 
 full : (s : State) (a b : ℕ) (q : Result) → step s (Deliver a b) ≡ q → resultNumber q ≡ 14 → ⊥
 full s a b (refused k) i e = delivery-never-full s a b (i ∙ ap refused e)

@@ -1,17 +1,17 @@
 -- What ties the code to demand 3: the tables that the code's step returns, one after another, are those of the model's run.
 use Prim.Native.Nat.{ℕ, _+_, _≤_}
 use mathlib.Core.Path.{_≡_, refl, sym, _∙_, ap, subst}
-use mathlib.Core.List.{List, [], _++_}
+use mathlib.Core.List.{List, [], _∷_, _++_}
 use mathlib.Core.Bool.{true}
 use lib.Dec.{eqb}
 use Rattle.model.specs.Limits.{nodeLimit}
 use Rattle.model.specs.Pick.{pick}
-use Rattle.model.specs.State.{State, nodeAt, inRange, view}
-use Rattle.model.specs.Step.{actor, reactionTo, Result, refused, accepted, step, kept, runFrom, run}
+use Rattle.model.specs.State.{State, start, nodeAt, inRange, view}
+use Rattle.model.specs.Step.{actor, reactionTo, effect, Result, refused, accepted, step, kept, after, runFrom, run}
 use Rattle.model.specs.Answers.{answerNumber, resultNumber}
 use Rattle.model.specs.History.{Task, coming, history}
 use Rattle.model.specs.Claims.{isActive, Lacks, Fixes}
-use Rattle.model.proofs.Judged.{accepted-is}
+use Rattle.model.proofs.Judged.{by-step, accepted-is}
 use Rattle.model.proofs.Refusals.{refuses-by-ground}
 use Rattle.model.proofs.Whole.{run-fixes}
 use Rattle.model.proofs.Fixed.{task-from-list}
@@ -39,6 +39,15 @@ folded-runs (more {es = es} s f) = folded-runs f ∙ ap (λ (v : State). runFrom
 pub folded-append : {t u v : Table} {es fs : List Event} → Folded t es u → Folded u fs v → Folded t (es ++ fs) v
 folded-append none g = g
 folded-append (more s f) g = more s (folded-append f g)
+
+-- a run keeps the number of nodes
+run-keeps : (s : State) (es : List Event) → runFrom s es .n ≡ s .n
+unfolding runFrom effect
+run-keeps s [] = refl
+run-keeps s (e ∷ es) = run-keeps (after s e) es ∙ by-step (λ (q : Result). kept s q .n ≡ s .n) s e (λ x. refl) (λ c. refl)
+
+pub run-nodes : (n : ℕ) (es : List Event) → run n es .n ≡ n
+run-nodes n es = run-keeps (start n) es
 
 -- ── Accepted, of the code and of the model ──
 

@@ -188,6 +188,9 @@ pub record NoWrongTurning : Type 0 where
   -- among those it invites
   pub empties-members : (t : Table) (e : Event) (j : ℕ) → reactionTo (view t) e .mark ≡ Merges → 1 ≤ j → has (nodeAt (view t) (actor e) .members) j ≡ true
       → {r : Outcome} → Stepped t e r → r .answer ≡ Accepted → invites (nodeAt (view (r .table)) (actor e) .activity) j ≡ false → ⊥
+  -- so where it merges at its last tick
+  pub empties-last-tick : (t : Table) (i j found : ℕ) → nodeAt (view t) i .activity ≡ Waiting 1 found → 1 ≤ j → has (nodeAt (view t) i .members) j ≡ true
+      → {r : Outcome} → Stepped t (Tick i) r → r .answer ≡ Accepted → invites (nodeAt (view (r .table)) i .activity) j ≡ false → ⊥
   -- for one: node 2, by node 1
   pub empties-one : {r : Outcome} → Stepped (tableOf mergingTable) (Tick 1) r → invites (nodeAt (view (r .table)) 1 .activity) 2 ≡ false → ⊥
   -- "Taking the task with the invitation": whoever gets an invitation keeps its task, in every table; and after it, it is in Reorganization or Normal only where
