@@ -18,7 +18,7 @@ use Rattle.model.specs.Procedures.{recovers, inviteNext, merges, handNext, fini
 use Rattle.model.specs.React.{checked, timedOut, ticked, expired, resumed, onAreYouCoordinator, onAreYouThere, onInvitation, onAccept, onReady, onReply, received, react}
 use Rattle.model.specs.Range.{activityInRange, nodeInRange, messageInRange}
 use Rattle.model.specs.State.{State, startingNode, start, nodeAt, waits, oldest, withoutOldest, every, inRange, firstOf, view}
-use Rattle.model.specs.Step.{actor, reactionTo, remaining, sent, effect, forms, isCalling, isSending, grounds, judged, Result, refused, accepted, step, kept, after, runFrom, run}
+use Rattle.model.specs.Step.{actor, reactionTo, remaining, sent, effect, forms, isCalling, isSending, grounds, judged, Result, refused, accepted, step, kept, after, runFrom}
 use Rattle.model.specs.Answers.{answerNumber, resultNumber}
 use Rattle.model.specs.Claims.{isActive, Lacks}
 use Rattle.model.proofs.Judged.{by-step, accepted-is}
