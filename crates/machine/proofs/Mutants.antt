@@ -7,7 +7,7 @@ use mathlib.Core.List.{List, [], _∷_, _++_, append-nil}
 use lib.Count.{onesIn, ones, leadingZeros, trailingZeros}
 use lib.Bits.{bitAnd, bitOr}
 use lib.Dec.{eqb}
-use lib.ListN.{length, getD, set, replicate}
+use lib.ListN.{length, getD, set}
 use lib.Seq.{getD-set-same}
 use borrow.Author.Tests.{not-false, le-leb, ne-eqb, eqb-true}
 use Rattle.node_set.specs.NodeSet.{has}
@@ -41,7 +41,7 @@ use Rattle.model.specs.declared.Answer.the-variants.{Accepted}
 use Rattle.machine.specs.Stepped.{Stepped, startingTable}
 use Rattle.machine.specs.Mutants.{tableOf, mergingTable, handingTable, invitedTable, askingTable, invites, recoversAtExpire, Moves, NoMutant, NoWrongTurning}
 use Rattle.machine.proofs.Laws.{start-is}
-use Rattle.machine.proofs.Runs.{run-nodes, accepted-alike, code-runs, code-fixes, folded-reached}
+use Rattle.machine.proofs.Runs.{run-nodes, start-node, accepted-alike, code-runs, code-fixes, folded-reached}
 use Rattle.machine.proofs.Still.{own-record, accepted-differs, reply-taken}
 use Rattle.machine.proofs.Invites.{event-invites}
 
@@ -265,11 +265,6 @@ recovering : (t : Table) (i : ℕ) → inRange (view t) ≡ true → 1 ≤ i →
 recovering t i g low high h k = moves t (Recover i) (recovery-accepted (view t) i g low high h k) (recovery-differs (view t) i g low high)
 
 -- ── the first event ──
-
-start-node : (n k : ℕ) → getD (replicate n startingNode) k startingNode ≡ startingNode
-start-node zero k = refl
-start-node (suc n) zero = refl
-start-node (suc n) (suc k) = start-node n k
 
 none-remains : (n : ℕ) (e : Event) → remaining (start n) e ≡ []
 unfolding remaining withoutOldest

@@ -1,12 +1,13 @@
 -- What ties the code to demand 3: the tables that the code's step returns, one after another, are those of the model's run.
-use Prim.Native.Nat.{ℕ, _+_, _≤_}
+use Prim.Native.Nat.{ℕ, zero, suc, _≤_}
 use mathlib.Core.Path.{_≡_, refl, sym, _∙_, ap, subst}
 use mathlib.Core.List.{List, [], _∷_, _++_}
 use mathlib.Core.Bool.{true}
 use lib.Dec.{eqb}
+use lib.ListN.{getD, replicate}
 use Rattle.model.specs.Limits.{nodeLimit}
 use Rattle.model.specs.Pick.{pick}
-use Rattle.model.specs.State.{State, start, nodeAt, inRange, view}
+use Rattle.model.specs.State.{State, startingNode, start, nodeAt, inRange, view}
 use Rattle.model.specs.Step.{actor, reactionTo, effect, Result, refused, accepted, step, kept, after, runFrom, run}
 use Rattle.model.specs.Answers.{answerNumber, resultNumber}
 use Rattle.model.specs.History.{Task, coming, history}
@@ -48,6 +49,12 @@ run-keeps s (e ∷ es) = run-keeps (after s e) es ∙ by-step (λ (q : Result). 
 
 pub run-nodes : (n : ℕ) (es : List Event) → run n es .n ≡ n
 run-nodes n es = run-keeps (start n) es
+
+-- every node of a starting table
+pub start-node : (n k : ℕ) → getD (replicate n startingNode) k startingNode ≡ startingNode
+start-node zero k = refl
+start-node (suc n) zero = refl
+start-node (suc n) (suc k) = start-node n k
 
 -- ── Accepted, of the code and of the model ──
 
