@@ -1,13 +1,23 @@
--- The part of demand 3 that the functions of this crate cite.
+-- What the functions of this crate promise: two events from the starting table of n nodes, and the part of demand 3 that a user cites for the table that comes out.
 use Prim.Native.Nat.{ℕ, _≤_}
 use mathlib.Core.Path.{_≡_}
-use mathlib.Core.List.{List}
-use Rattle.model.specs.Limits.{nodeLimit}
-use Rattle.model.specs.State.{State, nodeAt}
+use mathlib.Core.List.{List, [], _∷_}
+use Rattle.model.specs.State.{State, nodeAt, view}
+use Rattle.model.specs.Step.{step, run}
 use Rattle.model.specs.History.{Task, history}
+use Rattle.model.specs.Answers.{answerNumber, resultNumber}
 use Rattle.model.specs.declared.Status.the-variants.{Normal}
 use Rattle.model.specs.declared.Event.{Event}
+use Rattle.model.specs.declared.Outcome.{Outcome}
 
 -- in the table s of n nodes, a Normal node's task is the one that the list es fixed for its group
 abbrev pub Fixed : ℕ → List Event → State → Type 0
-Fixed n es s = n ≤ nodeLimit → (i : ℕ) → 1 ≤ i → i ≤ n → nodeAt s i .status ≡ Normal → history n es .entry (nodeAt s i .group .number) ≡ Task (nodeAt s i .task .number)
+Fixed n es s = (i : ℕ) → 1 ≤ i → i ≤ n → nodeAt s i .status ≡ Normal → history n es .entry (nodeAt s i .group .number) ≡ Task (nodeAt s i .task .number)
+
+-- the outcome r of the events a and b from the starting table of n nodes, for any n (where n is outside 1 to 16, every event is refused and no node is Normal)
+pub record Twice (n : ℕ) (a b : Event) (r : Outcome) : Type 0 where
+  -- the table is the model's after both
+  pub table : view (r .table) ≡ run n (a ∷ b ∷ [])
+  -- the answer is the model's to b, on the table after a
+  pub answer : answerNumber (r .answer) ≡ resultNumber (step (run n (a ∷ [])) b)
+  pub fixed : Fixed n (a ∷ b ∷ []) (view (r .table))

@@ -1,13 +1,12 @@
 // What a user of the library writes: the public entries called one after another, and a part of demand 3 cited for the table that comes out.
-ghost use mathlib.Core.List.{[], _∷_};
-ghost use Rattle.model.specs.State.{view};
-ghost use Rattle.client.specs.Fixed.{Fixed};
+ghost use Rattle.client.specs.Fixed.{Twice};
 use model::Event;
 use model::Outcome;
 
-// Two events from the starting table of n nodes, by value. A Normal node's task is the one that the list fixed for its group.
+// Two events from the starting table of n nodes, by value: the answer to the second and the table are the model's, and a Normal node's task is the one that the
+// list fixed for its group.
 pub fn stepped(n: u8, a: Event, b: Event) -> Outcome
-    ensures { λ r. ⌜ Fixed n (a ∷ b ∷ []) (view (r .table)) ⌝ }
+    ensures { λ r. ⌜ Twice n a b r ⌝ }
 {
     let s = machine::starting(n);
     let t = s.table;
@@ -18,7 +17,7 @@ pub fn stepped(n: u8, a: Event, b: Event) -> Outcome
 
 // The same in place.
 pub fn applied(n: u8, a: Event, b: Event) -> Outcome
-    ensures { λ r. ⌜ Fixed n (a ∷ b ∷ []) (view (r .table)) ⌝ }
+    ensures { λ r. ⌜ Twice n a b r ⌝ }
 {
     let s = machine::starting(n);
     let t = s.table;

@@ -1,56 +1,60 @@
 -- No mutant and no wrong turning meets the contract: computed over the definitions on concrete tables, and shown for every table where the claim is for every one.
 use Prim.Native.Nat.{ℕ, zero, suc, _+_, _-_, _≤_}
 use native.Mathlib.Omega.{arith}
-use mathlib.Core.Bool.{Bool, true, false, not, _&&_, _||_, true≢false}
-use mathlib.Core.Path.{_≡_, refl, sym, _∙_, ap}
-use mathlib.Core.List.{List, [], _∷_, append-nil}
+use mathlib.Core.Bool.{Bool, true, false, _&&_, true≢false}
+use mathlib.Core.Path.{_≡_, refl, sym, _∙_, ap, subst}
+use mathlib.Core.List.{List, [], _∷_, _++_, append-nil}
 use lib.Count.{onesIn, ones, leadingZeros, trailingZeros}
 use lib.Bits.{bitAnd, bitOr}
 use lib.Dec.{eqb}
-use lib.ListN.{length, getD, set, replicate}
+use lib.ListN.{length, getD, set}
 use lib.Seq.{getD-set-same}
 use borrow.Author.Tests.{not-false, le-leb, ne-eqb, eqb-true}
-use Rattle.node_set.specs.NodeSet.{has, without, lowest}
+use Rattle.node_set.specs.NodeSet.{has}
 use Rattle.model.specs.Pick.{pick, by-test}
 use Rattle.model.specs.Limits.{queueLimit, counterEnd, callEnd}
 use Rattle.model.specs.Node.{isDown, isNormal, ownerOf, replies}
-use Rattle.model.specs.Procedures.{inviteNext, merges, handNext, finishes, forwardNext, askedAll, askAt, askAfter}
+use Rattle.model.specs.Procedures.{recovers, inviteNext, merges, handNext, finishes, forwardNext, askedAll, askAt, askAfter}
 use Rattle.model.specs.React.{checked, timedOut, ticked, expired, resumed, onAreYouCoordinator, onAreYouThere, onInvitation, onAccept, onReady, onReply, received, react}
 use Rattle.model.specs.Range.{activityInRange, nodeInRange, messageInRange}
-use Rattle.model.specs.State.{State, startingNode, start, nodeAt, waits, oldest, withoutOldest, every, inRange, firstOf, view}
-use Rattle.model.specs.Step.{actor, reactionTo, remaining, effect, forms, isCalling, isSending, grounds, judged, Result, refused, accepted, step, kept, after, runFrom, run}
+use Rattle.model.specs.State.{State, startingNode, start, nodeAt, waits, oldest, withoutOldest, every, inRange, firstOf, view, tableOf}
+use Rattle.model.specs.Step.{actor, reactionTo, remaining, sent, effect, forms, isCalling, isSending, grounds, judged, Result, refused, accepted, step, kept, after, runFrom}
 use Rattle.model.specs.Answers.{answerNumber, resultNumber}
-use Rattle.model.specs.Claims.{isActive}
-use Rattle.model.proofs.Judged.{Clear, by-step, accepted-is}
-use Rattle.model.proofs.Numbers.{actor-in}
+use Rattle.model.specs.Claims.{isActive, Lacks}
+use Rattle.model.proofs.Judged.{by-step, accepted-is}
 use Rattle.model.proofs.Local.{both-right}
 use Rattle.model.proofs.Fields.{in-range-size}
 use Rattle.model.proofs.InRange.{delivery-never-full, stays-in-range}
 use Rattle.model.specs.declared.Status.the-variants.{Election}
 use Rattle.model.specs.declared.Activity.{Activity}
-use Rattle.model.specs.declared.Activity.the-variants.{Idle, Asking, Waiting, Handing}
+use Rattle.model.specs.declared.Activity.the-variants.{Idle, Asking, Waiting, Inviting, Collecting, Handing, Contacting, Forwarding, Accepting}
 use Rattle.model.specs.declared.Node.{Node}
 use Rattle.model.specs.declared.Message.{Message}
+use Rattle.model.specs.declared.Mark.{Mark}
+use Rattle.model.specs.declared.Mark.the-variants.{Merges}
 use Rattle.model.specs.declared.Reaction.{Reaction}
 use Rattle.model.specs.declared.Table.{Table}
 use Rattle.model.specs.declared.Event.{Event}
 use Rattle.model.specs.declared.Event.the-variants.{Crash, Recover, Check, Timeout, Tick, Expire, Finish, Deliver, Lose}
-use Rattle.machine.specs.Stepped.{startingTable}
-use Rattle.machine.specs.Mutants.{tableOf, merging, handing, invited, asking, invites, Moves, NoMutant, NoWrongTurning}
+use Rattle.model.specs.declared.Outcome.{Outcome}
+use Rattle.model.specs.declared.Answer.the-variants.{Accepted}
+use Rattle.machine.specs.Stepped.{Stepped, startingTable}
+use Rattle.machine.specs.Mutants.{mergingTable, handingTable, invitedTable, askingTable, invites, recoversAtExpire, Moves, NoMutant, NoWrongTurning}
 use Rattle.machine.proofs.Laws.{start-is}
-use Rattle.machine.proofs.Runs.{accepted-alike, code-runs}
-use Rattle.machine.proofs.Still.{accepted-differs}
+use Rattle.machine.proofs.Runs.{run-nodes, start-node, accepted-alike, code-runs, code-fixes, folded-reached}
+use Rattle.machine.proofs.Still.{own-record, accepted-differs, reply-taken}
+use Rattle.machine.proofs.Invites.{event-invites}
 
 -- ── on concrete tables, by computation ──
 
 record Computed : Type 0 where
   again : nodeAt (runFrom (view (startingTable 2)) (Recover 1 ∷ Crash 1 ∷ Recover 1 ∷ [])) 1 .group .number ≡ 32
-  members : invites (nodeAt (after (view (tableOf merging)) (Tick 1)) 1 .activity) 2 ≡ true
-  task : nodeAt (after (view (tableOf invited)) (Deliver 1 2)) 2 .task .number ≡ 100
-  status : nodeAt (after (view (tableOf invited)) (Deliver 1 2)) 2 .status ≡ Election
-  handed : nodeAt (after (view (tableOf handing)) (Expire 3)) 3 .activity ≡ Idle
-  older : nodeAt (after (view (tableOf (asking (replies 2 1 (record { number = 4 }) true ∷ [])))) (Deliver 2 1)) 1 ≡ nodeAt (asking []) 1
-  other : nodeAt (after (view (tableOf (asking (replies 3 1 (record { number = 5 }) true ∷ [])))) (Deliver 3 1)) 1 .activity ≡ Asking 3 2
+  members : invites (nodeAt (after (view (tableOf mergingTable)) (Tick 1)) 1 .activity) 2 ≡ true
+  task : nodeAt (after (view (tableOf invitedTable)) (Deliver 1 2)) 2 .task .number ≡ 100
+  status : nodeAt (after (view (tableOf invitedTable)) (Deliver 1 2)) 2 .status ≡ Election
+  handed : nodeAt (after (view (tableOf handingTable)) (Expire 3)) 3 .activity ≡ Idle
+  older : nodeAt (after (view (tableOf (askingTable (replies 2 1 (record { number = 4 }) true ∷ [])))) (Deliver 2 1)) 1 ≡ nodeAt (askingTable []) 1
+  other : nodeAt (after (view (tableOf (askingTable (replies 3 1 (record { number = 5 }) true ∷ [])))) (Deliver 3 1)) 1 .activity ≡ Asking 3 2
   away : resultNumber (step (view (startingTable 2)) (Crash 1)) ≡ 9
   -- node 2 after node 1's recovery
   ranged : inRange (after (view (startingTable 2)) (Recover 1)) ≡ true
@@ -80,31 +84,27 @@ unfolding effect reactionTo react
 crash-keeps s i =
     by-step (λ (q : Result). nodeAt (kept s q) i .counter ≡ nodeAt s i .counter) s (Crash i) (λ x. refl) (λ c. stored s i _ (λ (d : Node). d .counter) refl)
 
-expire-silent : (s : State) (i rest now : ℕ) → nodeAt s i .activity ≡ Handing rest now → after s (Expire i) .queue ≡ s .queue
-unfolding effect reactionTo react expired remaining
-expire-silent s i rest now h =
-    by-step (λ (q : Result). kept s q .queue ≡ s .queue) s (Expire i) (λ x. refl) (λ c. rw h (append-nil (s .queue)))
+expire-recovers : (n i : ℕ) (c : Node) (a : Activity) → recoversAtExpire a ≡ true → expired n i c a ≡ recovers i c
+unfolding expired
+expire-recovers n i c Idle h = absurd (true≢false (sym h))
+expire-recovers n i c (Asking j f) h = absurd (true≢false (sym h))
+expire-recovers n i c (Waiting k f) h = absurd (true≢false (sym h))
+expire-recovers n i c (Inviting f o w) h = absurd (true≢false (sym h))
+expire-recovers n i c Collecting h = absurd (true≢false (sym h))
+expire-recovers n i c (Handing r w) h = refl
+expire-recovers n i c Contacting h = refl
+expire-recovers n i c (Forwarding r w a k) h = absurd (true≢false (sym h))
+expire-recovers n i c (Accepting a k) h = refl
 
--- one found, and so those set aside are kept for later
-merge-invites : (i j : ℕ) (c : Node) (found : ℕ) → (found ≡ 0 → ⊥) → has (c .members) j ≡ true → invites (merges i c found .node .activity) j ≡ true
-unfolding merges inviteNext pick
-merge-invites i j c found d m = rw (ne-eqb found 0 d, m) (or-true (eqb (lowest found) j) (has (without found (lowest found)) j))
-  where
-    or-true : (x y : Bool) → (x || y || true) ≡ true
-    or-true true true = refl
-    or-true true false = refl
-    or-true false true = refl
-    or-true false false = refl
+expire-reaction : (s : State) (i : ℕ) → recoversAtExpire (nodeAt s i .activity) ≡ true → reactionTo s (Expire i) ≡ recovers i (nodeAt s i)
+unfolding reactionTo react
+expire-reaction s i h = expire-recovers (s .n) i (nodeAt s i) (nodeAt s i .activity) h
 
-tick-invites : (s : State) (i j found : ℕ) → Clear s (Tick i) → nodeAt s i .activity ≡ Waiting 1 found → (found ≡ 0 → ⊥) → has (nodeAt s i .members) j ≡ true
-    → invites (nodeAt (effect s (Tick i)) i .activity) j ≡ true
-unfolding effect reactionTo react ticked pick
-tick-invites s i j found c a d m =
-    let k = actor-in (s .n) (Tick i) (c .number) in
-    ap (λ (x : Node). invites (x .activity) j)
-    (getD-set-same (s .nodes) (i - 1) (ticked i (nodeAt s i) (nodeAt s i .activity) .node) startingNode (omega (arith, k .0, k .1, in-range-size s (c .in-range) .2)))
-    ∙ ap (λ (x : Activity). invites (ticked i (nodeAt s i) x .node .activity) j) a
-    ∙ merge-invites i j (nodeAt s i) found d m
+expire-silent : (s : State) (i : ℕ) → recoversAtExpire (nodeAt s i .activity) ≡ true → after s (Expire i) .queue ≡ s .queue
+unfolding effect remaining
+expire-silent s i h =
+    by-step (λ (q : Result). kept s q .queue ≡ s .queue) s (Expire i) (λ x. refl)
+    (λ c. ap (λ (r : Reaction). s .queue ++ sent (r .outgoing)) (expire-reaction s i h) ∙ append-nil (s .queue))
 
 -- what holds of an invitation's receiver
 module _ (i : ℕ) (c : Node) (m : Message) where
@@ -149,8 +149,7 @@ unfolding effect reactionTo react
 invitation-active s a b k =
     by-step (λ (q : Result). isActive (nodeAt (kept s q) b .status) ≡ true → nodeAt (kept s q) b ≡ nodeAt s b) s (Deliver a b) (λ x h. refl)
     (λ c h.
-    let l = actor-in (s .n) (Deliver a b) (c .number) in
-    let o = getD-set-same (s .nodes) (b - 1) (received (s .n) b (nodeAt s b) (oldest a b (s .queue)) .node) startingNode (omega (arith, l .0, l .1, in-range-size s (c .in-range) .2)) in
+    let o = own-record s (Deliver a b) c in
     let e = ap (λ (r : Reaction). r .node) (kind-three (s .n) b (nodeAt s b) (oldest a b (s .queue)) k) in
     o ∙ e ∙ invited-rests b (nodeAt s b) (oldest a b (s .queue)) (sym (ap (λ (d : Node). isActive (d .status)) (o ∙ e)) ∙ h))
 
@@ -160,26 +159,71 @@ reply-dropped s a b k d =
     by-step (λ (q : Result). nodeAt (kept s q) b ≡ nodeAt s b) s (Deliver a b) (λ x. refl)
     (λ c. stored s b _ (λ (x : Node). x) (kind-six (s .n) b (nodeAt s b) _ k d))
 
+-- "at none it merges"
+invite-marks : (i : ℕ) (c : Node) (k : Mark) (f o : ℕ) → inviteNext i c k f o .mark ≡ k
+unfolding inviteNext
+invite-marks i c k f o = by-test P (λ _. refl) (λ _. by-test P (λ _. refl) (λ _. refl))
+  where
+    P : Reaction → Type 0
+    P r = r .mark ≡ k
+
+tick-merges : (s : State) (i found : ℕ) → nodeAt s i .activity ≡ Waiting 1 found → reactionTo s (Tick i) .mark ≡ Merges
+unfolding reactionTo react ticked merges pick
+tick-merges s i found a = ap (λ (x : Activity). ticked i (nodeAt s i) x .mark) a ∙ invite-marks i _ Merges found (nodeAt s i .members)
+
+-- what a reply makes of node b, by its call number and its yes or no alone
+reply-makes : (n b : ℕ) (c : Node) (m k : Message) → m .kind ≡ 6 → k .kind ≡ 6 → m .call .number ≡ k .call .number → m .yes ≡ k .yes → received n b c m ≡ received n b c k
+unfolding received onReply pick
+reply-makes n b c m k x y p q = rw (x, y, p, q)
+
+-- the record of an accepted event's node
+accepted-record : (t : Table) (e : Event) {r : Outcome} → Stepped t e r → r .answer ≡ Accepted → nodeAt (view (r .table)) (actor e) ≡ reactionTo (view t) e .node
+accepted-record t e x y =
+    let q = accepted-is (view t) e _ _ (accepted-alike .model-accepts x y) in
+    ap (λ (s : State). nodeAt s (actor e)) (q .state) ∙ own-record (view t) e (q .clear)
+
+-- the record of a delivery's receiver
+delivered-record : (t : Table) (a b : ℕ) {r : Outcome} → Stepped t (Deliver a b) r → r .answer ≡ Accepted
+    → nodeAt (view (r .table)) b ≡ received (t .n) b (nodeAt (view t) b) (oldest a b (view t .queue)) .node
+unfolding reactionTo react
+delivered-record t a b x y = accepted-record t (Deliver a b) x y
+
 pub no-wrong-turning : NoWrongTurning
 no-wrong-turning =
     record {
       clears-counter = λ t i {r} x h. h (ap (λ (s : State). nodeAt s i .counter) (x .table) ∙ crash-keeps (view t) i);
-      group-returns = λ {u} f h. let z : _≡_ {A = ℕ} 16 32 = sym h ∙ ap (λ (s : State). nodeAt s 1 .group .number) (code-runs .from-any _ _ _ f) ∙ computed .again in omega arith;
+      group-returns = λ n h {es} {fs} {t} {u} c d {e} {r} x y f k.
+          k (subst (Lacks (view t)) (sym (code-fixes n h .numbered (folded-reached c d) x y f)) (code-fixes n h .fresh c d x y f));
+      returns-one = λ {u} f h. let z : _≡_ {A = ℕ} 16 32 = sym h ∙ ap (λ (s : State). nodeAt s 1 .group .number) (code-runs .from-any _ _ _ f) ∙ computed .again in omega arith;
       empties-one = λ {r} x h. true≢false (sym (computed .members) ∙ sym (ap (λ (s : State). invites (nodeAt s 1 .activity) 2) (x .table)) ∙ h);
       takes-one = λ {r} x h. h (ap (λ (s : State). nodeAt s 2 .task .number) (x .table) ∙ computed .task);
       active-one = λ {r} x h. true≢false (sym h ∙ ap (λ (s : State). isActive (nodeAt s 2 .status)) (x .table) ∙ ap isActive (computed .status));
-      empties-members = λ t i j found a d m {r} x y h.
-          let q = accepted-is (view t) (Tick i) _ _ (accepted-alike x .model-accepts y) in
-          true≢false (sym (tick-invites (view t) i j found (q .clear) a d m) ∙ sym (ap (λ (s : State). invites (nodeAt s i .activity) j) (q .state)) ∙ h);
+      empties-members = empties;
+      empties-last-tick = λ t i j found a l m. empties t (Tick i) j (tick-merges (view t) i found a) l m;
       takes-task = λ t a b k {r} x h. h (ap (λ (s : State). nodeAt s b .task) (x .table) ∙ invitation-task (view t) a b k);
       active-early = λ t a b k {r} x p h.
           h (ap (λ (s : State). nodeAt s b) (x .table) ∙ invitation-active (view t) a b k (sym (ap (λ (s : State). isActive (nodeAt s b .status)) (x .table)) ∙ p));
       takes-older = λ t a b k d {r} x h. h (ap (λ (s : State). nodeAt s b) (x .table) ∙ reply-dropped (view t) a b k d);
-      hands-on = λ t i rest now a {r} x h. h (ap (λ (s : State). s .queue) (x .table) ∙ expire-silent (view t) i rest now a);
-      hands-later = λ {r} x h. h (ap (λ (s : State). nodeAt s 3 .activity) (x .table) ∙ computed .handed);
+      hands-on = λ t i a {r} x h. h (ap (λ (s : State). s .queue) (x .table) ∙ expire-silent (view t) i a);
+      hands-later = λ t i a {r} x y h.
+          h (ap (λ (c : Node). c .activity) (accepted-record t (Expire i) x y) ∙ ap (λ (q : Reaction). q .node .activity) (expire-reaction (view t) i a));
+      hands-one = λ {r} x h. h (ap (λ (s : State). nodeAt s 3 .activity) (x .table) ∙ computed .handed);
       older-one = λ {r} x h. h (ap (λ (s : State). nodeAt s 1) (x .table) ∙ computed .older);
-      drops-other = λ {r} x h. asked-apart (sym (computed .other) ∙ sym (ap (λ (s : State). nodeAt s 1 .activity) (x .table)) ∙ h);
+      drops-other = λ t a b k z o {r} x y h. reply-taken (t .n) b (nodeAt (view t) b) (oldest a b (view t .queue)) k z o (sym (delivered-record t a b x y) ∙ h);
+      by-sender = λ t u a b d e c k l p w {r} {q} x y x′ y′ h.
+          h (delivered-record t a b x y
+          ∙ ap (λ (m : Reaction). m .node) (reply-makes (t .n) b (nodeAt (view t) b) (oldest a b (view t .queue)) (oldest d b (view u .queue)) k l p w)
+          ∙ ap (λ (n : ℕ). received n b (nodeAt (view t) b) (oldest d b (view u .queue)) .node) e
+          ∙ ap (λ (v : Node). received (u .n) b v (oldest d b (view u .queue)) .node) c
+          ∙ sym (delivered-record u d b x′ y′));
+      other-one = λ {r} x h. asked-apart (sym (computed .other) ∙ sym (ap (λ (s : State). nodeAt s 1 .activity) (x .table)) ∙ h);
     }
+  where
+    empties : (t : Table) (e : Event) (j : ℕ) → reactionTo (view t) e .mark ≡ Merges → 1 ≤ j → has (nodeAt (view t) (actor e) .members) j ≡ true
+        → {r : Outcome} → Stepped t e r → r .answer ≡ Accepted → invites (nodeAt (view (r .table)) (actor e) .activity) j ≡ false → ⊥
+    empties t e j k l m {r} x y h =
+        let q = accepted-is (view t) e _ _ (accepted-alike .model-accepts x y) in
+        true≢false (sym (event-invites (view t) e (q .clear) .members k j l m) ∙ sym (ap (λ (c : Node). invites (c .activity) j) (accepted-record t e x y)) ∙ h)
 
 -- ── crash and recovery, in every table in range ──
 
@@ -210,7 +254,7 @@ module _ (s : State) (i : ℕ) (g : inRange s ≡ true) (low : 1 ≤ i) (high : 
 moves : (t : Table) (e : Event) → step (view t) e ≡ accepted (effect (view t) e) (reactionTo (view t) e .mark) → (effect (view t) e ≡ view t → ⊥) → Moves t e
 moves t e a d =
     record {
-      not-away = λ {r} x h. h (accepted-alike x .code-accepts _ _ a);
+      not-away = λ {r} x h. h (accepted-alike .code-accepts x _ _ a);
       not-same = λ {r} x h. d (sym (ap (kept (view t)) a) ∙ sym (x .table) ∙ h);
     }
 
@@ -221,11 +265,6 @@ recovering : (t : Table) (i : ℕ) → inRange (view t) ≡ true → 1 ≤ i →
 recovering t i g low high h k = moves t (Recover i) (recovery-accepted (view t) i g low high h k) (recovery-differs (view t) i g low high)
 
 -- ── the first event ──
-
-start-node : (n k : ℕ) → getD (replicate n startingNode) k startingNode ≡ startingNode
-start-node zero k = refl
-start-node (suc n) zero = refl
-start-node (suc n) (suc k) = start-node n k
 
 none-remains : (n : ℕ) (e : Event) → remaining (start n) e ≡ []
 unfolding remaining withoutOldest
@@ -260,15 +299,6 @@ first-small n e =
     end : (a : Bool) (x y : ℕ) → (a && eqb x y) ≡ true → x ≡ 0 → 1 ≤ y → ⊥
     end a x y q z h = let v = eqb-true x y (both-right a (eqb x y) q) in omega arith
 
--- a run keeps the number of nodes
-run-keeps : (s : State) (es : List Event) → runFrom s es .n ≡ s .n
-unfolding runFrom effect
-run-keeps s [] = refl
-run-keeps s (e ∷ es) = run-keeps (after s e) es ∙ by-step (λ (q : Result). kept s q .n ≡ s .n) s e (λ x. refl) (λ c. refl)
-
-run-nodes : (n : ℕ) (es : List Event) → run n es .n ≡ n
-run-nodes n es = run-keeps (start n) es
-
 full : (s : State) (a b : ℕ) (q : Result) → step s (Deliver a b) ≡ q → resultNumber q ≡ 14 → ⊥
 full s a b (refused k) i e = delivery-never-full s a b (i ∙ ap refused e)
 full s a b (accepted u k) i e = omega (arith, e)
@@ -280,7 +310,7 @@ no-mutant =
           recovering (startingTable n) i (ap inRange (start-is n) ∙ stays-in-range .starts n (omega arith) h) low high
           (ap (λ (s : State). isDown (nodeAt s i .status)) (start-is n) ∙ ap (λ (c : Node). isDown (c .status)) (start-node n (i - 1)))
           (λ e. let z : _≡_ {A = ℕ} 0 counterEnd = sym (ap (λ (s : State). nodeAt s i .counter) (start-is n) ∙ ap (λ (c : Node). c .counter) (start-node n (i - 1))) ∙ e in omega arith);
-      accepted-still = λ t e {r} m x a h. accepted-differs (view t) e _ _ (accepted-alike x .model-accepts a) m h;
+      accepted-still = λ t e {r} m x a h. accepted-differs (view t) e _ _ (accepted-alike .model-accepts x a) m h;
       crash-moves = crashing;
       recovery-moves = recovering;
       second-moves = λ {r} x.
@@ -293,7 +323,7 @@ no-mutant =
           recovering t i (code-runs .in-range n l h es t c) low (omega (arith, high, ap (λ (s : State). s .n) (code-runs .from-start n es t c) ∙ run-nodes n es));
       accepts-all = λ {r} x h. let z : _≡_ {A = ℕ} 0 9 = sym (ap answerNumber h) ∙ x .answer ∙ computed .away in omega arith;
       delivers-none = λ t a b {r} w x h.
-          true≢false (sym (not-false _ (accepted-is (view t) (Deliver a b) _ _ (accepted-alike x .model-accepts h) .clear .waiting)) ∙ w);
+          true≢false (sym (not-false _ (accepted-is (view t) (Deliver a b) _ _ (accepted-alike .model-accepts x h) .clear .waiting)) ∙ w);
       delivery-full = λ t a b {r} x h. full (view t) a b (step (view t) (Deliver a b)) refl (sym (x .answer) ∙ ap answerNumber h);
       no-cry = λ n e {r} x h. first-small n e (rw (x .answer ∙ ap (λ (s : State). resultNumber (step s e)) (start-is n)) at h);
     }

@@ -1,20 +1,21 @@
 -- What ties the code to demand 3: the tables that the code's step returns, one after another, are those of the model's run.
-use Prim.Native.Nat.{ℕ, _+_, _≤_}
-use native.Mathlib.Omega.{arith}
+use Prim.Native.Nat.{ℕ, zero, suc, _≤_}
 use mathlib.Core.Path.{_≡_, refl, sym, _∙_, ap, subst}
-use mathlib.Core.List.{List, _++_}
+use mathlib.Core.List.{List, [], _∷_, _++_}
 use mathlib.Core.Bool.{true}
 use lib.Dec.{eqb}
+use lib.ListN.{getD, replicate}
 use Rattle.model.specs.Limits.{nodeLimit}
 use Rattle.model.specs.Pick.{pick}
-use Rattle.model.specs.State.{State, nodeAt, inRange, view}
-use Rattle.model.specs.Step.{actor, reactionTo, Result, refused, accepted, step, kept, runFrom, run}
+use Rattle.model.specs.State.{State, startingNode, start, nodeAt, inRange, view}
+use Rattle.model.specs.Step.{actor, reactionTo, effect, Result, refused, accepted, step, kept, after, runFrom, run}
 use Rattle.model.specs.Answers.{answerNumber, resultNumber}
 use Rattle.model.specs.History.{Task, coming, history}
-use Rattle.model.specs.Claims.{isActive, Lacks}
-use Rattle.model.proofs.Judged.{accepted-is}
+use Rattle.model.specs.Claims.{isActive, Lacks, Fixes, EachGroup}
+use Rattle.model.proofs.Judged.{by-step, accepted-is}
 use Rattle.model.proofs.Refusals.{refuses-by-ground}
 use Rattle.model.proofs.Whole.{run-fixes}
+use Rattle.model.proofs.Fixed.{task-from-list}
 use Rattle.model.proofs.InRange.{stays-in-range}
 use Rattle.model.specs.declared.Status.the-variants.{Normal}
 use Rattle.model.specs.declared.Table.{Table}
@@ -25,7 +26,7 @@ use Rattle.model.specs.declared.Answer.{Answer}
 use Rattle.model.specs.declared.Answer.the-variants.{Accepted, NotInRange, WrongNumber, WrongTask, WrongStatus, WrongActivity, NoMessage, CounterAtEnd, CallsAtEnd, QueueFull}
 use Rattle.machine.specs.Stepped.{Stepped}
 use Rattle.machine.specs.Folded.{Folded, none, more}
-use Rattle.machine.specs.Claims.{AcceptedAlike, SteppedAlike, Chain, Reached, CodeRuns, CodeFixes}
+use Rattle.machine.specs.Claims.{AcceptedAlike, SteppedAlike, isForming, Chain, Reached, CodeRuns, CodeFixes}
 
 -- ── the tables of a chain are those of the model's run ──
 
@@ -39,6 +40,21 @@ folded-runs (more {es = es} s f) = folded-runs f ∙ ap (λ (v : State). runFrom
 pub folded-append : {t u v : Table} {es fs : List Event} → Folded t es u → Folded u fs v → Folded t (es ++ fs) v
 folded-append none g = g
 folded-append (more s f) g = more s (folded-append f g)
+
+-- a run keeps the number of nodes
+run-keeps : (s : State) (es : List Event) → runFrom s es .n ≡ s .n
+unfolding runFrom effect
+run-keeps s [] = refl
+run-keeps s (e ∷ es) = run-keeps (after s e) es ∙ by-step (λ (q : Result). kept s q .n ≡ s .n) s e (λ x. refl) (λ c. refl)
+
+pub run-nodes : (n : ℕ) (es : List Event) → run n es .n ≡ n
+run-nodes n es = run-keeps (start n) es
+
+-- every node of a starting table
+pub start-node : (n k : ℕ) → getD (replicate n startingNode) k startingNode ≡ startingNode
+start-node zero k = refl
+start-node (suc n) zero = refl
+start-node (suc n) (suc k) = start-node n k
 
 -- ── Accepted, of the code and of the model ──
 
@@ -72,19 +88,30 @@ answer-back QueueFull = refl
 answer-known : (a b : Answer) → answerNumber a ≡ answerNumber b → a ≡ b
 answer-known a b e = sym (answer-back a) ∙ ap answerOf e ∙ answer-back b
 
-pub stepped-alike : {t : Table} {e : Event} {r q : Outcome} → Stepped t e r → Stepped t e q → SteppedAlike r q
-stepped-alike {r = r} {q = q} x y =
-    let z = answer-known (r .answer) (q .answer) (x .answer ∙ sym (y .answer)) in
-    record { answer = z; table = x .table ∙ sym (y .table); same = λ h. x .same h ∙ sym (y .same (λ a. h (z ∙ a))) }
-
-pub accepted-alike : {t : Table} {e : Event} {r : Outcome} → Stepped t e r → AcceptedAlike t e r
-accepted-alike {t} {e} {r} x = record { model-accepts = by (step (view t) e) refl; code-accepts = λ u k i. answer-known (r .answer) Accepted (x .answer ∙ ap resultNumber i) }
+pub stepped-alike : SteppedAlike
+stepped-alike =
+    record {
+      answer = alike;
+      table = λ x y. x .table ∙ sym (y .table);
+      same = λ x y h. x .same h ∙ sym (y .same (λ a. h (alike x y ∙ a)));
+    }
   where
-    by : (q : Result) → step (view t) e ≡ q → r .answer ≡ Accepted → step (view t) e ≡ accepted (view (r .table)) (reactionTo (view t) e .mark)
-    by (refused k) i a =
+    alike : {t : Table} {e : Event} {r q : Outcome} → Stepped t e r → Stepped t e q → r .answer ≡ q .answer
+    alike {r = r} {q = q} x y = answer-known (r .answer) (q .answer) (x .answer ∙ sym (y .answer))
+
+pub accepted-alike : AcceptedAlike
+accepted-alike =
+    record {
+      model-accepts = λ {t} {e} {r} x. by x (step (view t) e) refl;
+      code-accepts = λ {t} {e} {r} x u k i. answer-known (r .answer) Accepted (x .answer ∙ ap resultNumber i);
+    }
+  where
+    by : {t : Table} {e : Event} {r : Outcome} → Stepped t e r → (q : Result) → step (view t) e ≡ q → r .answer ≡ Accepted
+        → step (view t) e ≡ accepted (view (r .table)) (reactionTo (view t) e .mark)
+    by {t} {e} {r} x (refused k) i a =
         let z : k ≡ 0 = sym (ap resultNumber i) ∙ sym (x .answer) ∙ ap answerNumber a in
         absurd (refuses-by-ground .never-zero (view t) e (i ∙ ap refused z))
-    by (accepted u k) i a =
+    by {t} {e} {r} x (accepted u k) i a =
         let z : view (r .table) ≡ u = x .table ∙ ap (kept (view t)) i in
         i ∙ ap (λ (m : Mark). accepted u m) (accepted-is (view t) e u k i .mark) ∙ ap (λ (v : State). accepted v (reactionTo (view t) e .mark)) (sym z)
 
@@ -108,7 +135,18 @@ module _ (chain : Chain) (folds : (t : Table) (es : List Event) (u : Table) → 
 
   -- the model's step, where the code accepts e on a table that es led to
   steps : (n : ℕ) (es : List Event) {u : Table} {e : Event} {r : Outcome} → view u ≡ run n es → Stepped u e r → r .answer ≡ Accepted → step (run n es) e ≡ accepted (view (r .table)) (reactionTo (view u) e .mark)
-  steps n es {e = e} z x a = ap (λ (s : State). step s e) (sym z) ∙ accepted-alike x .model-accepts a
+  steps n es {e = e} z x a = ap (λ (s : State). step s e) (sym z) ∙ accepted-alike .model-accepts x a
+
+  -- two Normal nodes with the same group have the same task
+  same : (n : ℕ) → n ≤ nodeLimit → (es : List Event) (i j : ℕ) → 1 ≤ i → i ≤ n → 1 ≤ j → j ≤ n
+      → nodeAt (run n es) i .status ≡ Normal → nodeAt (run n es) j .status ≡ Normal
+      → nodeAt (run n es) i .group .number ≡ nodeAt (run n es) j .group .number
+      → nodeAt (run n es) i .task .number ≡ nodeAt (run n es) j .task .number
+  same n h es i j i₁ i₂ j₁ j₂ p q s =
+      let a = run-fixes n h .fixed-task es [] i i₁ i₂ p in
+      let b = run-fixes n h .fixed-task es [] j j₁ j₂ q in
+      let z : Task (nodeAt (run n es) i .task .number) ≡ Task (nodeAt (run n es) j .task .number) = sym a ∙ rw s b in
+      cc
 
   pub chain-fixes : (n : ℕ) → n ≤ nodeLimit → CodeFixes chain n
   chain-fixes n h =
@@ -125,19 +163,39 @@ module _ (chain : Chain) (folds : (t : Table) (es : List Event) (u : Table) → 
             (λ (s : State). (i : ℕ) → 1 ≤ i → i ≤ n → nodeAt s i .status ≡ Normal
             → history n (es ++ fs) .entry (nodeAt s i .group .number) ≡ Task (nodeAt s i .task .number))
             (sym (runs c)) (run-fixes n h .fixed-task es fs);
+        same-task = λ {es} {t} c.
+            subst
+            (λ (s : State). (i j : ℕ) → 1 ≤ i → i ≤ n → 1 ≤ j → j ≤ n
+            → nodeAt s i .status ≡ Normal → nodeAt s j .status ≡ Normal
+            → nodeAt s i .group .number ≡ nodeAt s j .group .number
+            → nodeAt s i .task .number ≡ nodeAt s j .task .number)
+            (sym (runs c)) (same n h es);
         numbered = λ {es} {u} {e} {r} c x a f. run-fixes n h .numbered es e _ _ (steps n es (runs c) x a) f;
         fresh = λ {es} {fs} {t} {u} {e} {r} c d x a f.
             subst (λ (s : State). Lacks s (coming (history n (es ++ fs)) (actor e))) (sym (runs c)) (run-fixes n h .fresh es fs e _ _ (steps n (es ++ fs) (runs-on c d) x a) f);
         borrowed = λ {es} {u} {e} {r} c x a f j l k q.
             run-fixes n h .borrowed es e _ _ (steps n es (runs c) x a) f j l k (subst (λ (s : State). Lacks s (nodeAt (view (r .table)) j .group .number)) (runs c) q);
+        borrowed-messages = λ {es} {u} {e} {r} c x a.
+            subst (λ (s : State). EachGroup (λ g. Lacks s g → (isForming u e ≡ true) × (g ≡ coming (history n es) (actor e))) (view (r .table) .queue)) (sym (runs c))
+            (run-fixes n h .borrowed-messages es e _ _ (steps n es (runs c) x a));
         formed-once = λ {es} {u} {e} {r} c x a f. run-fixes n h .formed-once es e _ _ (steps n es (runs c) x a) f;
         given-once = λ {es} {u} {i} {x} {r} c s a. run-fixes n h .given-once es i x _ _ (steps n es (runs c) s a);
+        own-group = λ {es} {u} {i} {x} {r} c s a. ap (λ (v : State). nodeAt v i .group .number) (runs c) ∙ run-fixes n h .own-group es i x _ _ (steps n es (runs c) s a);
         lasts = run-fixes n h .lasts;
+        from-list = λ {es} {t} c.
+            subst
+            (λ (s : State). (i : ℕ) → 1 ≤ i → i ≤ n → nodeAt s i .status ≡ Normal
+            → Fixes n es (nodeAt s i .group .number) (nodeAt s i .task .number))
+            (sym (runs c)) (task-from-list n h .task es);
       }
 
 -- of the step by value
 folded : (t : Table) (es : List Event) (u : Table) → Folded t es u → Folded t es u
 folded t es u f = f
+
+-- events led on from a table that events led to
+pub folded-reached : {n : ℕ} {es fs : List Event} {t u : Table} → Reached Folded n es t → Folded t fs u → Reached Folded n (es ++ fs) u
+folded-reached c d = record { first = c .first; begun = c .begun; led = folded-append (c .led) d }
 
 pub code-runs : CodeRuns Folded
 code-runs = chain-runs Folded folded

@@ -1,18 +1,18 @@
--- An accepted event changes the state, but for check and timeout.
+-- An accepted event changes the state, but for a check and a timeout where nothing changes; and a reply to the open call changes the node.
 use Prim.Native.Nat.{ℕ, _+_, _-_, _≤_}
 use native.Mathlib.Omega.{arith}
 use mathlib.Core.Bool.{Bool, true, false, not, _&&_, true≢false}
 use mathlib.Core.Path.{_≡_, refl, sym, _∙_, ap}
 use mathlib.Core.Logic.{_⊎_, inl, inr}
 use mathlib.Core.List.{List, [], _∷_, _++_, append-assoc, append-cancel-left}
-use lib.Dec.{eqb}
+use lib.Dec.{eqb, ltb}
 use lib.ListN.{length, length-append}
 use lib.Seq.{getD-set-same}
-use borrow.Author.Tests.{not-false, not-true, eqb-true, eqb-false}
+use borrow.Author.Tests.{not-false, not-true, eqb-true, eqb-false, eq-eqb, le-leb, ltb-true}
 use Rattle.model.specs.Pick.{pick, by-test}
 use Rattle.model.specs.Node.{isDown, isNormal, isWaiting, isCollecting, hasOpenCall, ownerOf, merged, invited}
 use Rattle.model.specs.Procedures.{inviteNext, merges, handNext, finishes, forwardNext, askedAll, askAt, askAfter}
-use Rattle.model.specs.React.{ticked, expired, resumed, onAreYouCoordinator, onAreYouThere, onInvitation, onAccept, onReady, onReply, received, react}
+use Rattle.model.specs.React.{leads, checked, timedOut, ticked, expired, resumed, onAreYouCoordinator, onAreYouThere, onInvitation, onAccept, onReady, onReply, received, react}
 use Rattle.model.specs.Range.{isNode, isOther}
 use Rattle.model.specs.State.{State, startingNode, nodeAt, oldest, withoutOldest}
 use Rattle.model.specs.Step.{actor, reactionTo, remaining, sent, effect, accepted, step}
@@ -81,6 +81,38 @@ expire-goes n i c (Handing r w) e = inr (inl refl)
 expire-goes n i c Contacting e = inr (inl refl)
 expire-goes n i c (Forwarding r w a k) e = forward-goes i c r a k
 expire-goes n i c (Accepting a k) e = inr (inl refl)
+
+resume-goes : (n i : ℕ) (c : Node) (y : Bool) (a : Activity) → hasOpenCall a ≡ true → Goes c (resumed n i c y a)
+unfolding resumed handNext
+resume-goes n i c y Idle e = absurd (true≢false (sym e))
+resume-goes n i c y (Asking j f) e = ask-goes n i c j _
+resume-goes n i c y (Waiting k f) e = absurd (true≢false (sym e))
+resume-goes n i c y (Inviting f o w) e = invite-goes i c Plain f o .1
+resume-goes n i c y Collecting e = absurd (true≢false (sym e))
+resume-goes n i c y (Handing r w) e = by-test (Goes c) (λ _. inr (inr refl)) (λ _. inl refl)
+resume-goes n i c y Contacting e = by-test (Goes c) (λ _. inr (inr refl)) (λ _. inr (inl refl))
+resume-goes n i c y (Forwarding r w a k) e = forward-goes i c r a k
+resume-goes n i c y (Accepting a k) e = inr (inr refl)
+
+-- the first to be asked is there
+ask-first : (n i : ℕ) (c : Node) → ltb 1 n ≡ true → askAfter n i c 0 0 .node .last .number ≡ c .last .number + 1
+unfolding askAfter askAt
+ask-first n i c h =
+    by-test Calls (λ _. by-test Calls (λ _. refl) (λ q. absurd (true≢false (sym (le-leb 2 n (omega (arith, ltb-true 1 n h))) ∙ q))))
+    (λ _. by-test Calls (λ _. refl) (λ q. absurd (true≢false (sym (le-leb 1 n (omega (arith, ltb-true 1 n h))) ∙ q))))
+  where
+    Calls : Reaction → Type 0
+    Calls r = r .node .last .number ≡ c .last .number + 1
+
+check-differs : (n i : ℕ) (c : Node) → not (leads i c && ltb 1 n) ≡ false → checked n i c .node ≡ c → ⊥
+unfolding checked
+check-differs n i c m =
+    by-test (λ (r : Reaction). r .node ≡ c → ⊥) (λ x e. omega (arith, ask-first n i c (both-right (leads i c) _ x), ap (λ (d : Node). d .last .number) e))
+    (λ x. absurd (true≢false (sym (not-false _ m) ∙ x)))
+
+timeout-differs : (i : ℕ) (c : Node) → eqb (c .coordinator) i ≡ false → timedOut i c .node ≡ c → ⊥
+unfolding timedOut pick
+timeout-differs i c m = rw m (λ e. omega (arith, ap (λ (d : Node). d .last .number) e))
 
 expire-differs : (c : Node) (r : Reaction) → Goes c r → hasOpenCall (c .activity) ≡ true → r .node ≡ c → ⊥
 expire-differs c r (inl g) h e = omega (arith, g, ap (λ (d : Node). d .last .number) e)
@@ -195,24 +227,26 @@ queue-differs a b q r o w d h e = by o h (append-cancel-left (w .before) _ _ (sy
 
 module _ (s : State) where
   -- the event's node has its new record
-  own : (e : Event) → Clear s e → effect s e ≡ s → reactionTo s e .node ≡ nodeAt s (actor e)
+  pub own-record : (e : Event) → Clear s e → nodeAt (effect s e) (actor e) ≡ reactionTo s e .node
   unfolding effect
-  own e c h =
+  own-record e c =
       let k = actor-in (s .n) e (c .number) in
-      sym (getD-set-same (s .nodes) (actor e - 1) (reactionTo s e .node) startingNode (omega (arith, k .0, k .1, in-range-size s (c .in-range) .2)))
-      ∙ ap (λ (u : State). nodeAt u (actor e)) h
+      getD-set-same (s .nodes) (actor e - 1) (reactionTo s e .node) startingNode (omega (arith, k .0, k .1, in-range-size s (c .in-range) .2))
+
+  own : (e : Event) → Clear s e → effect s e ≡ s → reactionTo s e .node ≡ nodeAt s (actor e)
+  own e c h = sym (own-record e c) ∙ ap (λ (u : State). nodeAt u (actor e)) h
 
   others : (a b : ℕ) → not (isNode (s .n) a && isOther (s .n) a b) ≡ false → b ≡ a → ⊥
   others a b q =
       let x : isOther (s .n) a b ≡ true = both-right (isNode (s .n) a) _ (not-false _ q) in
       eqb-false b a (not-true _ (both-right (isNode (s .n) b) _ x))
 
-  differs : (e : Event) → Clear s e → mayRest e ≡ false → effect s e ≡ s → ⊥
+  differs : (e : Event) → Clear s e → mayRest s e ≡ false → effect s e ≡ s → ⊥
   unfolding effect reactionTo react remaining
   differs (Crash i) c m h = true≢false (ap (λ (d : Node). isDown (d .status)) (own (Crash i) c h) ∙ c .status)
   differs (Recover i) c m h = omega (arith, ap (λ (d : Node). d .counter) (own (Recover i) c h))
-  differs (Check i) c m h = true≢false m
-  differs (Timeout i) c m h = true≢false m
+  differs (Check i) c m h = check-differs (s .n) i (nodeAt s i) m (own (Check i) c h)
+  differs (Timeout i) c m h = timeout-differs i (nodeAt s i) m (own (Timeout i) c h)
   differs (Tick i) c m h =
       let k = actor-in (s .n) (Tick i) (c .number) in
       tick-differs (s .n) i (nodeAt s i .group .number) (nodeAt s i .task .number) (nodeAt s i) (nodeAt s i .activity) refl (not-false _ (c .activity)) (node-facts (s .n) i (nodeAt s i) (in-range-node s i (c .in-range) (k .0) (k .1)) .activity) (own (Tick i) c h)
@@ -224,5 +258,10 @@ module _ (s : State) where
   differs (Lose a b) c m h =
       queue-differs a b (s .queue) (withoutOldest a b (s .queue)) Nothing (taken-out a b (s .queue) (not-false _ (c .waiting))) (others a b (c .number)) tt (ap (λ (u : State). u .queue) h)
 
-pub accepted-differs : (s : State) (e : Event) (u : State) (k : Mark) → step s e ≡ accepted u k → mayRest e ≡ false → u ≡ s → ⊥
+pub accepted-differs : (s : State) (e : Event) (u : State) (k : Mark) → step s e ≡ accepted u k → mayRest s e ≡ false → u ≡ s → ⊥
 accepted-differs s e u k q m h = let a = accepted-is s e u k q in differs s e (a .clear) m (sym (a .state) ∙ h)
+
+-- a reply to the open call changes the node
+pub reply-taken : (n i : ℕ) (c : Node) (m : Message) → m .kind ≡ 6 → m .call .number ≡ c .last .number → hasOpenCall (c .activity) ≡ true → received n i c m .node ≡ c → ⊥
+unfolding received onReply pick
+reply-taken n i c m k z h = rw (k, eq-eqb _ _ z) (expire-differs c (resumed n i c (m .yes) (c .activity)) (resume-goes n i c (m .yes) (c .activity) h) h)

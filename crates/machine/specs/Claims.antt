@@ -7,7 +7,7 @@ use Rattle.model.specs.Limits.{nodeLimit}
 use Rattle.model.specs.State.{State, nodeAt, inRange, view}
 use Rattle.model.specs.Step.{actor, reactionTo, forms, accepted, step, runFrom, run}
 use Rattle.model.specs.History.{NotFormed, NoTask, Task, newest, coming, history}
-use Rattle.model.specs.Claims.{isActive, Lacks}
+use Rattle.model.specs.Claims.{isActive, Lacks, Fixes, EachGroup}
 use Rattle.model.specs.declared.Status.the-variants.{Normal}
 use Rattle.model.specs.declared.TaskNo.{TaskNo}
 use Rattle.model.specs.declared.Mark.{Mark}
@@ -19,20 +19,21 @@ use Rattle.model.specs.declared.Answer.the-variants.{Accepted}
 use Rattle.machine.specs.declared.Start.{Start}
 use Rattle.machine.specs.Stepped.{Stepped, Begun}
 
--- Of any outcome that meets `Stepped`: the code answers Accepted exactly where the model accepts.
-pub record AcceptedAlike (t : Table) (e : Event) (r : Outcome) : Type 0 where
-  -- and then the table and the mark are the model's
-  pub model-accepts : r .answer ≡ Accepted → step (view t) e ≡ accepted (view (r .table)) (reactionTo (view t) e .mark)
-  pub code-accepts : (u : State) (k : Mark) → step (view t) e ≡ accepted u k → r .answer ≡ Accepted
+-- Of any outcome that meets `Stepped`, what `step` and `apply` promise: the code answers Accepted exactly where the model accepts.
+pub record AcceptedAlike : Type 0 where
+  -- and then the table, as `view` takes it, and the mark are the model's
+  pub model-accepts : {t : Table} {e : Event} {r : Outcome} → Stepped t e r → r .answer ≡ Accepted → step (view t) e ≡ accepted (view (r .table)) (reactionTo (view t) e .mark)
+  pub code-accepts : {t : Table} {e : Event} {r : Outcome} → Stepped t e r → (u : State) (k : Mark) → step (view t) e ≡ accepted u k → r .answer ≡ Accepted
 
--- There is one answer and one table that meet `Stepped`: of any two outcomes that meet it for the same table and event.
-pub record SteppedAlike (r q : Outcome) : Type 0 where
-  pub answer : r .answer ≡ q .answer
-  pub table : view (r .table) ≡ view (q .table)
-  -- and all places, after a refusal
-  pub same : (r .answer ≡ Accepted → ⊥) → r .table ≡ q .table
+-- Of any two outcomes that meet `Stepped` for the same table and event: one answer meets it, and one table as `view` takes it; after a refusal, one table with all
+-- its places. What an accepted event leaves past the n records and the waiting messages is free.
+pub record SteppedAlike : Type 0 where
+  pub answer : {t : Table} {e : Event} {r q : Outcome} → Stepped t e r → Stepped t e q → r .answer ≡ q .answer
+  pub table : {t : Table} {e : Event} {r q : Outcome} → Stepped t e r → Stepped t e q → view (r .table) ≡ view (q .table)
+  pub same : {t : Table} {e : Event} {r q : Outcome} → Stepped t e r → Stepped t e q → (r .answer ≡ Accepted → ⊥) → r .table ≡ q .table
 
--- a group is formed in e, on the table t: e's node recovers or merges in it
+-- What e's node does on the table t, if e is accepted, forms a group: it recovers or merges. Of a refused event it says nothing: where it is used, the answer is
+-- Accepted.
 abbrev pub isForming : Table → Event → Bool
 isForming t e = forms (reactionTo (view t) e .mark)
 
@@ -55,8 +56,8 @@ pub record CodeRuns (chain : Chain) : Type 0 where
   -- and so they are in range
   pub in-range : (n : ℕ) → 1 ≤ n → n ≤ nodeLimit → (es : List Event) (t : Table) → Reached chain n es t → inRange (view t) ≡ true
 
--- Demand 3 of the tables that the code returned: each field is that of `RunFixes` (model/specs/Claims), of them. t is any table that events led to; u is the one
--- on which e is answered with r, and accepted; in `fresh`, fs led from t to u.
+-- Demand 3 of the tables that the code returned: each field but the last is that of `RunFixes` (model/specs/Claims), of them, and the last is that of
+-- `TaskFromList`. t is any table that events led to; u is the one on which e is answered with r, and accepted; in `fresh`, fs led from t to u.
 pub record CodeFixes (chain : Chain) (n : ℕ) : Type 0 where
   -- two nodes in Reorganization or Normal with the same group have the same coordinator
   pub same-coordinator : {es : List Event} {t : Table} → Reached chain n es t → (i j : ℕ) → 1 ≤ i → i ≤ n → 1 ≤ j → j ≤ n
@@ -66,6 +67,11 @@ pub record CodeFixes (chain : Chain) (n : ℕ) : Type 0 where
   -- "The book's task is the one the list fixed": a Normal node's task, in any table of the chain, is the task that the whole list's history has for its group
   pub fixed-task : {es : List Event} {t : Table} → Reached chain n es t → (fs : List Event) (i : ℕ) → 1 ≤ i → i ≤ n → nodeAt (view t) i .status ≡ Normal
       → history n (es ++ fs) .entry (nodeAt (view t) i .group .number) ≡ Task (nodeAt (view t) i .task .number)
+  -- so two Normal nodes with the same group have the same task
+  pub same-task : {es : List Event} {t : Table} → Reached chain n es t → (i j : ℕ) → 1 ≤ i → i ≤ n → 1 ≤ j → j ≤ n
+      → nodeAt (view t) i .status ≡ Normal → nodeAt (view t) j .status ≡ Normal
+      → nodeAt (view t) i .group .number ≡ nodeAt (view t) j .group .number
+      → nodeAt (view t) i .task .number ≡ nodeAt (view t) j .task .number
   -- "A new group gets the book's number"
   pub numbered : {es : List Event} {u : Table} {e : Event} {r : Outcome} → Reached chain n es u → Stepped u e r → r .answer ≡ Accepted → isForming u e ≡ true
       → nodeAt (view (r .table)) (actor e) .group .number ≡ coming (history n es) (actor e)
@@ -75,10 +81,20 @@ pub record CodeFixes (chain : Chain) (n : ℕ) : Type 0 where
   -- and no other group is new: where no group is formed, the table before held each node's group, in a node or a message
   pub borrowed : {es : List Event} {u : Table} {e : Event} {r : Outcome} → Reached chain n es u → Stepped u e r → r .answer ≡ Accepted → isForming u e ≡ false
       → (j : ℕ) → 1 ≤ j → j ≤ n → Lacks (view u) (nodeAt (view (r .table)) j .group .number) → ⊥
+  -- and where a message carries a group that the table before did not hold, it is the one that the event forms
+  pub borrowed-messages : {es : List Event} {u : Table} {e : Event} {r : Outcome} → Reached chain n es u → Stepped u e r → r .answer ≡ Accepted
+      → EachGroup (λ g. Lacks (view u) g → (isForming u e ≡ true) × (g ≡ coming (history n es) (actor e))) (view (r .table) .queue)
   -- "no group ever gets a second task": a group that is formed was not formed before, and a group that gets its task by a finish has none
   pub formed-once : {es : List Event} {u : Table} {e : Event} {r : Outcome} → Reached chain n es u → Stepped u e r → r .answer ≡ Accepted → isForming u e ≡ true
       → history n es .entry (coming (history n es) (actor e)) ≡ NotFormed
   pub given-once : {es : List Event} {u : Table} {i : ℕ} {x : TaskNo} {r : Outcome} → Reached chain n es u → Stepped u (Finish i x) r → r .answer ≡ Accepted
       → history n es .entry (newest (history n es) i) ≡ NoTask
+  -- "the group that i formed last" is the one that the table has for i
+  pub own-group : {es : List Event} {u : Table} {i : ℕ} {x : TaskNo} {r : Outcome} → Reached chain n es u → Stepped u (Finish i x) r → r .answer ≡ Accepted
+      → nodeAt (view u) i .group .number ≡ newest (history n es) i
   -- and a task once given stays, whatever events come next
   pub lasts : (es fs : List Event) (g x : ℕ) → history n es .entry g ≡ Task x → history n (es ++ fs) .entry g ≡ Task x
+  -- without the history: a Normal node's task is the solo task of a recovery in the list that formed its group, or else the task of an accepted finish in the
+  -- list for that group. That there is one such event only is said of the list alone, by `TaskFromList`.
+  pub from-list : {es : List Event} {t : Table} → Reached chain n es t → (i : ℕ) → 1 ≤ i → i ≤ n → nodeAt (view t) i .status ≡ Normal
+      → Fixes n es (nodeAt (view t) i .group .number) (nodeAt (view t) i .task .number)

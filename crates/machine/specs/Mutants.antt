@@ -1,21 +1,23 @@
 -- "Try these impostors", and "Wrong turnings in this protocol": what no machine does that meets `Stepped` (mutant: 01's impostor). A machine is here whatever
 -- answers an event e on a table t with an outcome r, as a function f from tables and events does with f t e; nothing is asked of how it comes to r, so it may also
--- remember. Each field takes as little of the
--- mutant's behaviour as shuts it out: one event, and one thing that is wrong then. The proofs are in proofs/Mutants.
+-- remember. Each field takes as little of the mutant's behaviour as shuts it out: one event, and one thing that is wrong then. The proofs are in proofs/Mutants.
 use Prim.Native.Nat.{ℕ, _-_, _≤_}
-use mathlib.Core.Bool.{Bool, true, false, _||_}
+use mathlib.Core.Bool.{Bool, true, false, not, _&&_, _||_}
 use mathlib.Core.Path.{_≡_}
 use mathlib.Core.List.{List, [], _∷_, _++_}
-use lib.Dec.{eqb}
-use lib.ListN.{length, replicate}
+use lib.Dec.{eqb, ltb}
 use Rattle.node_set.specs.NodeSet.{has}
-use Rattle.model.specs.Limits.{nodeLimit, queueLimit, counterEnd}
-use Rattle.model.specs.Node.{isDown, replies}
-use Rattle.model.specs.State.{State, startingNode, nodeAt, noMessage, waits, oldest, inRange, view}
+use Rattle.model.specs.Limits.{nodeLimit, counterEnd}
+use Rattle.model.specs.Node.{isDown, hasOpenCall, replies}
+use Rattle.model.specs.React.{leads}
+use Rattle.model.specs.State.{State, nodeAt, waits, oldest, inRange, view, tableOf}
+use Rattle.model.specs.Step.{actor, reactionTo}
 use Rattle.model.specs.Answers.{answerNumber}
-use Rattle.model.specs.Claims.{isActive}
+use Rattle.model.specs.Claims.{isActive, Lacks}
+use Rattle.model.specs.Cases.{setOf, none}
+use Rattle.model.specs.declared.Mark.the-variants.{Merges}
 use Rattle.model.specs.declared.Status.{Status}
-use Rattle.model.specs.declared.Status.the-variants.{Down, Reorganization, Normal}
+use Rattle.model.specs.declared.Status.the-variants.{Reorganization, Normal}
 use Rattle.model.specs.declared.Activity.{Activity}
 use Rattle.model.specs.declared.Activity.the-variants.{Idle, Asking, Waiting, Inviting, Collecting, Handing, Contacting, Forwarding, Accepting}
 use Rattle.model.specs.declared.Node.{Node}
@@ -27,18 +29,9 @@ use Rattle.model.specs.declared.Outcome.{Outcome}
 use Rattle.model.specs.declared.Answer.the-variants.{Accepted, QueueFull}
 use Rattle.machine.specs.Stepped.{Stepped, startingTable}
 use Rattle.machine.specs.Folded.{Folded}
-use Rattle.machine.specs.Claims.{Reached}
+use Rattle.machine.specs.Claims.{isForming, Reached}
 
 -- ── tables to try them on ──
-
--- the code's table that means the state s, of at most 16 nodes and 64 messages; its other places are blank
-abbrev pub tableOf : State → Table
-tableOf s = record {
-  n = s .n;
-  nodes = s .nodes ++ replicate (nodeLimit - length (s .nodes)) startingNode;
-  messages = s .queue ++ replicate (queueLimit - length (s .queue)) noMessage;
-  waiting = length (s .queue);
-}
 
 -- a node's record: status, counter, group, coordinator, task, members, last call number, activity
 abbrev pub node : Status → ℕ → ℕ → ℕ → ℕ → ℕ → ℕ → Activity → Node
@@ -54,24 +47,27 @@ node s k g o t m l a = record {
 }
 
 -- node 1 leads node 2, has found node 3, and merges at the next tick
-abbrev pub merging : State
-merging = record {
+abbrev pub mergingTable : State
+mergingTable = record {
   n = 3;
-  nodes = node Normal 2 32 1 100 2 5 (Waiting 1 4) ∷ node Normal 1 32 1 100 0 2 Idle ∷ node Normal 1 18 3 3 0 0 Idle ∷ [];
+  nodes = node Normal 2 32 1 100 (setOf (2 ∷ [])) 5 (Waiting 1 (setOf (3 ∷ []))) ∷ node Normal 1 32 1 100 none 2 Idle ∷ node Normal 1 18 3 3 none 0 Idle ∷ [];
   queue = [];
 }
 
 -- node 3 hands Ready to node 1, and node 2 is still to get it
-abbrev pub handing : State
-handing = record {
+abbrev pub handingTable : State
+handingTable = record {
   n = 3;
-  nodes = node Reorganization 1 50 3 1 0 2 Idle ∷ node Reorganization 1 50 3 2 0 2 Idle ∷ node Reorganization 3 50 3 100 3 5 (Handing 2 1) ∷ [];
+  nodes = node Reorganization 1 50 3 1 none 2 Idle
+      ∷ node Reorganization 1 50 3 2 none 2 Idle
+      ∷ node Reorganization 3 50 3 100 (setOf (1 ∷ 2 ∷ [])) 5 (Handing (setOf (2 ∷ [])) 1)
+      ∷ [];
   queue = [];
 }
 
--- an invitation of node 2 to node 1's group 32 that says the task 200 too
-abbrev pub invitation : Message
-invitation = record {
+-- an invitation to node 2, into node 1's group 32, that says the task 200 too
+abbrev pub taskedInvitation : Message
+taskedInvitation = record {
   sender = 1;
   receiver = 2;
   kind = 3;
@@ -81,21 +77,23 @@ invitation = record {
   yes = false;
 }
 
--- node 2 leads node 1, and is invited
-abbrev pub invited : State
-invited = record {
+-- node 2 leads its group 33, with node 1 in its members; node 1 has left it for its own group 32, and invites node 2
+abbrev pub invitedTable : State
+invitedTable = record {
   n = 2;
-  nodes = node Normal 2 32 1 1 0 3 Idle ∷ node Normal 2 33 2 100 1 2 Idle ∷ [];
-  queue = invitation ∷ [];
+  nodes = node Normal 2 32 1 1 none 3 Idle ∷ node Normal 2 33 2 100 (setOf (1 ∷ [])) 2 Idle ∷ [];
+  queue = taskedInvitation ∷ [];
 }
 
--- node 1 asks node 2 by its call 5
-abbrev pub asking : List Message → State
-asking q = record {
+-- node 1 asks node 2 by its call 5, and the messages q wait
+abbrev pub askingTable : List Message → State
+askingTable q = record {
   n = 3;
-  nodes = node Normal 1 16 1 1 0 5 (Asking 2 0) ∷ node Normal 1 17 2 2 0 0 Idle ∷ node Normal 1 18 3 3 0 0 Idle ∷ [];
+  nodes = node Normal 1 16 1 1 none 5 (Asking 2 none) ∷ node Normal 1 17 2 2 none 0 Idle ∷ node Normal 1 18 3 3 none 0 Idle ∷ [];
   queue = q;
 }
+
+-- ── tests ──
 
 -- whom an inviting node invites: now, or still
 abbrev pub invites : Activity → ℕ → Bool
@@ -109,17 +107,30 @@ invites Contacting j = false
 invites (Forwarding rest now caller call) j = false
 invites (Accepting caller call) j = false
 
--- the events that may be accepted and change nothing: check ("Otherwise, or with n = 1, nothing changes") and timeout ("if its own coordinator, nothing changes")
-abbrev pub mayRest : Event → Bool
-mayRest (Crash i) = false
-mayRest (Recover i) = false
-mayRest (Check i) = true
-mayRest (Timeout i) = true
-mayRest (Tick i) = false
-mayRest (Expire i) = false
-mayRest (Finish i t) = false
-mayRest (Deliver a b) = false
-mayRest (Lose a b) = false
+-- "Handing, accepting, contacting: it recovers and nothing further of the procedure runs": whether an expire ends in a recovery
+abbrev pub recoversAtExpire : Activity → Bool
+recoversAtExpire Idle = false
+recoversAtExpire (Asking asked found) = false
+recoversAtExpire (Waiting ticks found) = false
+recoversAtExpire (Inviting found former now) = false
+recoversAtExpire Collecting = false
+recoversAtExpire (Handing rest now) = true
+recoversAtExpire Contacting = true
+recoversAtExpire (Forwarding rest now caller call) = false
+recoversAtExpire (Accepting caller call) = true
+
+-- Where an accepted event changes nothing: "check i: if Normal and its own coordinator, it asks .. Otherwise, or with n = 1, nothing changes", "timeout i: if its
+-- own coordinator, nothing changes".
+abbrev pub mayRest : State → Event → Bool
+mayRest s (Crash i) = false
+mayRest s (Recover i) = false
+mayRest s (Check i) = not (leads i (nodeAt s i) && ltb 1 (s .n))
+mayRest s (Timeout i) = eqb (nodeAt s i .coordinator) i
+mayRest s (Tick i) = false
+mayRest s (Expire i) = false
+mayRest s (Finish i t) = false
+mayRest s (Deliver a b) = false
+mayRest s (Lose a b) = false
 
 -- ── the impostors ──
 
@@ -131,8 +142,8 @@ pub record Moves (t : Table) (e : Event) : Type 0 where
 pub record NoMutant : Type 0 where
   -- "a machine that turns every event away", "one that returns the same table always": not at the first event, where it is a recovery
   pub first-moves : (n i : ℕ) → n ≤ nodeLimit → 1 ≤ i → i ≤ n → Moves (startingTable n) (Recover i)
-  -- "one that answers 'accepted' and moves nothing": at no event on no table
-  pub accepted-still : (t : Table) (e : Event) {r : Outcome} → mayRest e ≡ false → Stepped t e r → r .answer ≡ Accepted → view (r .table) ≡ view t → ⊥
+  -- "one that answers 'accepted' and moves nothing": not at any event on any table, but where 01 says that nothing changes
+  pub accepted-still : (t : Table) (e : Event) {r : Outcome} → mayRest (view t) e ≡ false → Stepped t e r → r .answer ≡ Accepted → view (r .table) ≡ view t → ⊥
   -- "one that works on the first event and then idles": in every table in range, whatever came before it, a node that is up can crash, and one that is Down can
   -- recover until its counter is at its end
   pub crash-moves : (t : Table) (i : ℕ) → inRange (view t) ≡ true → 1 ≤ i → i ≤ t .n → isDown (nodeAt (view t) i .status) ≡ false → Moves t (Crash i)
@@ -157,14 +168,21 @@ pub record NoMutant : Type 0 where
 pub record NoWrongTurning : Type 0 where
   -- "Clearing the counter at a crash": in no table
   pub clears-counter : (t : Table) (i : ℕ) {r : Outcome} → Stepped t (Crash i) r → (nodeAt (view (r .table)) i .counter ≡ nodeAt (view t) i .counter → ⊥) → ⊥
-  -- ": an old group number returns": group 16, which node 1 had first
-  pub group-returns : {u : Table} → Folded (startingTable 2) (Recover 1 ∷ Crash 1 ∷ Recover 1 ∷ []) u → nodeAt (view u) 1 .group .number ≡ 16 → ⊥
-  -- "Emptying members before they are set aside: old members get no invitation": where a node merges at its last tick, having found one, each old member j is
-  -- among those it invites, in every table
-  pub empties-members : (t : Table) (i j found : ℕ) → nodeAt (view t) i .activity ≡ Waiting 1 found → (found ≡ 0 → ⊥) → has (nodeAt (view t) i .members) j ≡ true
+  -- ": an old group number returns": in no run; of the group that e's node forms, accepted on the table u, no table t before holds the number
+  pub group-returns : (n : ℕ) → n ≤ nodeLimit → {es fs : List Event} {t u : Table} → Reached Folded n es t → Folded t fs u
+      → {e : Event} {r : Outcome} → Stepped u e r → r .answer ≡ Accepted → isForming u e ≡ true
+      → (Lacks (view t) (nodeAt (view (r .table)) (actor e) .group .number) → ⊥) → ⊥
+  -- for one: group 16, which node 1 had first
+  pub returns-one : {u : Table} → Folded (startingTable 2) (Recover 1 ∷ Crash 1 ∷ Recover 1 ∷ []) u → nodeAt (view u) 1 .group .number ≡ 16 → ⊥
+  -- "Emptying members before they are set aside: old members get no invitation": where a node merges, at any accepted event in any table, each old member j is
+  -- among those it invites
+  pub empties-members : (t : Table) (e : Event) (j : ℕ) → reactionTo (view t) e .mark ≡ Merges → 1 ≤ j → has (nodeAt (view t) (actor e) .members) j ≡ true
+      → {r : Outcome} → Stepped t e r → r .answer ≡ Accepted → invites (nodeAt (view (r .table)) (actor e) .activity) j ≡ false → ⊥
+  -- so where it merges at its last tick
+  pub empties-last-tick : (t : Table) (i j found : ℕ) → nodeAt (view t) i .activity ≡ Waiting 1 found → 1 ≤ j → has (nodeAt (view t) i .members) j ≡ true
       → {r : Outcome} → Stepped t (Tick i) r → r .answer ≡ Accepted → invites (nodeAt (view (r .table)) i .activity) j ≡ false → ⊥
   -- for one: node 2, by node 1
-  pub empties-one : {r : Outcome} → Stepped (tableOf merging) (Tick 1) r → invites (nodeAt (view (r .table)) 1 .activity) 2 ≡ false → ⊥
+  pub empties-one : {r : Outcome} → Stepped (tableOf mergingTable) (Tick 1) r → invites (nodeAt (view (r .table)) 1 .activity) 2 ≡ false → ⊥
   -- "Taking the task with the invitation": whoever gets an invitation keeps its task, in every table; and after it, it is in Reorganization or Normal only where
   -- nothing of it changed
   pub takes-task : (t : Table) (a b : ℕ) → oldest a b (view t .queue) .kind ≡ 3 → {r : Outcome} → Stepped t (Deliver a b) r
@@ -172,18 +190,32 @@ pub record NoWrongTurning : Type 0 where
   pub active-early : (t : Table) (a b : ℕ) → oldest a b (view t .queue) .kind ≡ 3 → {r : Outcome} → Stepped t (Deliver a b) r
       → isActive (nodeAt (view (r .table)) b .status) ≡ true → (nodeAt (view (r .table)) b ≡ nodeAt (view t) b → ⊥) → ⊥
   -- for one: node 2 keeps its task 100, though the invitation says 200, and is not Normal in the new group
-  pub takes-one : {r : Outcome} → Stepped (tableOf invited) (Deliver 1 2) r → (nodeAt (view (r .table)) 2 .task .number ≡ 100 → ⊥) → ⊥
-  pub active-one : {r : Outcome} → Stepped (tableOf invited) (Deliver 1 2) r → isActive (nodeAt (view (r .table)) 2 .status) ≡ true → ⊥
-  -- "Sending Ready on after a recovery, under the new group": when the call of a handing node expires, nothing is sent, in no table
-  pub hands-on : (t : Table) (i rest now : ℕ) → nodeAt (view t) i .activity ≡ Handing rest now → {r : Outcome} → Stepped t (Expire i) r → (view (r .table) .queue ≡ view t .queue → ⊥) → ⊥
-  -- nor later: node 3 has no open call then
-  pub hands-later : {r : Outcome} → Stepped (tableOf handing) (Expire 3) r → (nodeAt (view (r .table)) 3 .activity ≡ Idle → ⊥) → ⊥
+  pub takes-one : {r : Outcome} → Stepped (tableOf invitedTable) (Deliver 1 2) r → (nodeAt (view (r .table)) 2 .task .number ≡ 100 → ⊥) → ⊥
+  pub active-one : {r : Outcome} → Stepped (tableOf invitedTable) (Deliver 1 2) r → isActive (nodeAt (view (r .table)) 2 .status) ≡ true → ⊥
+  -- "Sending Ready on after a recovery, under the new group": when the call of a handing node expires, or of an accepting or contacting one, nothing is sent, in
+  -- any table
+  pub hands-on : (t : Table) (i : ℕ) → recoversAtExpire (nodeAt (view t) i .activity) ≡ true → {r : Outcome} → Stepped t (Expire i) r → (view (r .table) .queue ≡ view t .queue → ⊥) → ⊥
+  -- nor later: it is idle then
+  pub hands-later : (t : Table) (i : ℕ) → recoversAtExpire (nodeAt (view t) i .activity) ≡ true → {r : Outcome} → Stepped t (Expire i) r → r .answer ≡ Accepted
+      → (nodeAt (view (r .table)) i .activity ≡ Idle → ⊥) → ⊥
+  -- for one: node 3
+  pub hands-one : {r : Outcome} → Stepped (tableOf handingTable) (Expire 3) r → (nodeAt (view (r .table)) 3 .activity ≡ Idle → ⊥) → ⊥
   -- "Matching a reply by its sender instead of its call number": a reply with another number than the last call's changes nothing of the node, in every table
   pub takes-older : (t : Table) (a b : ℕ) → oldest a b (view t .queue) .kind ≡ 6 → (oldest a b (view t .queue) .call .number ≡ nodeAt (view t) b .last .number → ⊥)
       → {r : Outcome} → Stepped t (Deliver a b) r → (nodeAt (view (r .table)) b ≡ nodeAt (view t) b → ⊥) → ⊥
   -- for one (K9): an older reply of the very node asked
-  pub older-one : {r : Outcome} → Stepped (tableOf (asking (replies 2 1 (record { number = 4 }) true ∷ []))) (Deliver 2 1) r
-      → (nodeAt (view (r .table)) 1 ≡ nodeAt (asking []) 1 → ⊥) → ⊥
-  -- and a reply with the open call's number is taken, whoever sent it
-  pub drops-other : {r : Outcome} → Stepped (tableOf (asking (replies 3 1 (record { number = 5 }) true ∷ []))) (Deliver 3 1) r
-      → nodeAt (view (r .table)) 1 .activity ≡ Asking 2 0 → ⊥
+  pub older-one : {r : Outcome} → Stepped (tableOf (askingTable (replies 2 1 (record { number = 4 }) true ∷ []))) (Deliver 2 1) r
+      → (nodeAt (view (r .table)) 1 ≡ nodeAt (askingTable []) 1 → ⊥) → ⊥
+  -- and a reply with the open call's number is taken, whoever sent it, in every table: something of the node changes
+  pub drops-other : (t : Table) (a b : ℕ) → oldest a b (view t .queue) .kind ≡ 6 → oldest a b (view t .queue) .call .number ≡ nodeAt (view t) b .last .number
+      → hasOpenCall (nodeAt (view t) b .activity) ≡ true → {r : Outcome} → Stepped t (Deliver a b) r → r .answer ≡ Accepted
+      → nodeAt (view (r .table)) b ≡ nodeAt (view t) b → ⊥
+  -- and what it changes is the same whoever sent it: node b, the same in the tables t and u, gets the same reply from a in t and from d in u
+  pub by-sender : (t u : Table) (a b d : ℕ) → t .n ≡ u .n → nodeAt (view t) b ≡ nodeAt (view u) b
+      → oldest a b (view t .queue) .kind ≡ 6 → oldest d b (view u .queue) .kind ≡ 6
+      → oldest a b (view t .queue) .call .number ≡ oldest d b (view u .queue) .call .number → oldest a b (view t .queue) .yes ≡ oldest d b (view u .queue) .yes
+      → {r q : Outcome} → Stepped t (Deliver a b) r → r .answer ≡ Accepted → Stepped u (Deliver d b) q → q .answer ≡ Accepted
+      → (nodeAt (view (r .table)) b ≡ nodeAt (view (q .table)) b → ⊥) → ⊥
+  -- for one: node 3's reply to the call on which node 2 is asked
+  pub other-one : {r : Outcome} → Stepped (tableOf (askingTable (replies 3 1 (record { number = 5 }) true ∷ []))) (Deliver 3 1) r
+      → nodeAt (view (r .table)) 1 .activity ≡ Asking 2 none → ⊥

@@ -73,7 +73,7 @@ placeFor q (Finish i t) = length q
 placeFor q (Deliver a b) = place a b q
 placeFor q (Lose a b) = place a b q
 
--- the state with node i's record c, the message at k out, and what is sent in
+-- the state after the reaction r: r's record stored at place `at`, the message at place k out, and what is sent in
 abbrev pub stored : State → ℕ → ℕ → Reaction → State
 stored s k at r = record { n = s .n; nodes = set (s .nodes) at (r .node); queue = without k (s .queue) ++ sent (r .outgoing) }
 

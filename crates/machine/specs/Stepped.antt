@@ -1,7 +1,6 @@
 -- What the public functions promise, by the definitions of `model`.
-use Prim.Native.Nat.{ℕ, _≤_}
+use Prim.Native.Nat.{ℕ}
 use mathlib.Core.Path.{_≡_}
-use mathlib.Core.Bool.{Bool, true, false}
 use lib.ListN.{replicate}
 use Rattle.model.specs.Pick.{pick}
 use Rattle.model.specs.Limits.{nodeLimit, queueLimit}
@@ -10,7 +9,6 @@ use Rattle.model.specs.Step.{step, after}
 use Rattle.model.specs.Answers.{answerNumber, resultNumber}
 use Rattle.model.specs.declared.Table.{Table}
 use Rattle.model.specs.declared.Event.{Event}
-use Rattle.model.specs.declared.Answer.{Answer}
 use Rattle.model.specs.declared.Answer.the-variants.{Accepted}
 use Rattle.model.specs.declared.Outcome.{Outcome}
 use Rattle.machine.specs.declared.StartAnswer.{StartAnswer}
@@ -35,10 +33,11 @@ startNumber WrongCount = 6
 abbrev pub startingTable : ℕ → Table
 startingTable n = record { n = n; nodes = replicate nodeLimit startingNode; messages = replicate queueLimit noMessage; waiting = 0 }
 
--- what a starting table of n nodes is answered with: refusal 6, or none; and the table, which is the same beside a refusal
+-- What `starting` answers for n, and the table that it returns, also where it refuses n.
 pub record Begun (n : ℕ) (r : Start) : Type 0 where
+  -- refusal 6, or none
   pub answer : startNumber (r .answer) ≡ pick (wrongCount n) 6 0
-  -- it is the model's
-  pub table : view (r .table) ≡ start n
-  -- and nothing of it is free
+  -- the table in all its places
   pub exact : r .table ≡ startingTable n
+  -- so it is the model's
+  pub table : view (r .table) ≡ start n

@@ -45,7 +45,7 @@ FitsInput Expire = Unit {0}
 FitsInput (Finish t) = Unit {0}
 FitsInput (Receive m) = FitsSender m
 
--- What is in range, among n nodes, has it.
+-- What is in range, among n nodes (n up to 16), has it.
 pub record RangeFits (n : ℕ) : Type 0 where
   pub node : (i : ℕ) (c : Node) → 1 ≤ i → i ≤ n → nodeInRange n i c ≡ true → Fits i c
   pub message : (m : Message) → messageInRange n m ≡ true → FitsSender m

@@ -1,24 +1,29 @@
 -- The run behind a printed text: for any bytes at all whose first field is good.
-use Prim.Native.Nat.{ℕ, _≤_}
+use Prim.Native.Nat.{ℕ, zero, suc, _+_, _-_, _≤_, _<_}
 use native.Mathlib.Omega.{arith}
 use mathlib.Core.Path.{_≡_, refl, sym, _∙_, ap}
-use mathlib.Core.Bool.{true}
-use mathlib.Core.List.{List, append-nil}
+use mathlib.Core.List.{List, [], _∷_, _++_, append-assoc}
+use lib.ListN.{length, getD, take, drop}
 use Rattle.model.specs.Limits.{nodeLimit}
-use Rattle.model.specs.State.{nodeAt}
+use Rattle.model.specs.State.{startingNode, start, nodeAt}
 use Rattle.model.specs.Step.{run}
-use Rattle.model.specs.History.{Entry, Task, history}
+use Rattle.model.specs.History.{Task}
 use Rattle.model.specs.Claims.{isActive, RunFixes}
 use Rattle.model.specs.declared.Event.{Event}
-use Rattle.model.specs.declared.Status.{Status}
+use Rattle.model.specs.declared.Node.{Node}
 use Rattle.model.specs.declared.Status.the-variants.{Normal}
 use Rattle.model.proofs.Whole.{run-fixes}
+use Rattle.model.proofs.Fixed.{task-from-list}
+use Rattle.model.proofs.Fields.{in-range-size}
+use Rattle.model.proofs.InRange.{stays-in-range}
+use Rattle.machine.proofs.Runs.{run-nodes}
 use Rattle.event_list.specs.declared.First.{First}
 use Rattle.event_list.specs.declared.First.the-variants as First
-use Rattle.event_list.specs.Format.{firstOf, Reading, Listed, failed, begun, listed, reading}
+use Rattle.event_list.specs.Format.{firstOf, Reading, begun, listed, reading}
 use Rattle.event_list.proofs.Reading.{first-good}
-use Rattle.run_list.specs.Text.{linesOf}
-use Rattle.run_list.specs.Claims.{Behind}
+use Rattle.listing.specs.Lines.{cabinetsLine, nodeLine, messagesLine, nodeLines, tableLines}
+use Rattle.run_list.specs.Text.{refusedLines, endingLines, runLines, linesOf}
+use Rattle.run_list.specs.Claims.{linesBefore, linesBehind, Behind}
 
 nodes-good : (l : List ℕ) (n : ℕ) (r : Reading) → reading l ≡ begun n r → (1 ≤ n) × (n ≤ nodeLimit)
 unfolding reading
@@ -27,6 +32,40 @@ nodes-good l n r e = by (firstOf l) refl e
     by : (x : First) → x ≡ firstOf l → listed l x ≡ begun n r → (1 ≤ n) × (n ≤ nodeLimit)
     by (First.Stopped s) i f = let z : _≡_ {A = ℕ} 0 1 = cc in absurd (omega arith)
     by (First.Nodes m) i f = let g = first-good l i refl in let z : m ≡ n = cc in (rw z at (g .2), rw z at (g .3))
+
+-- the line of the record at j, among those of records of which the first is node k
+line-at : (k : ℕ) (cs : List Node) (j : ℕ) → j < length cs
+    → nodeLines k cs ≡ nodeLines k (take j cs) ++ (nodeLine (k + j) (getD cs j startingNode) ∷ nodeLines (k + j + 1) (drop (suc j) cs))
+unfolding nodeLines
+line-at k [] j h = absurd (omega arith)
+line-at k (c ∷ cs) zero h = let z : k + 0 ≡ k = omega arith in rw z refl
+line-at k (c ∷ cs) (suc j) h =
+    let z : k + 1 + j ≡ k + suc j = omega arith in
+    ap (λ (x : List (List ℕ)). nodeLine k c ∷ x) (line-at (k + 1) cs j (omega arith) ∙ rw z refl)
+
+regrouped : (a b c f m : List (List ℕ)) (d : List ℕ) (x : List (List ℕ)) → x ≡ c ++ (d ∷ f) → a ++ (b ++ (x ++ m)) ≡ (a ++ (b ++ c)) ++ (d ∷ (f ++ m))
+regrouped a b c f m d x e =
+    ap (λ (y : List (List ℕ)). a ++ (b ++ (y ++ m))) e
+    ∙ ap (λ (y : List (List ℕ)). a ++ (b ++ y)) (append-assoc c (d ∷ f) m)
+    ∙ ap (λ (y : List (List ℕ)). a ++ y) (sym (append-assoc b c (d ∷ (f ++ m))))
+    ∙ sym (append-assoc a (b ++ c) (d ∷ (f ++ m)))
+
+-- the line of node i, among all that are printed
+line-of : (n : ℕ) (r : Reading) (i : ℕ) → 1 ≤ n → n ≤ nodeLimit → 1 ≤ i → i ≤ n
+    → cabinetsLine n ∷ runLines (start n) 1 r ≡ linesBefore n r i ++ (nodeLine i (nodeAt (run n (r .events)) i) ∷ linesBehind n r i)
+unfolding tableLines
+line-of n r i low high l h =
+    let s = run n (r .events) in
+    let g = in-range-size s (stays-in-range .runs n low high (r .events)) in
+    let k = run-nodes n (r .events) in
+    let x : 1 + (i - 1) ≡ i = omega arith in
+    let y : suc (i - 1) ≡ i = omega arith in
+    ap (λ (z : List (List ℕ)). cabinetsLine n ∷ z)
+    (regrouped (refusedLines (start n) 1 (r .events)) (endingLines (r .ending)) (nodeLines 1 (take (i - 1) (s .nodes))) (nodeLines (i + 1) (drop i (s .nodes)))
+    (messagesLine (length (s .queue)) ∷ []) (nodeLine i (nodeAt s i)) (nodeLines 1 (s .nodes))
+    (line-at 1 (s .nodes) (i - 1) (omega (arith, l, h, k, g .2))
+    ∙ ap (λ (z : ℕ). nodeLines 1 (take (i - 1) (s .nodes)) ++ (nodeLine z (nodeAt s i) ∷ nodeLines (z + 1) (drop (suc (i - 1)) (s .nodes)))) x
+    ∙ ap (λ (z : ℕ). nodeLines 1 (take (i - 1) (s .nodes)) ++ (nodeLine i (nodeAt s i) ∷ nodeLines (i + 1) (drop z (s .nodes)))) y))
 
 pub behind : (l : List ℕ) (n : ℕ) (r : Reading) → reading l ≡ begun n r → Behind l n r
 unfolding linesOf
@@ -37,7 +76,9 @@ behind l n r e =
       low = g .0;
       high = g .1;
       text = rw e;
+      node-line = λ i l h. rw e (line-of n r i (g .0) (g .1) l h);
       fixes = d;
+      from-list = task-from-list n (g .1);
       agree = λ i j h₁ h₂ k₁ k₂ p q s. (
         d .same-coordinator (r .events) i j h₁ h₂ k₁ k₂ (ap isActive p) (ap isActive q) s,
         same d (r .events) i j h₁ h₂ k₁ k₂ p q s,

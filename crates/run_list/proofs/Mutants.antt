@@ -3,7 +3,7 @@ use Prim.Native.Nat.{ℕ, zero, suc, _+_, _/_, _%_, _≤_}
 use native.Mathlib.Omega.{arith}
 use mathlib.Core.Path.{_≡_, refl, sym, _∙_, ap}
 use mathlib.Core.Bool.{Bool}
-use mathlib.Core.List.{List, [], _∷_, _++_}
+use mathlib.Core.List.{List, [], _∷_, _++_, append-assoc, append-cancel-left}
 use lib.Dec.{ltb}
 use lib.ListN.{length, getD, drop, length-append}
 use borrow.Author.Tests.{le-leb, ltb-true}
@@ -11,9 +11,11 @@ use Rattle.model.specs.Pick.{pick, by-test, pick-true}
 use lib.Count.{onesIn, ones, leadingZeros, trailingZeros}
 use Rattle.model.specs.Range.{activityInRange, nodeInRange, messageInRange}
 use Rattle.model.specs.React.{react}
-use Rattle.model.specs.State.{every, inRange}
-use Rattle.model.specs.Step.{reactionTo, remaining, effect, grounds, judged, step, runFrom}
-use Rattle.event_list.specs.Format.{lengthOf, cutShort, checked, eventOf, nextAt, nodesOf, firstOf, readFrom, rest, reading}
+use Rattle.model.specs.State.{nodeAt, every, inRange}
+use Rattle.model.specs.Step.{reactionTo, remaining, effect, grounds, judged, step, runFrom, run}
+use Rattle.model.specs.Answers.{statusNumber}
+use Rattle.model.specs.declared.Node.{Node}
+use Rattle.event_list.specs.Format.{lengthOf, cutShort, checked, eventOf, nextAt, nodesOf, firstOf, readFrom, rest, Reading, begun, reading}
 use Rattle.listing.specs.Decimal.{digits, decimal}
 use Rattle.listing.specs.Lines.{row, cabinetsLine, refusedLine, stoppedLine, nodeLine, messagesLine, nodeLines, tableLines}
 use Rattle.listing.specs.Printing.{joined}
@@ -22,7 +24,11 @@ use Rattle.run_list.specs.Text.{noteLines, refusedLines, linesOf, textOf
 use Rattle.event_list.specs.Cases.{nodes, recover}
 use Rattle.listing.specs.Ascii.{bytes}
 use Rattle.run_list.specs.Cases.{k10-list}
-use Rattle.run_list.specs.Mutants.{Holds, by-print, by-whole, NoMutantText}
+use Rattle.run_list.specs.Mutants.{Holds, by-print, by-whole, spaced, beforeCount, NoMutantText}
+use Rattle.listing.proofs.Decimal.{decimal-each}
+use Rattle.listing.proofs.Parted.{each-at, parted}
+use Rattle.run_list.specs.Claims.{linesBefore, linesBehind}
+use Rattle.run_list.proofs.Behind.{behind}
 use Rattle.run_list.proofs.Cases.{list-cases}
 
 -- ── the texts ──
@@ -83,6 +89,62 @@ one-alone k y v =
     (λ t g e. absurd (second (digits 9 (k / 10)) y (48 + k % 10) 49 v (some-digits 8 (k / 10)) g e))
     (all-digits 10 k)
 
+-- ── the count of members, of any list and any node ──
+
+joined-parts : (xs ys : List (List ℕ)) → joined (xs ++ ys) ≡ joined xs ++ joined ys
+unfolding joined
+joined-parts [] ys = refl
+joined-parts (x ∷ xs) ys = ap (λ (z : List ℕ). x ++ z) (joined-parts xs ys) ∙ sym (append-assoc x (joined xs) (joined ys))
+
+-- numbers and a last one
+row-last : (xs : List ℕ) (k : ℕ) → row (xs ++ (k ∷ [])) ≡ spaced xs ++ (bytes " " ++ (decimal k ++ bytes "\n"))
+unfolding row spaced
+row-last [] k = refl
+row-last (x ∷ xs) k =
+    ap (λ (z : List ℕ). bytes " " ++ (decimal x ++ z)) (row-last xs k)
+    ∙ ap (λ (z : List ℕ). bytes " " ++ z) (sym (append-assoc (decimal x) (spaced xs) (bytes " " ++ (decimal k ++ bytes "\n"))))
+
+-- a node's line, the last number apart
+record Counted (i : ℕ) (c : Node) : Type 0 where
+  number : ℕ
+  line : nodeLine i c ≡ beforeCount i c ++ (decimal number ++ (10 ∷ []))
+
+line-counted : (i : ℕ) (c : Node) → Counted i c
+unfolding nodeLine
+line-counted i c = record { number = _; line = parts (decimal i) (statusNumber (c .status) ∷ c .coordinator ∷ c .group .number ∷ c .task .number ∷ c .counter ∷ []) _ }
+  where
+    parts : (a xs : List ℕ) (k : ℕ) → a ++ row (xs ++ (k ∷ [])) ≡ (a ++ (spaced xs ++ bytes " ")) ++ (decimal k ++ (10 ∷ []))
+    parts a xs k =
+        ap (λ (w : List ℕ). a ++ w) (row-last xs k ∙ sym (append-assoc (spaced xs) (bytes " ") (decimal k ++ (10 ∷ []))))
+        ∙ sym (append-assoc a (spaced xs ++ bytes " ") (decimal k ++ (10 ∷ [])))
+
+-- digits end at the line's end
+abbrev Digit : ℕ → Type 0
+Digit b = (48 ≤ b) × (b ≤ 57)
+
+digits-end : (x y : ℕ) (u v : List ℕ) → decimal x ++ (10 ∷ u) ≡ decimal y ++ (10 ∷ v) → decimal x ≡ decimal y
+digits-end x y u v e =
+    parted Digit (decimal x) (decimal y) (each-at Digit (decimal x) (decimal-each x)) (each-at Digit (decimal y) (decimal-each y)) (λ d. omega (arith, d .0)) (λ d. omega (arith, d .0)) e .0
+
+-- p, the line of p's node and bytes z behind it, against p, what comes before the count, the digits of k and bytes y
+counted-same : (i : ℕ) (c : Node) (k : ℕ) (p y z : List ℕ) → p ++ (nodeLine i c ++ z) ≡ p ++ (beforeCount i c ++ (decimal k ++ (10 ∷ y)))
+    → nodeLine i c ≡ beforeCount i c ++ (decimal k ++ (10 ∷ []))
+counted-same i c k p y z e =
+    let q = line-counted i c in
+    let f : beforeCount i c ++ (decimal (q .number) ++ (10 ∷ z)) ≡ beforeCount i c ++ (decimal k ++ (10 ∷ y)) =
+    ap (λ (w : List ℕ). beforeCount i c ++ w) (sym (append-assoc (decimal (q .number)) (10 ∷ []) z))
+    ∙ sym (append-assoc (beforeCount i c) (decimal (q .number) ++ (10 ∷ [])) z)
+    ∙ ap (λ (w : List ℕ). w ++ z) (sym (q .line))
+    ∙ append-cancel-left p _ _ e
+    in
+    q .line ∙ ap (λ (w : List ℕ). beforeCount i c ++ (w ++ (10 ∷ []))) (digits-end (q .number) k z y (append-cancel-left (beforeCount i c) _ _ f))
+
+-- the text of a list up to the line of node i, that line, and the rest
+text-parts : (l : List ℕ) (n : ℕ) (r : Reading) (i : ℕ) → reading l ≡ begun n r → 1 ≤ i → i ≤ n
+    → textOf l ≡ joined (linesBefore n r i) ++ (nodeLine i (nodeAt (run n (r .events)) i) ++ joined (linesBehind n r i))
+unfolding joined
+text-parts l n r i e low high = ap joined (behind l n r e .node-line i low high) ∙ joined-parts (linesBefore n r i) (nodeLine i (nodeAt (run n (r .events)) i) ∷ linesBehind n r i)
+
 pub no-mutant-text : NoMutantText
 no-mutant-text =
     record {
@@ -90,7 +152,16 @@ no-mutant-text =
       same-table = λ o y h e. let t = begins _ o _ h (list-cases .k10) in apart o _ _ 13 51 48 (t .whole) e refl refl (λ z. omega arith);
       idles = λ o y h e. let t = begins _ o _ h (list-cases .k10) in apart o _ _ 15 50 49 (t .whole) e refl refl (λ z. omega arith);
       idles-last = λ o y h e. let t = begins _ o _ h (list-cases .k10) in apart o _ _ 30 51 50 (t .whole) e refl refl (λ z. omega arith);
-      thin-air = λ o y k h e d. let t = begins _ o _ h (list-cases .k10) in d (one-alone k y _ (ap (drop 43) (sym e ∙ t .whole)));
+      thin-air = λ l o y n r i k e low high h f d.
+          let t = begins l o (textOf l) h refl in
+          let x = text-parts l n r i e low high in
+          d (counted-same i (nodeAt (run n (r .events)) i) k (joined (linesBefore n r i)) y (joined (linesBehind n r i) ++ t .behind)
+          (ap (λ (w : List ℕ). joined (linesBefore n r i) ++ w) (sym (append-assoc (nodeLine i (nodeAt (run n (r .events)) i)) (joined (linesBehind n r i)) (t .behind)))
+          ∙ sym (append-assoc (joined (linesBefore n r i)) (nodeLine i (nodeAt (run n (r .events)) i) ++ joined (linesBehind n r i)) (t .behind))
+          ∙ ap (λ (w : List ℕ). w ++ t .behind) (sym x)
+          ∙ sym (t .whole)
+          ∙ f));
+      thin-one = λ o y k h e d. let t = begins _ o _ h (list-cases .k10) in d (one-alone k y _ (ap (drop 43) (sym e ∙ t .whole)));
       from-zero = λ o y h e. let t = begins _ o _ h (texts .refused) in apart o _ _ 19 50 49 (t .whole) e refl refl (λ z. omega arith);
       next-ground = λ o y h e. let t = begins _ o _ h (texts .refused) in apart o _ _ 21 57 49 (t .whole) e refl refl (λ z. omega arith);
       stops-elsewhere = λ o y h e. let t = begins _ o _ h (texts .stopped) in apart o _ _ 19 52 48 (t .whole) e refl refl (λ z. omega arith);

@@ -6,6 +6,7 @@ use Rattle.model.specs.declared.Table.{Table}
 use Rattle.model.specs.declared.Event.{Event}
 use Rattle.machine.specs.Folded as Folded
 use Rattle.machine.specs.Folded.{Folded}
+use Rattle.machine.specs.Claims.{CodeRuns}
 use Rattle.machine.proofs.Runs.{chain-runs, chain-fixes}
 use Rattle.session.specs.Applied.{Applied, none, more, SessionFixes}
 
@@ -13,5 +14,9 @@ applied-folds : (t : Table) (es : List Event) (u : Table) → Applied t es u →
 applied-folds t es u none = Folded.none
 applied-folds t es u (more s a) = Folded.more s (applied-folds _ _ _ a)
 
+-- for any n
+pub session-runs : CodeRuns Applied
+session-runs = chain-runs Applied applied-folds
+
 pub session-fixes : (n : ℕ) → n ≤ nodeLimit → SessionFixes n
-session-fixes n h = record { folds = applied-folds; runs = chain-runs Applied applied-folds; fixes = chain-fixes Applied applied-folds n h }
+session-fixes n h = record { folds = applied-folds; runs = session-runs; fixes = chain-fixes Applied applied-folds n h }
