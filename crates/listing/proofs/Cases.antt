@@ -10,6 +10,7 @@ pub room-cases : RoomCases
 unfolding pick digits decimal row messagesLine printed
 room-cases =
     record {
+      number-fifteen = refl;
       same-line = refl;
       one-short = refl;
       enough = refl;
