@@ -5,3 +5,4 @@ pub mod Making
 pub mod Table
 pub mod Parted
 pub mod Claims
+pub mod Cases

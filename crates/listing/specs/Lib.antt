@@ -4,3 +4,4 @@ pub mod Printing
 pub mod Lines
 pub mod Parts
 pub mod Claims
+pub mod Cases

@@ -1,4 +1,4 @@
--- The named cases, the wrong turnings and the further cases, computed over the definitions.
+-- The named cases, the wrong turnings, the further cases and the ends of what is in range, computed over the definitions.
 use mathlib.Core.Path.{_≡_, refl}
 use lib.Count.{onesIn, ones, leadingZeros, trailingZeros}
 use lib.Bits.{bitAnd, bitOr}
@@ -9,7 +9,7 @@ use Rattle.model.specs.Range.{activityInRange, nodeInRange, messageInRan
 use Rattle.model.specs.State.{waits, oldest, withoutOldest, every, inRange}
 use Rattle.model.specs.Step.{reactionTo, remaining, effect, wrongNumber, wrongTask, wrongStatus, wrongActivity, noneWaits, grounds, judged, step, runFrom}
 use Rattle.model.specs.History.{updated, historyFrom}
-use Rattle.model.specs.Cases.{NamedCases, WrongTurnings, FurtherCases}
+use Rattle.model.specs.Cases.{NamedCases, WrongTurnings, FurtherCases, RangeCases}
 
 pub named-cases : NamedCases
 unfolding pick onesIn ones leadingZeros trailingZeros bitAnd bitOr inviteNext merges handNext finishes forwardNext askedAll askAt askAfter checked timedOut ticked expired resumed onAreYouCoordinator onAreYouThere onInvitation onAccept onReady onReply received react activityInRange nodeInRange messageInRange waits oldest withoutOldest every inRange reactionTo remaining effect wrongNumber wrongTask wrongStatus wrongActivity noneWaits grounds judged step runFrom updated historyFrom
@@ -154,6 +154,7 @@ further-cases =
       activity-tick = refl;
       activity-expire = refl;
       activity-collecting = refl;
+      activity-idle = refl;
       none-to-deliver = refl;
       none-to-lose = refl;
       calls-end = refl;
@@ -163,4 +164,73 @@ further-cases =
       ends-thirteen = refl;
       ends-fourteen = refl;
       ends-pass = refl;
+    }
+
+pub range-cases : RangeCases
+unfolding pick bitOr activityInRange nodeInRange messageInRange every inRange
+range-cases =
+    record {
+      count-ends = refl;
+      count-records = refl;
+      waiting-end = refl;
+      every-first = refl;
+      every-last = refl;
+      every-oldest = refl;
+      every-newest = refl;
+      counter-end = refl;
+      group-down = refl;
+      coordinator-down = refl;
+      task-end = refl;
+      members-others = refl;
+      last-end = refl;
+      led-election = refl;
+      led-reorganization = refl;
+      led-normal = refl;
+      led-one = refl;
+      led-three = refl;
+      led-four = refl;
+      led-none = refl;
+      down-idle = refl;
+      down-asking = refl;
+      down-waiting = refl;
+      down-inviting = refl;
+      down-collecting = refl;
+      down-handing = refl;
+      down-contacting = refl;
+      down-forwarding = refl;
+      down-accepting = refl;
+      free-collecting = refl;
+      free-contacting = refl;
+      free-collecting-led = refl;
+      free-contacting-led = refl;
+      asking-asked = refl;
+      asking-found = refl;
+      waiting-ticks = refl;
+      waiting-found = refl;
+      inviting-found = refl;
+      inviting-former = refl;
+      inviting-now = refl;
+      handing-rest = refl;
+      handing-now = refl;
+      handing-task = refl;
+      forwarding-rest = refl;
+      forwarding-now = refl;
+      forwarding-caller = refl;
+      forwarding-call = refl;
+      forwarding-owner = refl;
+      accepting-caller = refl;
+      accepting-call = refl;
+      accepting-owner = refl;
+      message-sender = refl;
+      message-receiver = refl;
+      message-kind = refl;
+      message-call = refl;
+      message-group = refl;
+      message-no-group = refl;
+      message-no-counter = refl;
+      message-no-owner = refl;
+      message-above = refl;
+      message-task = refl;
+      message-low-task = refl;
+      message-high-task = refl;
     }

@@ -1,13 +1,16 @@
 -- "Named cases": what is claimed of K1 to K13, jointly, over the definitions. Where 01 names one side of a rule, the other side stands beside it. "Wrong
--- turnings in this protocol" follow, and then further cases. The tables are in range where nothing else is said; not each of them is one that a run reaches.
+-- turnings in this protocol" follow, then further cases, and then the ends of what is in range. The tables are in range where nothing else is said; not each of
+-- them is one that a run reaches.
 use Prim.Native.Nat.{ℕ}
 use mathlib.Core.Bool.{Bool, true, false}
 use mathlib.Core.Path.{_≡_}
 use mathlib.Core.List.{List, [], _∷_, _++_}
 use lib.ListN.{length, set, replicate}
 use Rattle.node_set.specs.NodeSet.{with, count}
+use Rattle.model.specs.Pick.{pick}
 use Rattle.model.specs.Node.{groupOf, asks, calls, readies, replies}
-use Rattle.model.specs.State.{State, startingNode, start, wrongCount, nodeAt}
+use Rattle.model.specs.Range.{nodeInRange, messageInRange}
+use Rattle.model.specs.State.{State, startingNode, start, wrongCount, nodeAt, inRange}
 use Rattle.model.specs.Step.{Result, refused, accepted, step, after, runFrom, run}
 use Rattle.model.specs.History.{Entry, NoTask, Task, history}
 use Rattle.model.specs.Answers.{statusNumber}
@@ -448,6 +451,7 @@ pub record FurtherCases : Type 0 where
   pub activity-tick : step (pair Normal none (Asking 1 none) []) (Tick 2) ≡ refused 10
   pub activity-expire : step (pair Normal none (Waiting 1 (setOf (1 ∷ []))) []) (Expire 2) ≡ refused 10
   pub activity-collecting : step (pair Election none Collecting []) (Expire 2) ≡ refused 10
+  pub activity-idle : step (pair Normal none Idle []) (Expire 2) ≡ refused 10
   -- 11 "deliver, lose: no message from a to b": the one that waits goes the other way
   pub none-to-deliver : step (pair Normal none Idle plain) (Deliver 1 2) ≡ refused 11
   pub none-to-lose : step (pair Normal none Idle plain) (Lose 1 2) ≡ refused 11
@@ -471,3 +475,167 @@ pub record FurtherCases : Type 0 where
         last = callNo 16777215;
         activity = Inviting none none 1;
       }) (queued 63 ++ (calls 2 3 1 (callNo 16777215) (groupNo 16777201) ∷ []))) Merges
+
+-- ── records, messages and tables at the ends of what is in range, and just outside: node 2 of three, and messages among three ──
+
+-- the numbers of the list with which f holds
+abbrev pub among : (ℕ → Bool) → List ℕ → List ℕ
+among f [] = []
+among f (x ∷ xs) = pick (f x) (x ∷ among f xs) (among f xs)
+
+-- 0, the three nodes and one more; those that are another node than 2
+abbrev pub anyNode : List ℕ
+anyNode = 0 ∷ 1 ∷ 2 ∷ 3 ∷ 4 ∷ []
+
+abbrev pub otherNode : List ℕ
+otherNode = 1 ∷ 3 ∷ []
+
+-- sets without and with node 2, and with one more than three; those of nodes other than 2
+abbrev pub anySet : List ℕ
+anySet = none ∷ setOf (1 ∷ 3 ∷ []) ∷ setOf (1 ∷ 2 ∷ 3 ∷ []) ∷ setOf (1 ∷ 3 ∷ 4 ∷ []) ∷ []
+
+abbrev pub otherSet : List ℕ
+otherSet = none ∷ setOf (1 ∷ 3 ∷ []) ∷ []
+
+-- group numbers: none; of counter 0; of counter 1 and the owners 1 to 4; of the last counter and the owners 3 and 4; of one counter more. Those with counter
+-- at least 1 and owner 1 to 3.
+abbrev pub anyGroup : List ℕ
+anyGroup = 0 ∷ 1 ∷ 2 ∷ 16 ∷ 17 ∷ 18 ∷ 19 ∷ 16777202 ∷ 16777203 ∷ 16777216 ∷ []
+
+abbrev pub goodGroup : List ℕ
+goodGroup = 16 ∷ 17 ∷ 18 ∷ 16777202 ∷ []
+
+-- call numbers, and those of messages and callers
+abbrev pub anyCall : List ℕ
+anyCall = 0 ∷ 1 ∷ 16777215 ∷ 16777216 ∷ []
+
+abbrev pub goodCall : List ℕ
+goodCall = 1 ∷ 16777215 ∷ []
+
+-- tasks, and those that a finish gives
+abbrev pub anyTask : List ℕ
+anyTask = 0 ∷ 99 ∷ 100 ∷ 65535 ∷ 65536 ∷ []
+
+abbrev pub givenTask : List ℕ
+givenTask = 100 ∷ 65535 ∷ []
+
+-- node 2 of three, Down and idle, with the counter c, group g, coordinator o, task t, members m and last call number k
+abbrev pub resting : ℕ → ℕ → ℕ → ℕ → ℕ → ℕ → Bool
+resting c g o t m k =
+    nodeInRange 3 2 (record { status = Down; counter = c; group = groupNo g; coordinator = o; task = taskNo t; members = m; last = callNo k; activity = Idle })
+
+-- node 2 of three in its own group; in group 16 of node 1
+abbrev pub owning : Status → Activity → Bool
+owning s a = nodeInRange 3 2 (filled s 17 2 100 none 1 a)
+
+abbrev pub joining : Activity → Bool
+joining a = nodeInRange 3 2 (filled Election 16 1 1 none 1 a)
+
+-- a message among three, from a to b, of kind k, with the call number c, group g and task t
+abbrev pub sent : ℕ → ℕ → ℕ → ℕ → ℕ → ℕ → Bool
+sent a b k c g t =
+    messageInRange 3 (record { sender = a; receiver = b; kind = k; call = callNo c; group = groupNo g; task = taskNo t; yes = false })
+
+-- the kinds, and one more at each end
+abbrev pub anyKind : List ℕ
+anyKind = 0 ∷ 1 ∷ 2 ∷ 3 ∷ 4 ∷ 5 ∷ 6 ∷ 7 ∷ []
+
+-- the kinds of messages from 2 to 1 with group g and task t that are in range
+abbrev pub kindsOf : ℕ → ℕ → List ℕ
+kindsOf g t = among (λ k. sent 2 1 k 1 g t) anyKind
+
+-- a table of n, with k records as at the start
+abbrev pub sized : ℕ → ℕ → Bool
+sized n k = inRange (record { n = n; nodes = replicate k startingNode; queue = [] })
+
+-- ── "A table is in range when ..": each rule at its ends and just outside. On the left what is tried, on the right what of it is in range. ──
+
+pub record RangeCases : Type 0 where
+  -- "n from 1 to 16", with n records
+  pub count-ends : among (λ n. sized n n) (0 ∷ 1 ∷ 16 ∷ 17 ∷ []) ≡ 1 ∷ 16 ∷ []
+  pub count-records : among (sized 3) (2 ∷ 3 ∷ 4 ∷ []) ≡ 3 ∷ []
+  -- "At most 64 messages wait"
+  pub waiting-end : among (λ k. inRange (pair Normal none Idle (queued k))) (0 ∷ 64 ∷ 65 ∷ []) ≡ 0 ∷ 64 ∷ []
+  -- every record counts, each as that of its own number: the member is 1, 2 or 3
+  pub every-first : among (λ i. inRange (three (filled Normal 16 1 1 (setOf (i ∷ [])) 0 Idle) startingNode startingNode [])) (1 ∷ 2 ∷ 3 ∷ []) ≡ 2 ∷ 3 ∷ []
+  pub every-last : among (λ i. inRange (three startingNode startingNode (filled Normal 18 3 3 (setOf (i ∷ [])) 0 Idle) [])) (1 ∷ 2 ∷ 3 ∷ []) ≡ 1 ∷ 2 ∷ []
+  -- and every message: the first's call number, the last's
+  pub every-oldest : among (λ k. inRange (three startingNode startingNode startingNode (asks 1 2 (callNo k) ∷ asks 2 1 (callNo 1) ∷ []))) anyCall ≡ goodCall
+  pub every-newest : among (λ k. inRange (three startingNode startingNode startingNode (asks 1 2 (callNo 1) ∷ asks 2 1 (callNo k) ∷ []))) anyCall ≡ goodCall
+  -- "counter of groups, 0 to 1,048,575"
+  pub counter-end : among (λ k. resting k 0 0 0 none 0) (0 ∷ 1048575 ∷ 1048576 ∷ []) ≡ 0 ∷ 1048575 ∷ []
+  -- "every group that isn't 0, in a cabinet or a message, has counter at least 1 and owner 1 to n": of a Down node
+  pub group-down : among (λ g. resting 0 g 0 0 none 0) anyGroup ≡ 0 ∷ goodGroup
+  -- "coordinator, 0 for none": of a Down node, whatever its group's owner is
+  pub coordinator-down : among (λ o. resting 0 16 o 0 none 0) anyNode ≡ 0 ∷ 1 ∷ 2 ∷ 3 ∷ []
+  -- "task, 0 to 65,535"
+  pub task-end : among (λ t. resting 0 0 0 t none 0) anyTask ≡ 0 ∷ 99 ∷ 100 ∷ 65535 ∷ []
+  -- "members, a set of cabinets that never contains itself"
+  pub members-others : among (λ m. resting 0 0 0 0 m 0) anySet ≡ otherSet
+  -- "last call number, 0 to 16,777,215"
+  pub last-end : among (λ k. resting 0 0 0 0 none k) anyCall ≡ 0 ∷ goodCall
+  -- "a cabinet that isn't Down has a group of counter at least 1 whose owner is 1 to n and is its coordinator": in each status, with group 18 of node 3
+  pub led-election : among (λ o. nodeInRange 3 2 (filled Election 18 o 1 none 0 Idle)) anyNode ≡ 3 ∷ []
+  pub led-reorganization : among (λ o. nodeInRange 3 2 (filled Reorganization 18 o 1 none 0 Idle)) anyNode ≡ 3 ∷ []
+  pub led-normal : among (λ o. nodeInRange 3 2 (filled Normal 18 o 1 none 0 Idle)) anyNode ≡ 3 ∷ []
+  -- with the coordinators 1, 3 and 4: of the groups of each, by number, those that have a counter; 0 is no group of node 1
+  pub led-one : among (λ g. nodeInRange 3 2 (filled Normal g 1 1 none 0 Idle)) anyGroup ≡ 16 ∷ []
+  pub led-three : among (λ g. nodeInRange 3 2 (filled Normal g 3 1 none 0 Idle)) anyGroup ≡ 18 ∷ 16777202 ∷ []
+  pub led-four : among (λ g. nodeInRange 3 2 (filled Normal g 4 1 none 0 Idle)) anyGroup ≡ []
+  pub led-none : among (λ g. nodeInRange 3 2 (filled Normal g 0 1 none 0 Idle)) anyGroup ≡ []
+  -- "a Down one is idle", in whatever it could go on with if it weren't Down
+  pub down-idle : owning Down Idle ≡ true
+  pub down-asking : owning Down (Asking 1 none) ≡ false
+  pub down-waiting : owning Down (Waiting 1 none) ≡ false
+  pub down-inviting : owning Down (Inviting none none 1) ≡ false
+  pub down-collecting : owning Down Collecting ≡ false
+  pub down-handing : owning Down (Handing none 1) ≡ false
+  pub down-contacting : owning Down Contacting ≡ false
+  pub down-forwarding : nodeInRange 3 2 (filled Down 16 1 1 none 1 (Forwarding none 1 1 (callNo 1))) ≡ false
+  pub down-accepting : nodeInRange 3 2 (filled Down 16 1 1 none 1 (Accepting 1 (callNo 1))) ≡ false
+  -- collecting and contacting hold nothing, and are free to an owner and to another
+  pub free-collecting : owning Election Collecting ≡ true
+  pub free-contacting : owning Normal Contacting ≡ true
+  pub free-collecting-led : joining Collecting ≡ true
+  pub free-contacting-led : joining Contacting ≡ true
+  -- "no set, caller or cabinet asked or called names its holder" and "all cabinet numbers are 1 to n", in each activity: "asking (cabinet asked, set found)"
+  pub asking-asked : among (λ j. owning Normal (Asking j none)) anyNode ≡ otherNode
+  pub asking-found : among (λ f. owning Normal (Asking 1 f)) anySet ≡ otherSet
+  -- "waiting (ticks left 1 to 15, set found)"
+  pub waiting-ticks : among (λ k. owning Normal (Waiting k none)) (0 ∷ 1 ∷ 15 ∷ 16 ∷ []) ≡ 1 ∷ 15 ∷ []
+  pub waiting-found : among (λ f. owning Normal (Waiting 1 f)) anySet ≡ otherSet
+  -- "inviting (whom still, in two sets, and whom now)"
+  pub inviting-found : among (λ f. owning Election (Inviting f none 1)) anySet ≡ otherSet
+  pub inviting-former : among (λ f. owning Election (Inviting none f 1)) anySet ≡ otherSet
+  pub inviting-now : among (λ j. owning Election (Inviting none none j)) anyNode ≡ otherNode
+  -- "handing (whom still, whom now)", and "a handing cabinet's task is 100 to 65,535"
+  pub handing-rest : among (λ r. owning Reorganization (Handing r 1)) anySet ≡ otherSet
+  pub handing-now : among (λ j. owning Reorganization (Handing none j)) anyNode ≡ otherNode
+  pub handing-task : among (λ t. nodeInRange 3 2 (filled Reorganization 17 2 t none 1 (Handing none 1))) anyTask ≡ givenTask
+  -- "forwarding (whom still, whom now, caller and the number of its call)"; "call numbers .. of callers are at least 1"; it "isn't that owner"
+  pub forwarding-rest : among (λ r. joining (Forwarding r 1 1 (callNo 1))) anySet ≡ otherSet
+  pub forwarding-now : among (λ j. joining (Forwarding none j 1 (callNo 1))) anyNode ≡ otherNode
+  pub forwarding-caller : among (λ j. joining (Forwarding none 1 j (callNo 1))) anyNode ≡ otherNode
+  pub forwarding-call : among (λ k. joining (Forwarding none 1 1 (callNo k))) anyCall ≡ goodCall
+  pub forwarding-owner : owning Election (Forwarding none 1 1 (callNo 1)) ≡ false
+  -- "accepting (caller and the number of its call)", with the same rules
+  pub accepting-caller : among (λ j. joining (Accepting j (callNo 1))) anyNode ≡ otherNode
+  pub accepting-call : among (λ k. joining (Accepting 1 (callNo k))) anyCall ≡ goodCall
+  pub accepting-owner : owning Election (Accepting 1 (callNo 1)) ≡ false
+  -- "a sender, a receiver (another cabinet)": from each to 2, and from 2 to each
+  pub message-sender : among (λ a. sent a 2 1 1 0 0) anyNode ≡ otherNode
+  pub message-receiver : among (λ b. sent 2 b 1 1 0 0) anyNode ≡ otherNode
+  -- the kinds, 1 to 6; "call numbers in messages .. are at least 1"
+  pub message-kind : kindsOf 16 100 ≡ 1 ∷ 2 ∷ 3 ∷ 4 ∷ 5 ∷ 6 ∷ []
+  pub message-call : among (λ c. sent 2 1 1 c 0 0) anyCall ≡ goodCall
+  -- "message groups aren't 0", and have "counter at least 1 and owner 1 to n": of the kinds that carry one
+  pub message-group : among (λ g. sent 2 1 3 1 g 0) anyGroup ≡ goodGroup
+  -- kinds 1 and 6 carry none: 0, a group of counter 0, of owner 4, and of one counter too many
+  pub message-no-group : kindsOf 0 100 ≡ 1 ∷ 6 ∷ []
+  pub message-no-counter : kindsOf 1 100 ≡ 1 ∷ 6 ∷ []
+  pub message-no-owner : kindsOf 19 100 ≡ 1 ∷ 6 ∷ []
+  pub message-above : kindsOf 16777216 100 ≡ 1 ∷ 6 ∷ []
+  -- "Ready tasks are 100 to 65,535"; the other kinds carry no task
+  pub message-task : among (λ t. sent 2 1 5 1 16 t) anyTask ≡ givenTask
+  pub message-low-task : kindsOf 16 99 ≡ 1 ∷ 2 ∷ 3 ∷ 4 ∷ 6 ∷ []
+  pub message-high-task : kindsOf 16 65536 ≡ 1 ∷ 2 ∷ 3 ∷ 4 ∷ 6 ∷ []

@@ -1,0 +1,37 @@
+-- 15, "fewer bytes free than the line has, or offset past the end", on single buffers: on each side of the end, with the bytes that the buffer then holds.
+use mathlib.Core.Bool.{true, false}
+use mathlib.Core.Path.{_≡_}
+use mathlib.Core.List.{List, [], _∷_, _++_}
+use Prim.Native.Nat.{ℕ}
+use Rattle.listing.specs.Ascii.{bytes}
+use Rattle.listing.specs.Lines.{messagesLine}
+use Rattle.listing.specs.Printing.{putNumber, shown, room, printed}
+use Rattle.listing.specs.declared.Put.the-variants.{Next, NoRoom}
+
+-- the line `messages 0` has 11 bytes
+abbrev pub line : List ℕ
+line = bytes "messages 0\n"
+
+pub record RoomCases : Type 0 where
+  pub number-fifteen : putNumber NoRoom ≡ 15
+  pub same-line : messagesLine 0 ≡ line
+  -- "fewer bytes free than the line has": 10, 11 and 12 bytes
+  pub one-short : printed (bytes "..........") 0 (line ∷ []) ≡ shown NoRoom (bytes "..........")
+  pub enough : printed (bytes "...........") 0 (line ∷ []) ≡ shown (Next 11) line
+  pub one-more : printed (bytes "............") 0 (line ∷ []) ≡ shown (Next 11) (line ++ bytes ".")
+  -- "from an offset the caller names": behind 2 bytes, of 12 and of 13
+  pub behind-short : printed (bytes "............") 2 (line ∷ []) ≡ shown NoRoom (bytes "............")
+  pub behind-enough : printed (bytes "ab...........") 2 (line ∷ []) ≡ shown (Next 13) (bytes "ab" ++ line)
+  -- at the end: no byte is free, and a line has no room; an empty one has
+  pub at-end : printed (bytes "...") 3 (line ∷ []) ≡ shown NoRoom (bytes "...")
+  pub at-end-empty : printed (bytes "...") 3 ([] ∷ []) ≡ shown (Next 3) (bytes "...")
+  -- "or offset past the end": by one, whatever the line has
+  pub past-end : printed (bytes "...") 4 (line ∷ []) ≡ shown NoRoom (bytes "...")
+  pub past-end-empty : printed (bytes "...") 4 ([] ∷ []) ≡ shown NoRoom (bytes "...")
+  -- the same of a buffer of no bytes
+  pub no-bytes : room [] 0 [] ≡ true
+  pub no-bytes-past : room [] 1 [] ≡ false
+  pub no-bytes-short : room [] 0 (bytes ".") ≡ false
+  -- of two lines the second is one byte short: the first stays, and the bytes behind it are as they were
+  pub second-short : printed (bytes ".....................") 0 (line ∷ line ∷ []) ≡ shown NoRoom (line ++ bytes "..........")
+  pub second-enough : printed (bytes "......................") 0 (line ∷ line ∷ []) ≡ shown (Next 22) (line ++ line)
