@@ -1,0 +1,32 @@
+-- The texts, computed over the definitions.
+use mathlib.Core.Path.{refl}
+use lib.Count.{onesIn, ones, leadingZeros, trailingZeros}
+use Rattle.model.specs.Pick.{pick}
+use Rattle.model.specs.Procedures.{inviteNext, merges, handNext, finishes, forwardNext, askedAll, askAt, askAfter}
+use Rattle.model.specs.React.{checked, timedOut, ticked, expired, resumed, onAreYouCoordinator, onAreYouThere, onInvitation, onAccept, onReady, onReply, received, react}
+use Rattle.model.specs.Range.{activityInRange, nodeInRange, messageInRange}
+use Rattle.model.specs.State.{waits, oldest, withoutOldest, every, inRange}
+use Rattle.model.specs.Step.{reactionTo, remaining, effect, grounds, judged, step}
+use Rattle.listing.specs.Decimal.{digits, decimal}
+use Rattle.listing.specs.Lines.{row, stoppedLine}
+use Rattle.listing.specs.Printing.{joined}
+use Rattle.short_lists_text.specs.Lists.{upFrom, without, pairsOf, alphabet, listsFrom}
+use Rattle.short_lists_text.specs.Text.{nameOf, spaced, eventText, moreText, eventsText, listLine, countLine, fits, textOf}
+use Rattle.short_lists_text.specs.Cases.{TextCases}
+
+pub text-cases : TextCases
+unfolding pick onesIn ones leadingZeros trailingZeros inviteNext merges handNext finishes forwardNext askedAll askAt askAfter checked timedOut ticked expired resumed onAreYouCoordinator onAreYouThere onInvitation onAccept onReady onReply received react activityInRange nodeInRange messageInRange waits oldest withoutOldest every inRange reactionTo remaining effect grounds judged step digits decimal row stoppedLine joined upFrom without pairsOf alphabet listsFrom nameOf spaced eventText moreText eventsText listLine countLine fits textOf
+text-cases =
+    record {
+      none = refl;
+      one = refl;
+      two = refl;
+      two-of-two = refl;
+      words = refl;
+      no-bytes = refl;
+      one-byte = refl;
+      three-bytes = refl;
+      no-nodes = refl;
+      four-nodes = refl;
+      too-long = refl;
+    }

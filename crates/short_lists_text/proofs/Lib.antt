@@ -1,0 +1,5 @@
+pub mod Rows
+pub mod Order
+pub mod Members
+pub mod Whole
+pub mod Cases

@@ -1,0 +1,87 @@
+-- Laws of rows.
+use mathlib.Core.Path.{_≡_, refl, sym, ap, subst}
+use mathlib.Core.Logic.{inl, inr}
+use mathlib.Core.List.{List, [], _∷_, _++_}
+use Rattle.short_lists_text.specs.Rows.{Among, All, Ascending, each, rows}
+
+-- ── what holds of all ──
+
+pub all-of : {A : Type 0} (P : A → Type 0) (x : A) (xs : List A) → All P xs → Among x xs → P x
+all-of P x (y ∷ ys) a (inl e) = subst P (sym e) (a .0)
+all-of P x (y ∷ ys) a (inr m) = all-of P x ys (a .1) m
+
+pub all-weaken : {A : Type 0} (P Q : A → Type 0) (xs : List A) → ((x : A) → P x → Q x) → All P xs → All Q xs
+all-weaken P Q [] f a = tt
+all-weaken P Q (x ∷ xs) f a = (f x (a .0), all-weaken P Q xs f (a .1))
+
+pub all-append : {A : Type 0} (P : A → Type 0) (xs ys : List A) → All P xs → All P ys → All P (xs ++ ys)
+all-append P [] ys a b = b
+all-append P (x ∷ xs) ys a b = (a .0, all-append P xs ys (a .1) b)
+
+-- P of f of each, where Q of each gives it
+pub all-each : {A B : Type 0} (Q : A → Type 0) (P : B → Type 0) (f : A → B) (xs : List A) → ((x : A) → Q x → P (f x)) → All Q xs → All P (each f xs)
+all-each Q P f [] g a = tt
+all-each Q P f (x ∷ xs) g a = (g x (a .0), all-each Q P f xs g (a .1))
+
+pub all-rows : {A B : Type 0} (Q : A → Type 0) (P : B → Type 0) (f : A → List B) (xs : List A) → ((x : A) → Q x → All P (f x)) → All Q xs → All P (rows f xs)
+all-rows Q P f [] g a = tt
+all-rows Q P f (x ∷ xs) g a = all-append P (f x) (rows f xs) (g x (a .0)) (all-rows Q P f xs g (a .1))
+
+-- the same of f of anything
+pub each-by : {A B : Type 0} (P : B → Type 0) (f : A → B) (xs : List A) → ((x : A) → P (f x)) → All P (each f xs)
+each-by P f [] g = tt
+each-by P f (x ∷ xs) g = (g x, each-by P f xs g)
+
+pub rows-by : {A B : Type 0} (P : B → Type 0) (f : A → List B) (xs : List A) → ((x : A) → All P (f x)) → All P (rows f xs)
+rows-by P f [] g = tt
+rows-by P f (x ∷ xs) g = all-append P (f x) (rows f xs) (g x) (rows-by P f xs g)
+
+-- ── what is among them ──
+
+pub among-left : {A : Type 0} (x : A) (xs ys : List A) → Among x xs → Among x (xs ++ ys)
+among-left x (y ∷ xs) ys (inl e) = inl e
+among-left x (y ∷ xs) ys (inr m) = inr (among-left x xs ys m)
+
+pub among-right : {A : Type 0} (x : A) (xs ys : List A) → Among x ys → Among x (xs ++ ys)
+among-right x [] ys m = m
+among-right x (y ∷ xs) ys m = inr (among-right x xs ys m)
+
+pub among-each : {A B : Type 0} (f : A → B) (x : A) (xs : List A) → Among x xs → Among (f x) (each f xs)
+among-each f x (y ∷ ys) (inl e) = inl (ap f e)
+among-each f x (y ∷ ys) (inr m) = inr (among-each f x ys m)
+
+pub among-rows : {A B : Type 0} (f : A → List B) (x : A) (y : B) (xs : List A) → Among x xs → Among y (f x) → Among y (rows f xs)
+among-rows f x y (z ∷ zs) (inl e) m = among-left y (f z) (rows f zs) (subst (λ w. Among y (f w)) e m)
+among-rows f x y (z ∷ zs) (inr n) m = among-right y (f z) (rows f zs) (among-rows f x y zs n m)
+
+-- ── ascending ──
+
+pub ascending-append : {A : Type 0} (R : A → A → Type 0) (xs ys : List A) → Ascending R xs → Ascending R ys → All (λ x. All (R x) ys) xs → Ascending R (xs ++ ys)
+ascending-append R [] ys a b c = b
+ascending-append R (x ∷ xs) ys a b c = (all-append (R x) xs ys (a .0) (c .0), ascending-append R xs ys (a .1) b (c .1))
+
+pub ascending-each : {A B : Type 0} (R : A → A → Type 0) (S : B → B → Type 0) (f : A → B) (xs : List A) → ((x y : A) → R x y → S (f x) (f y)) → Ascending R xs → Ascending S (each f xs)
+ascending-each R S f [] g a = tt
+ascending-each R S f (x ∷ xs) g a = (all-each (R x) (S (f x)) f xs (g x) (a .0), ascending-each R S f xs g (a .1))
+
+-- rows one behind the other ascend, where each does and a row is below those of what is above
+module _ {A B : Type 0} (R : A → A → Type 0) (S : B → B → Type 0) (f : A → List B) (g : (x : A) → Ascending S (f x)) (h : (x y : A) → R x y → All (λ u. All (S u) (f y)) (f x)) where
+  turned : (ls : List B) (x : A) (ys : List A) → ((y : A) → R x y → All (λ u. All (S u) (f y)) ls) → All (R x) ys → All (λ u. All (S u) (rows f ys)) ls
+  turned [] x ys k a = tt
+  turned (u ∷ us) x ys k a = (all-rows (R x) (S u) f ys (λ y r. k y r .0) a, turned us x ys (λ y r. k y r .1) a)
+
+  pub ascending-rows : (xs : List A) → Ascending R xs → Ascending S (rows f xs)
+  ascending-rows [] a = tt
+  ascending-rows (x ∷ xs) a = ascending-append S (f x) (rows f xs) (g x) (ascending-rows xs (a .1)) (turned (f x) x xs (h x) (a .0))
+
+-- what ascends in an order in which nothing is below itself has each once
+pub alone : {A : Type 0} (R : A → A → Type 0) → ((x : A) → R x x → ⊥) → (x : A) (xs ys : List A) → Ascending R (xs ++ (x ∷ ys)) → (Among x xs → ⊥) × (Among x ys → ⊥)
+alone R never x [] ys a = ((λ m. m), (λ m. never x (all-of (R x) x ys (a .0) m)))
+alone R never x (z ∷ zs) ys a = let r = alone R never x zs ys (a .1) in (first (r .0), r .1)
+  where
+    here : z ≡ x → ⊥
+    here e = never x (subst (λ w. R w x) e (all-of (R z) x (zs ++ (x ∷ ys)) (a .0) (among-right x zs (x ∷ ys) (inl refl))))
+
+    first : (Among x zs → ⊥) → Among x (z ∷ zs) → ⊥
+    first r (inl e) = here (sym e)
+    first r (inr m) = r m
