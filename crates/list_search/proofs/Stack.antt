@@ -1,0 +1,136 @@
+-- What is left on a stack after a turn of the search, and how many turns are left.
+use Prim.Native.Nat.{ℕ, zero, suc, _+_, _-_, _≤_, _<_}
+use native.Mathlib.Omega.{arith}
+use mathlib.Core.Bool.{true, false}
+use mathlib.Core.Path.{_≡_, refl, _∙_, ap}
+use mathlib.Core.List.{List, [], _∷_, _++_, append-assoc, append-nil}
+use lib.Dec.{leb}
+use lib.ListN.{length, drop, drop-of-length-le}
+use lib.Seq.{drop-cons}
+use borrow.Author.Tests.{leb-true, leb-false}
+use Rattle.model.specs.Pick.{pick-true}
+use Rattle.model.specs.State.{State, start}
+use Rattle.model.specs.Step.{effect, refused, accepted, step}
+use Rattle.model.specs.declared.Mark.{Mark}
+use Rattle.model.specs.declared.Event.{Event}
+use Rattle.model.specs.declared.Event.the-variants.{Crash}
+use Rattle.model.proofs.Judged.{accepted-is}
+use Rattle.listing.specs.Printing.{joined}
+use Rattle.short_lists_text.specs.Rows.{each}
+use Rattle.short_lists_text.specs.Lists.{alphabet, listsFrom}
+use Rattle.short_lists_text.specs.Text.{listLine, countLine, fits, textOf}
+use Rattle.list_search.specs.Stack.{Frame, frame, passed, sizeOf, eventAt, path, onFrame, left, leftText, turnsFor, turnsFrom, turnsOn, turnsLeft}
+
+-- ── rows ──
+
+each-append : {A B : Type 0} (f : A → B) (xs ys : List A) → each f (xs ++ ys) ≡ each f xs ++ each f ys
+each-append f [] ys = refl
+each-append f (x ∷ xs) ys = ap (λ l. f x ∷ l) (each-append f xs ys)
+
+-- a path, an event and a list behind it
+each-behind : (p : List Event) (e : Event) (ls : List (List Event)) → each (λ l. p ++ l) (each (λ l. e ∷ l) ls) ≡ each (λ l. (p ++ (e ∷ [])) ++ l) ls
+each-behind p e [] = refl
+each-behind p e (l ∷ ls) = rw (append-assoc p (e ∷ []) l) (ap (λ x. (p ++ (e ∷ l)) ∷ x) (each-behind p e ls))
+
+each-same : (ls : List (List Event)) → each (λ l. [] ++ l) ls ≡ ls
+each-same [] = refl
+each-same (l ∷ ls) = ap (λ x. l ∷ x) (each-same ls)
+
+-- ── the events of a frame ──
+
+abbrev untried : Frame → List Event
+untried f = drop (f .tried) (alphabet (f .state .n))
+
+all-tried : (f : Frame) → leb (sizeOf (f .state .n)) (f .tried) ≡ true → untried f ≡ []
+all-tried f q = drop-of-length-le (alphabet (f .state .n)) (leb-true (sizeOf (f .state .n)) (f .tried) q)
+
+one-tried : (f : Frame) → leb (sizeOf (f .state .n)) (f .tried) ≡ false → untried f ≡ eventAt (f .state .n) (f .tried) ∷ untried (passed f)
+unfolding eventAt
+one-tried f q =
+    let z : suc (f .tried) ≡ f .tried + 1 = omega arith in
+    drop-cons (alphabet (f .state .n)) (f .tried) (Crash 0) (leb-false _ _ q) ∙ ap (λ i. eventAt (f .state .n) (f .tried) ∷ drop i (alphabet (f .state .n))) z
+
+path-passed : (f : Frame) (fs : List Frame) → path (passed f ∷ fs) ≡ path fs ++ (eventAt (f .state .n) (f .tried) ∷ [])
+unfolding path
+path-passed f fs = let z : f .tried + 1 - 1 ≡ f .tried = omega arith in ap (λ i. path fs ++ (eventAt (f .state .n) i ∷ [])) z
+
+fresh-frame : (r : ℕ) (u : State) → onFrame r (frame u 0) ≡ listsFrom r u
+unfolding onFrame listsFrom
+fresh-frame zero u = refl
+fresh-frame (suc r) u = refl
+
+-- ── what is left after a turn ──
+
+left-over : (r : ℕ) (f : Frame) (fs : List Frame) → untried f ≡ [] → left (suc r) (f ∷ fs) ≡ left (suc (suc r)) fs
+unfolding left onFrame
+left-over r f fs q = rw q
+
+module _ (r : ℕ) (f : Frame) (fs : List Frame) (e : Event) (q : untried f ≡ e ∷ untried (passed f)) where
+  left-refused : (x : ℕ) → step (f .state) e ≡ refused x → left (suc r) (f ∷ fs) ≡ left (suc r) (passed f ∷ fs)
+  unfolding left onFrame
+  left-refused x h = rw (q, h)
+
+  split : (u : State) (m : Mark) → step (f .state) e ≡ accepted u m → onFrame (suc r) f ≡ each (λ l. e ∷ l) (listsFrom r u) ++ onFrame (suc r) (passed f)
+  unfolding onFrame
+  split u m h = rw (q, h)
+
+  parted : (ls rest more : List (List Event)) → each (λ l. path fs ++ l) (each (λ l. e ∷ l) ls ++ rest) ++ more ≡ each (λ l. (path fs ++ (e ∷ [])) ++ l) ls ++ (each (λ l. path fs ++ l) rest ++ more)
+  parted ls rest more =
+      rw (each-append (λ l. path fs ++ l) (each (λ l. e ∷ l) ls) rest, each-behind (path fs) e ls) (append-assoc (each (λ l. (path fs ++ (e ∷ [])) ++ l) ls) (each (λ l. path fs ++ l) rest) more)
+
+  left-accepted : (u : State) (m : Mark) → step (f .state) e ≡ accepted u m → path (passed f ∷ fs) ≡ path fs ++ (e ∷ []) → left (suc r) (f ∷ fs) ≡ left r (frame u 0 ∷ passed f ∷ fs)
+  unfolding left
+  left-accepted u m h p =
+      rw (fresh-frame r u, p)
+      (ap (λ x. each (λ l. path fs ++ l) x ++ left (suc (suc r)) fs) (split u m h) ∙ parted (listsFrom r u) (onFrame (suc r) (passed f)) (left (suc (suc r)) fs))
+
+left-none : (r : ℕ) → left r [] ≡ []
+unfolding left
+left-none r = refl
+
+left-given : (f : Frame) (fs : List Frame) → left 0 (f ∷ fs) ≡ path fs ∷ left 1 fs
+unfolding left onFrame
+left-given f fs = rw (append-nil (path fs))
+
+-- ── the text ──
+
+text-same : (g r r′ : ℕ) (fs fs′ : List Frame) → left r fs ≡ left r′ fs′ → leftText g r fs ≡ leftText g r′ fs′
+unfolding leftText
+text-same g r r′ fs fs′ q = rw q
+
+text-over : (g r : ℕ) (fs : List Frame) → left r fs ≡ [] → leftText g r fs ≡ countLine g
+unfolding leftText joined
+text-over g r fs q = let z : g + 0 ≡ g = omega arith in rw (q, append-nil, z)
+
+text-given : (g r r′ : ℕ) (fs fs′ : List Frame) (l : List Event) → left r fs ≡ l ∷ left r′ fs′ → leftText g r fs ≡ listLine l ++ leftText (g + 1) r′ fs′
+unfolding leftText joined
+text-given g r r′ fs fs′ l q = let z : g + suc (length (left r′ fs′)) ≡ g + 1 + length (left r′ fs′) = omega arith in rw (q, z)
+
+-- ── how many turns are left ──
+
+fresh-turns : (r : ℕ) (u : State) → turnsOn r (frame u 0) ≡ turnsFrom (u .n) r
+unfolding turnsOn turnsFrom
+fresh-turns zero u = refl
+fresh-turns (suc r) u = refl
+
+turns-over : (r : ℕ) (f : Frame) → untried f ≡ [] → turnsOn (suc r) f ≡ 1
+unfolding turnsOn turnsFor
+turns-over r f q = rw q
+
+turns-tried : (r : ℕ) (f : Frame) (e : Event) → untried f ≡ e ∷ untried (passed f) → turnsOn (suc r) f ≡ suc (turnsFrom (f .state .n) r + turnsOn (suc r) (passed f))
+unfolding turnsOn turnsFor
+turns-tried r f e q = rw q
+
+same-n : (s : State) (e : Event) (u : State) (m : Mark) → step s e ≡ accepted u m → u .n ≡ s .n
+unfolding effect
+same-n s e u m q = ap (λ (x : State). x .n) (accepted-is s e u m q .state)
+
+-- ── the first stack ──
+
+all-left : (r : ℕ) (s : State) → left r (frame s 0 ∷ []) ≡ listsFrom r s
+unfolding left path
+all-left r s = rw (fresh-frame r s, append-nil) (each-same (listsFrom r s))
+
+whole-text : (n k : ℕ) → fits (n ∷ k ∷ []) ≡ true → textOf (n ∷ k ∷ []) ≡ leftText 0 k (frame (start n) 0 ∷ [])
+unfolding textOf leftText
+whole-text n k q = let z : 0 + length (listsFrom k (start n)) ≡ length (listsFrom k (start n)) = omega arith in rw (q, pick-true, all-left k (start n), z)
