@@ -35,7 +35,7 @@ unfolding eventAt
 at-place n c i q h = let z : 0 + i ≡ i = omega arith in ap (λ l. getD l i (Crash 0)) q ∙ (each-at (eventBy n) 0 c i (Crash 0) h ∙ ap (eventBy n) z)
 
 -- what holds of 1, 2 and 3
-of-three : (P : ℕ → Type 0) → P 1 → P 2 → P 3 → (n : ℕ) → 1 ≤ n → n ≤ 3 → P n
+pub of-three : (P : ℕ → Type 0) → P 1 → P 2 → P 3 → (n : ℕ) → 1 ≤ n → n ≤ 3 → P n
 of-three P a b c zero h k = absurd (omega arith)
 of-three P a b c (suc zero) h k = a
 of-three P a b c (suc (suc zero)) h k = b

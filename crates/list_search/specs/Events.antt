@@ -25,7 +25,7 @@ abbrev pub sender : ℕ → ℕ → ℕ
 sender n p = p / (n - 1) + 1
 
 unfoldable pub receiver : ℕ → ℕ → ℕ
-receiver n p = pick (ltb (p % (n - 1) + 1) (sender n p)) (p % (n - 1) + 1) (p % (n - 1) + 2)
+receiver n p = pick (ltb (p % (n - 1) + 1) (sender n p)) (p % (n - 1) + 1) (p % (n - 1) + 1 + 1)
 
 abbrev pub pairCount : ℕ → ℕ
 pairCount n = n * (n - 1)
@@ -38,8 +38,8 @@ eventCount n = 7 * n + 2 * pairCount n
 unfoldable pub eventBy : ℕ → ℕ → Event
 eventBy n i =
     pick (ltb i (7 * n)) (single (i / n) (i % n + 1))
-    (pick (ltb i (7 * n + pairCount n)) (Deliver (sender n (i - 7 * n)) (receiver n (i - 7 * n)))
-    (Lose (sender n (i - (7 * n + pairCount n))) (receiver n (i - (7 * n + pairCount n)))))
+    (pick (ltb (i - 7 * n) (pairCount n)) (Deliver (sender n (i - 7 * n)) (receiver n (i - 7 * n)))
+    (Lose (sender n (i - 7 * n - pairCount n)) (receiver n (i - 7 * n - pairCount n))))
 
 pub record ByPlace : Type 0 where
   pub size : (n : ℕ) → 1 ≤ n → n ≤ 3 → sizeOf n ≡ eventCount n

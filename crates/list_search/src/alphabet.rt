@@ -1,12 +1,35 @@
-// The events that may stand in a list, by their places.
+// The events that may stand in a list, by their places in the alphabet, for the n of T-01.
+ghost use mathlib.Core.Path.{_≡_};
+ghost use Prim.Native.Nat.{_≤_, _<_};
+ghost use Rattle.list_search.specs.Stack as stack;
+ghost use Rattle.list_search.specs.Events as spec;
 use model::Event;
 use model::TaskNo;
 
-pub fn event_count(n: u8) -> u8 {
-    7 * n + 2 * (n * (n - 1))
+// How many pairs of two different nodes there are.
+fn pair_count(n: u8) -> u8
+    requires { ⌜ (1 ≤ n) × (n ≤ 3) ⌝ }
+    ensures { λ r. ⌜ (r ≡ spec.pairCount n) × (r ≤ 6) ⌝ }
+{
+    match n {
+        1 => 0,
+        2 => 2,
+        _ => 6,
+    }
 }
 
-fn single(k: u8, i: u8) -> Event {
+// How many events there are.
+pub fn event_count(n: u8) -> u8
+    requires { ⌜ (1 ≤ n) × (n ≤ 3) ⌝ }
+    ensures { λ r. ⌜ (r ≡ stack.sizeOf n) × (r ≤ 33) ⌝ }
+{
+    7 * n + 2 * pair_count(n)
+}
+
+// The event of one node with tag 0x10 + k.
+fn single(k: u8, i: u8) -> Event
+    ensures { λ r. ⌜ r ≡ spec.single k i ⌝ }
+{
     match k {
         0 => Event::Crash(i),
         1 => Event::Recover(i),
@@ -18,23 +41,40 @@ fn single(k: u8, i: u8) -> Event {
     }
 }
 
-fn receiver(n: u8, p: u8) -> u8 {
+// The sender of pair p, from 0 on.
+fn sender(n: u8, p: u8) -> u8
+    requires { ⌜ (2 ≤ n) × (n ≤ 3) × (p < 6) ⌝ }
+    ensures { λ r. ⌜ r ≡ spec.sender n p ⌝ }
+{
+    p / (n - 1) + 1
+}
+
+// Its receiver.
+fn receiver(n: u8, p: u8) -> u8
+    requires { ⌜ (2 ≤ n) × (n ≤ 3) × (p < 6) ⌝ }
+    ensures { λ r. ⌜ r ≡ spec.receiver n p ⌝ }
+{
     let j = p % (n - 1) + 1;
-    if j < p / (n - 1) + 1 {
+    if j < sender(n, p) {
         return j;
     }
     j + 1
 }
 
-pub fn event_at(n: u8, i: u8) -> Event {
-    if i < 7 * n {
+// Event i, from 0 on.
+pub fn event_at(n: u8, i: u8) -> Event
+    requires { ⌜ (1 ≤ n) × (n ≤ 3) × (i < stack.sizeOf n) ⌝ }
+    ensures { λ r. ⌜ r ≡ stack.eventAt n i ⌝ }
+{
+    let singles = 7 * n;
+    if i < singles {
         return single(i / n, i % n + 1);
     }
-    let p = i - 7 * n;
-    let pairs = n * (n - 1);
+    let p = i - singles;
+    let pairs = pair_count(n);
     if p < pairs {
-        return Event::Deliver(p / (n - 1) + 1, receiver(n, p));
+        return Event::Deliver(sender(n, p), receiver(n, p));
     }
     let q = p - pairs;
-    Event::Lose(q / (n - 1) + 1, receiver(n, q))
+    Event::Lose(sender(n, q), receiver(n, q))
 }

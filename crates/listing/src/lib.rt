@@ -108,25 +108,6 @@ fn field_at(free: &mut [u8], p: usize, k: usize, x: u32)
     number_at(free, p + 1, k, x)
 }
 
-// The bytes of w into out from at on: the offset behind them. The caller sees to the room.
-pub fn put_bytes(out: &mut [u8], at: usize, w: &[u8]) -> usize
-    requires { ⌜ at + length (now w) ≤ length (now out) ⌝ }
-    ensures { λ r. ⌜ (now (out .exit) ≡ written (now (out .entry)) at (now (w .entry))) × (length (now (out .exit)) ≡ length (now (out .entry))) × (r ≡ at + length (now (w .entry))) ⌝ }
-{
-    copy_in(&mut out[at..], w);
-    at + w.len()
-}
-
-// A space and x in decimal into out from at on: the offset behind them. The caller sees to the room.
-pub fn put_field(out: &mut [u8], at: usize, x: u32) -> usize
-    requires { ⌜ at + 11 ≤ length (now out) ⌝ }
-    ensures { λ r. ⌜ (now (out .exit) ≡ written (now (out .entry)) at (32 ∷ decimal x)) × (length (now (out .exit)) ≡ length (now (out .entry))) × (r ≡ at + length (32 ∷ decimal x)) × (r ≤ at + 11) ⌝ }
-{
-    let k = digit_count(x);
-    field_at(out, at, k, x);
-    at + 1 + k
-}
-
 // The line of a word, which has its space behind it, and a number, at the start of free, which is the free end of a buffer.
 fn write_one(free: &mut [u8], w: &[u8; 9], x: u32) -> Put
     ensures { λ r. ⌜ shown r (now (free .exit)) ≡ printed (now (free .entry)) 0 ((now (w .entry) ++ (decimal x ++ row [])) ∷ []) ⌝ }

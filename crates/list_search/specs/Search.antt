@@ -1,0 +1,101 @@
+-- What a search still gives, and what `begin` and `next_lines` promise.
+use Prim.Native.Nat.{ℕ, zero, suc, _+_, _-_, _*_, _^_, _≤_, _<_}
+use mathlib.Core.Bool.{true, false}
+use mathlib.Core.Path.{_≡_}
+use mathlib.Core.Logic.{_⊎_}
+use mathlib.Core.List.{List, [], _∷_, _++_}
+use lib.Dec.{eqb}
+use lib.ListN.{length, take, getD}
+use Rattle.model.specs.Pick.{pick}
+use Rattle.model.specs.State.{startingNode, inRange}
+use Rattle.model.specs.declared.Event.{Event}
+use Rattle.packed.specs.Seen.{seen}
+use Rattle.listing.specs.Lines.{stoppedLine}
+use Rattle.short_lists_text.specs.Text.{textOf}
+use Rattle.list_search.specs.declared.Level.{Level}
+use Rattle.list_search.specs.declared.Search.{Search}
+use Rattle.list_search.specs.declared.Piece.{Piece}
+use Rattle.list_search.specs.Stack.{Frame, frame, sizeOf, path, left, leftText}
+use Rattle.list_search.specs.Line.{beginning}
+
+-- ── the stack of a search ──
+
+-- a level that is none
+abbrev pub noLevel : Level
+noLevel = record { nodes = []; words = []; waiting = 0; tried = 0; line = []; end = 0 }
+
+-- the frame of a level, in a search of n nodes
+abbrev pub frameOf : ℕ → Level → Frame
+frameOf n l = frame (seen n (l .nodes) (l .words) (l .waiting)) (l .tried)
+
+-- those of the first h levels, the topmost first
+unfoldable pub framesOf : ℕ → List Level → ℕ → List Frame
+framesOf n ls zero = []
+framesOf n ls (suc h) = frameOf n (getD ls h noLevel) ∷ framesOf n ls h
+
+abbrev pub stackOf : Search → List Frame
+stackOf s = framesOf (s .n) (s .levels) (s .height)
+
+-- how many events are missing behind the topmost table
+abbrev pub missing : Search → ℕ
+missing s = s .length + 1 - s .height
+
+-- the text that a search still gives; 0 nodes stand for an input that is refused
+unfoldable pub textLeft : Search → List ℕ
+textLeft s = pick (eqb (s .n) 0) (stoppedLine 0 16) (leftText (s .given) (missing s) (stackOf s))
+
+-- ── what is so of every search that is given ──
+
+-- of a level that the events p led to
+pub record SoundLevel (n : ℕ) (p : List Event) (l : Level) : Type 0 where
+  pub nodes : length (l .nodes) ≡ 16
+  pub words : length (l .words) ≡ 256
+  pub range : inRange (seen n (l .nodes) (l .words) (l .waiting)) ≡ true
+  pub within : l .tried ≤ sizeOf n
+  -- the beginning of the lines of all lists from there
+  pub room : length (l .line) ≡ 128
+  pub end : l .end ≤ 18 * length p
+  pub line : take (l .end) (l .line) ≡ beginning p
+
+-- of the first h levels, above each of which another stands: an event was tried, the one that led there
+abbrev pub SoundBelow : ℕ → List Level → ℕ → Type 0
+SoundBelow n ls zero = Unit {0}
+SoundBelow n ls (suc h) = SoundLevel n (path (framesOf n ls h)) (getD ls h noLevel) × (1 ≤ getD ls h noLevel .tried) × SoundBelow n ls h
+
+-- of a search that goes on: h levels stand below the topmost
+pub record Going (s : Search) (h : ℕ) : Type 0 where
+  pub some : 1 ≤ s .n
+  pub few : s .n ≤ 3
+  pub long : s .length ≤ 7
+  pub room : length (s .levels) ≡ 8
+  pub height : s .height ≡ h + 1
+  -- an event is missing behind the topmost table, or the empty list is asked for
+  pub below : (h < s .length) ⊎ ((s .length ≡ 0) × (h ≡ 0))
+  pub beneath : SoundBelow (s .n) (s .levels) h
+  pub top : SoundLevel (s .n) (path (framesOf (s .n) (s .levels) h)) (getD (s .levels) h noLevel)
+  -- the count of all lists is a number of 32 bits
+  pub count : s .given + length (left (missing s) (stackOf s)) < 2 ^ 32
+
+abbrev pub Sound : Search → Type 0
+Sound s = (s .n ≡ 0) ⊎ Going s (s .height - 1)
+
+-- ── the promises ──
+
+-- a search for the input l: all of its text is still to come
+pub record Begun (l : List ℕ) (s : Search) : Type 0 where
+  pub sound : Sound s
+  pub text : textLeft s ≡ textOf l
+
+-- the text that comes after a piece: none behind the last
+abbrev pub textAfter : Piece → List ℕ
+textAfter p = pick (p .done) [] (textLeft (p .search))
+
+-- a piece of the text that s still gives, at the start of the buffer, which then holds o
+pub record Gave (s : Search) (o : List ℕ) (p : Piece) : Type 0 where
+  -- what was written, and then what comes after it, is the text that s still gave
+  pub text : textLeft s ≡ take (p .written) o ++ textAfter p
+  pub room : p .written ≤ length o
+  -- something was written, so the pieces come to an end
+  pub some : 1 ≤ p .written
+  -- and the search goes on
+  pub sound : p .done ≡ false → Sound (p .search)
