@@ -9,11 +9,15 @@ use mathlib.Core.List.{List, [], _∷_, _++_, append-assoc}
 use borrow.Author.Tests.{le-leb}
 use Rattle.model.specs.Limits.{nodeLimit}
 use Rattle.model.specs.Pick.{pick, pick-true}
-use Rattle.model.specs.State.{State, start, wrongCount, inRange}
-use Rattle.model.specs.Step.{Result, refused, accepted, step, kept, after, runFrom}
+use Rattle.model.specs.State.{State, start, wrongCount, noMessage, inRange, view}
+use Rattle.model.specs.Step.{step, after, runFrom}
 use Rattle.model.specs.Answers.{resultNumber}
+use Rattle.model.specs.declared.Table.{Table}
 use Rattle.model.specs.declared.Event.{Event}
 use Rattle.model.proofs.InRange.{stays-in-range}
+use Rattle.machine.proofs.Laws.{first-length}
+use Rattle.packed.specs.Packed.{held}
+use Rattle.packed.specs.Seen.{seen}
 use Rattle.event_list.specs.declared.Stop.{Stop}
 use Rattle.event_list.specs.declared.Next.{Next}
 use Rattle.event_list.specs.declared.Next.the-variants as Next
@@ -29,13 +33,10 @@ use Rattle.listing.proofs.Printing.{then-next, then-refused}
 use Rattle.run_list.specs.Text.{noteLines, refusedLines, runLines, linesOf, Headed}
 use Rattle.run_list.specs.declared.Heading.the-variants as Heading
 
--- A table in range stays in range, whether the event is accepted or refused.
-pub after-in-range : (s : State) (v : Event) → inRange s ≡ true → inRange (after s v) ≡ true
-after-in-range s v g = by (step s v) refl
-  where
-    by : (r : Result) → step s v ≡ r → inRange (kept s r) ≡ true
-    by (refused x) q = g
-    by (accepted u k) q = stays-in-range .keeps s v u k q
+-- the lines of a table do not depend on what its messages are
+pub same-lines : (t : Table) (ws : List ℕ) → tableLines (view t) ≡ tableLines (seen (t .n) (t .nodes) ws (t .waiting))
+unfolding tableLines
+same-lines t ws = rw (first-length (t .waiting) noMessage (t .messages), first-length (t .waiting) noMessage (held ws))
 
 -- the lines that are left at an offset, where the table is s and the next event is event e
 abbrev pub left : List ℕ → State → ℕ → ℕ → List (List ℕ)

@@ -3,5 +3,4 @@ pub mod Bound
 pub mod Behind
 pub mod Cases
 pub mod Mutants
-pub mod Turns
 pub mod Shows

@@ -2,9 +2,9 @@
 use borrow.Author.Needs.{needs}
 use denote.Ref.{now}
 use mathlib.Core.Path.{refl, _∙_}
+use Rattle.packed.proofs.Turns.{start-empty}
 use Rattle.event_list.proofs.Reading.{first-good}
 use Rattle.run_list.proofs.Laws.{start-in-range, headed-ended, headed-nodes}
-use Rattle.run_list.proofs.Turns.{start-empty}
 use Rattle.run_list.proofs.print_lines.Statement.{statement}
 use Rattle.run_list.proofs.print_lines.Tie as tie
 

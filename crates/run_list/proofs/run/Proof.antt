@@ -8,19 +8,20 @@ use denote.Ref.{now}
 use mathlib.Core.Path.{_≡_, refl, sym, _∙_, ap}
 use mathlib.Core.Bool.{true}
 use mathlib.Core.List.{List}
-use lib.ListN.{length, length-set}
-use Rattle.model.specs.State.{view, inRange}
+use lib.ListN.{length}
+use Rattle.model.specs.State.{view}
 use Rattle.machine.proofs.Laws.{sized}
+use Rattle.packed.specs.Seen.{seen}
+use Rattle.packed.proofs.Turns.{same-start, Ready, few, rulable, refused-turn, has-room, accepted-turn, ready-again}
 use Rattle.event_list.proofs.Reading.{next-past}
 use Rattle.listing.specs.Printing.{Print, printed}
-use Rattle.run_list.proofs.Laws.{after-in-range, left, left-done, left-stopped, left-quiet, turn-next, turn-refused}
-use Rattle.run_list.proofs.Turns.{seen, same-lines, same-start, Ready, few, rulable, refused-turn, has-room, accepted-turn}
+use Rattle.run_list.proofs.Laws.{same-lines, left, left-done, left-stopped, left-quiet, turn-next, turn-refused}
 use Rattle.run_list.proofs.run.Statement.{statement}
 use Rattle.run_list.proofs.run.Tie as tie
 
 abbrev Inv-loop : tie.InvT-loop
 Inv-loop list out₀ from t₀ q₀ at₀ e₀ p₀ out t q at e p =
-    (e ≤ at) × (at ≤ length list) × Ready t q × (length out ≡ length out₀) × (printed out p (left list (seen t q) at e) ≡ printed out₀ from (left list (view t₀) 4 1))
+    (e ≤ at) × (at ≤ length list) × Ready (t .n) (t .nodes) q (t .waiting) × (length out ≡ length out₀) × (printed out p (left list (seen (t .n) (t .nodes) q (t .waiting)) at e) ≡ printed out₀ from (left list (view t₀) 4 1))
 
 -- An event takes at least four bytes.
 abbrev μ-loop : tie.MeasureT-loop
@@ -40,8 +41,9 @@ returns c =
     let m = k .before .before in
     let v = m .before .before in
     let l = v .before .loop in
+    let t = l .t in
     let s = v .before .before .before .before .before .args in
-    k .put-table .ensures ∙ rw (same-lines (l .t) (l .q), ← left-done (now (s .list)) (seen (l .t) (l .q)) (l .at) (l .e) (v .event-at .ensures) (m .enum-told .given .1)) (l .inv .4)
+    k .put-table .ensures ∙ rw (same-lines t (l .q), ← left-done (now (s .list)) (seen (t .n) (t .nodes) (l .q) (t .waiting)) (l .at) (l .e) (v .event-at .ensures) (m .enum-told .given .1)) (l .inv .4)
 
 -- a refusal of the list
 returns-2 : tie.Need-returns-2 Inv-loop μ-loop
@@ -50,8 +52,9 @@ returns-2 c =
     let m = k .before .before .before in
     let v = m .before .before in
     let l = v .before .loop in
+    let t = l .t in
     let s = v .before .before .before .before .before .args in
-    k .stop .ensures ∙ rw (same-lines (l .t) (l .q), ← left-stopped (now (s .list)) (seen (l .t) (l .q)) (l .at) (l .e) (v .event-at .ensures) (m .s .given .1)) (l .inv .4)
+    k .stop .ensures ∙ rw (same-lines t (l .q), ← left-stopped (now (s .list)) (seen (t .n) (t .nodes) (l .q) (t .waiting)) (l .at) (l .e) (v .event-at .ensures) (m .s .given .1)) (l .inv .4)
 
 rule-requires : tie.Need-rule-requires Inv-loop μ-loop
 rule-requires c κs =
@@ -60,7 +63,7 @@ rule-requires c κs =
     let l = m .before .before .before .loop in
     let h = l .inv .2 in
     let e = m .event .given .0 .0 in
-    (h .words, few (l .t) (l .q) h e, rulable (l .t) (l .q) h e _ (a .seat .ensures .0) _)
+    (h .words, few _ _ _ _ h e, rulable _ _ _ _ h e _ (a .seat .ensures .0) _)
 
 -- an event that is accepted
 exchange-requires : tie.Need-exchange-requires Inv-loop μ-loop
@@ -72,7 +75,7 @@ exchange-requires c κs =
     let l = m .before .before .before .loop in
     let h = l .inv .2 in
     let yes = sym (i .before .is-accepted .ensures) ∙ i .if1 .taken in
-    (h .words, few (l .t) (l .q) h (m .event .given .0 .0), r .rule .ensures .reach, has-room (l .t) (l .q) h _ _ (a .seat .ensures .0) _ _ (r .rule .ensures) yes)
+    (h .words, few _ _ _ _ h (m .event .given .0 .0), r .rule .ensures .reach, has-room _ _ _ _ h _ _ (a .seat .ensures .0) _ _ (r .rule .ensures) yes)
 
 loop-less : tie.Need-loop-less Inv-loop μ-loop
 loop-less c =
@@ -93,14 +96,15 @@ loop-again c =
     let list = now (v .before .before .before .before .before .args .list) in
     let h = l .inv in
     let x = c .exchange .ensures in
-    let t = accepted-turn (l .t) (l .q) (h .2) _ _ (a .seat .ensures .0) _ _ (r .rule .ensures) (sym (i .before .is-accepted .ensures) ∙ i .if1 .taken) _ _ (x .2) in
+    let yes = sym (i .before .is-accepted .ensures) ∙ i .if1 .taken in
+    let t = accepted-turn _ _ _ _ (h .2) _ _ (a .seat .ensures .0) _ _ (r .rule .ensures) yes _ _ (x .2) in
     let z = next-past list (l .at) (v .event-at .ensures) (m .event .given .1) in
     let low = h .0 in (
       omega arith,
       z .1,
-      record { words = x .0; nodes = simp length-set (h .2 .nodes); range = ap inRange (t .1) ∙ after-in-range (seen (l .t) (l .q)) _ (h .2 .range) },
+      ready-again _ _ _ _ (h .2) _ _ (a .seat .ensures .0) _ _ (r .rule .ensures) yes _ _ (x .2) (x .0),
       h .3,
-      ap (printed (l .out) (l .p)) (sym (left-quiet list (seen (l .t) (l .q)) (l .at) (l .e) (v .event-at .ensures) (m .event .given .1) 0 (t .0) _ (t .1) refl)) ∙ h .4,
+      ap (printed (l .out) (l .p)) (sym (left-quiet list _ (l .at) (l .e) (v .event-at .ensures) (m .event .given .1) 0 (t .0) _ (t .1) refl)) ∙ h .4,
     )
 
 -- an event that is refused: its line has no room, or stands there
@@ -114,9 +118,9 @@ returns-3 c =
     let v = m .before .before in
     let l = v .before .loop in
     let list = now (v .before .before .before .before .before .args .list) in
-    let t = refused-turn (l .t) (l .q) (l .inv .2) _ _ (a .seat .ensures .0) _ _ (r .rule .ensures) (sym (i .before .is-accepted .ensures) ∙ i .if1 .left) in
+    let t = refused-turn _ _ _ _ (l .inv .2) _ _ (a .seat .ensures .0) _ _ (r .rule .ensures) (sym (i .before .is-accepted .ensures) ∙ i .if1 .left) in
     sym
-    (turn-refused list (seen (l .t) (l .q)) (l .at) (l .e) (v .event-at .ensures) (m .event .given .1) _ (t .0) _ (t .1) _ _ _ _ (w .note .ensures) (c .enum-told2 .given .1))
+    (turn-refused list _ (l .at) (l .e) (v .event-at .ensures) (m .event .given .1) _ (t .0) _ (t .1) _ _ _ _ (w .note .ensures) (c .enum-told2 .given .1))
     ∙ l .inv .4
 
 -- what `search` needs stands too far back for it
@@ -142,7 +146,7 @@ loop-again-2 c =
     let l = v .before .loop in
     let list = now (v .before .before .before .before .before .args .list) in
     let h = l .inv in
-    let t = refused-turn (l .t) (l .q) (h .2) _ _ (a .seat .ensures .0) _ _ (r .rule .ensures) (sym (i .before .is-accepted .ensures) ∙ i .if1 .left) in
+    let t = refused-turn _ _ _ _ (h .2) _ _ (a .seat .ensures .0) _ _ (r .rule .ensures) (sym (i .before .is-accepted .ensures) ∙ i .if1 .left) in
     let z = next-past list (l .at) (v .event-at .ensures) (m .event .given .1) in
     let low = h .0 in (
       omega arith,
@@ -150,7 +154,7 @@ loop-again-2 c =
       h .2,
       search needs,
       sym
-          (turn-next list (seen (l .t) (l .q)) (l .at) (l .e) (v .event-at .ensures) (m .event .given .1) _ (t .0) _ (t .1) _ _ _ _ (w .note .ensures) _ (c .before .w .given .1))
+          (turn-next list _ (l .at) (l .e) (v .event-at .ensures) (m .event .given .1) _ (t .0) _ (t .1) _ _ _ _ (w .note .ensures) _ (c .before .w .given .1))
           ∙ h .4,
     )
 
