@@ -4,4 +4,5 @@ pub mod Members
 pub mod Whole
 pub mod Few
 pub mod Counts
+pub mod Bytes
 pub mod Cases

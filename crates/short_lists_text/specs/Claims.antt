@@ -1,17 +1,22 @@
 -- What is claimed of the lists. The proofs are in proofs/.
 use Prim.Native.Nat.{ℕ, _^_, _≤_, _<_}
+use mathlib.Core.Bool.{true}
 use mathlib.Core.Path.{_≡_}
 use mathlib.Core.Logic.{_⊎_}
 use mathlib.Core.List.{List, [], _∷_, _++_}
 use lib.ListN.{length}
 use Rattle.model.specs.State.{State, start}
+use Rattle.model.specs.Step.{step}
+use Rattle.model.specs.declared.TaskNo.{TaskNo}
 use Rattle.model.specs.declared.Event.{Event}
+use Rattle.model.specs.declared.Event.the-variants.{Crash, Recover, Check, Timeout, Tick, Expire, Finish, Deliver, Lose}
+use Rattle.event_list.specs.Format.{eventTag, lengthOf, eventOf}
 use Rattle.listing.specs.Ascii.{bytes}
 use Rattle.listing.specs.Decimal.{Denotes}
 use Rattle.listing.specs.Printing.{joined}
-use Rattle.short_lists_text.specs.Rows.{Among, Ascending, each}
-use Rattle.short_lists_text.specs.Order.{ListBelow}
-use Rattle.short_lists_text.specs.Lists.{listsFrom, Legal}
+use Rattle.short_lists_text.specs.Rows.{Among, All, Ascending, each}
+use Rattle.short_lists_text.specs.Order.{tag, contents, ListBelow}
+use Rattle.short_lists_text.specs.Lists.{listsFrom, isAccepted, Legal}
 use Rattle.short_lists_text.specs.Text.{listLine, countLine, textOf}
 
 -- the lists of k events from s, whatever s is
@@ -48,3 +53,27 @@ pub record Counts : Type 0 where
   pub last : (n k : ℕ) → 1 ≤ n → n ≤ 3 → k ≤ 7 → IsCount (length (listsFrom k (start n))) (countLine (length (listsFrom k (start n))))
   -- wherever there are fewer than 2 ^ 32 lists
   pub any : (ls : List (List Event)) → length ls < 2 ^ 32 → IsCount (length ls) (countLine (length ls))
+
+-- an event whose nodes fit into one byte, and its task into two
+abbrev pub FitsBytes : Event → Type 0
+FitsBytes (Crash i) = i < 256
+FitsBytes (Recover i) = i < 256
+FitsBytes (Check i) = i < 256
+FitsBytes (Timeout i) = i < 256
+FitsBytes (Tick i) = i < 256
+FitsBytes (Expire i) = i < 256
+FitsBytes (Finish i t) = (i < 256) × (t .number < 65536)
+FitsBytes (Deliver a b) = (a < 256) × (b < 256)
+FitsBytes (Lose a b) = (a < 256) × (b < 256)
+
+-- "tag first, then contents as bytes": the tag and the contents that the order compares are those of the event's field in a list of 01
+pub record SameBytes : Type 0 where
+  -- what stands for an event has an event's tag and the length that goes with it, and is read as that event
+  pub tagged : (e : Event) → eventTag (tag e) ≡ true
+  pub long : (e : Event) → length (contents e) ≡ lengthOf (tag e)
+  pub read : (e : Event) → eventOf (tag e) (contents e) ≡ e
+  -- and what is read as an event is what stands for that event
+  pub only : (t : ℕ) (c : List ℕ) → eventTag t ≡ true → length c ≡ lengthOf t → All (λ b. b < 256) c → (tag (eventOf t c) ≡ t) × (contents (eventOf t c) ≡ c)
+  -- it is bytes where the event's numbers fit, as those of every accepted event do
+  pub are-bytes : (e : Event) → FitsBytes e → All (λ b. b < 256) (tag e ∷ contents e)
+  pub accepted-fits : (s : State) (e : Event) → isAccepted (step s e) ≡ true → FitsBytes e
