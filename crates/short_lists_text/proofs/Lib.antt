@@ -5,4 +5,5 @@ pub mod Whole
 pub mod Few
 pub mod Counts
 pub mod Bytes
+pub mod Lines
 pub mod Cases

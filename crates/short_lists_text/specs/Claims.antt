@@ -1,4 +1,4 @@
--- What is claimed of the lists. The proofs are in proofs/.
+-- What is claimed of the lists and of their text. The proofs are in proofs/.
 use Prim.Native.Nat.{ℕ, _^_, _≤_, _<_}
 use mathlib.Core.Bool.{true}
 use mathlib.Core.Path.{_≡_}
@@ -17,7 +17,7 @@ use Rattle.listing.specs.Printing.{joined}
 use Rattle.short_lists_text.specs.Rows.{Among, All, Ascending, each}
 use Rattle.short_lists_text.specs.Order.{tag, contents, ListBelow}
 use Rattle.short_lists_text.specs.Lists.{listsFrom, isAccepted, Legal}
-use Rattle.short_lists_text.specs.Text.{listLine, countLine, textOf}
+use Rattle.short_lists_text.specs.Text.{numbersOf, eventsText, listLine, countLine, linesOf, textOf}
 
 -- the lists of k events from s, whatever s is
 pub record AllLists (k : ℕ) (s : State) : Type 0 where
@@ -77,3 +77,21 @@ pub record SameBytes : Type 0 where
   -- it is bytes where the event's numbers fit, as those of every accepted event do
   pub are-bytes : (e : Event) → FitsBytes e → All (λ b. b < 256) (tag e ∷ contents e)
   pub accepted-fits : (s : State) (e : Event) → isAccepted (step s e) ≡ true → FitsBytes e
+
+-- an event whose numbers are below 2 ^ 32
+abbrev pub SmallNumbers : Event → Type 0
+SmallNumbers e = All (λ x. x < 2 ^ 32) (numbersOf e)
+
+-- "Each list appears once", of the printed lines too: from a line its list can be told, and from the bytes of the text all its lists
+pub record ListLinesDetermine : Type 0 where
+  -- "A list is one line": before the 0x0A at its end there is no other
+  pub one-line : (l : List Event) → All (λ b. b ≡ 10 → ⊥) (eventsText l)
+  -- different lists have different lines
+  pub line : (l m : List Event) → All SmallNumbers l → All SmallNumbers m → listLine l ≡ listLine m → l ≡ m
+  -- what the machine accepts has such numbers, from any table
+  pub legal-small : (k : ℕ) (s : State) (l : List Event) → Legal k s l → All SmallNumbers l
+  pub lists-small : (k : ℕ) (s : State) → All (All SmallNumbers) (listsFrom k s)
+  -- where one of the lines stands, it stands neither before nor behind
+  pub once : (k : ℕ) (s : State) (x : List ℕ) (before behind : List (List ℕ)) → each listLine (listsFrom k s) ≡ before ++ (x ∷ behind) → (Among x before → ⊥) × (Among x behind → ⊥)
+  -- different lists have different texts
+  pub text : (ls ms : List (List Event)) → All (All SmallNumbers) ls → All (All SmallNumbers) ms → joined (linesOf ls) ≡ joined (linesOf ms) → ls ≡ ms
