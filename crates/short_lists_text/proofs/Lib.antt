@@ -2,4 +2,8 @@ pub mod Rows
 pub mod Order
 pub mod Members
 pub mod Whole
+pub mod Few
+pub mod Counts
+pub mod Bytes
+pub mod Lines
 pub mod Cases

@@ -6,12 +6,12 @@ use mathlib.Core.Path.{_≡_, refl, sym, _∙_, ap, subst}
 use mathlib.Core.Logic.{_⊎_, inl, inr}
 use mathlib.Core.List.{List, [], _∷_, _++_}
 use lib.Dec.{eqb, ltb}
-use lib.ListN.{getD}
 use borrow.Author.Tests.{ltb-true, ltb-false, eqb-true, eqb-false}
 use Rattle.model.specs.Pick.{pick, by-test}
 use Rattle.model.specs.declared.TaskNo.{TaskNo}
 use Rattle.model.specs.declared.Event.{Event}
 use Rattle.model.specs.declared.Event.the-variants.{Crash, Recover, Check, Timeout, Tick, Expire, Finish, Deliver, Lose}
+use Rattle.event_list.specs.Format.{eventOf}
 use Rattle.short_lists_text.specs.Rows.{All, Ascending, each}
 use Rattle.short_lists_text.specs.Order.{tag, contents, BytesBelow, Below, ListBelow}
 use Rattle.short_lists_text.specs.Lists.{onlyTask, upFrom, nodesOf, without, pairsOf, alphabet}
@@ -73,33 +73,21 @@ bytes-compare (x ∷ xs) (y ∷ ys) = by (numbers-compare x y) (bytes-compare xs
     by (inr (inl a)) (inr (inl b)) = inr (inl (cc))
     by (inr (inl a)) (inr (inr b)) = inr (inr (inr (sym a, b)))
 
--- the event of a tag and contents
-unfoldable back : ℕ → List ℕ → Event
-back t c =
-    pick (eqb t 0x10) (Crash (getD c 0 0))
-    (pick (eqb t 0x11) (Recover (getD c 0 0))
-    (pick (eqb t 0x12) (Check (getD c 0 0))
-    (pick (eqb t 0x13) (Timeout (getD c 0 0))
-    (pick (eqb t 0x14) (Tick (getD c 0 0))
-    (pick (eqb t 0x15) (Expire (getD c 0 0))
-    (pick (eqb t 0x16) (Finish (getD c 0 0) (record { number = getD c 1 0 * 256 + getD c 2 0 }))
-    (pick (eqb t 0x17) (Deliver (getD c 0 0) (getD c 1 0))
-    (Lose (getD c 0 0) (getD c 1 0)))))))))
-
-back-is : (e : Event) → back (tag e) (contents e) ≡ e
-unfolding back pick
-back-is (Crash i) = refl
-back-is (Recover i) = refl
-back-is (Check i) = refl
-back-is (Timeout i) = refl
-back-is (Tick i) = refl
-back-is (Expire i) = refl
-back-is (Finish i t) = let z : t .number / 256 * 256 + t .number % 256 ≡ t .number = omega arith in ap (λ x. Finish i (record { number = x })) z
-back-is (Deliver a b) = refl
-back-is (Lose a b) = refl
+-- the event is that of its tag and contents
+pub read : (e : Event) → eventOf (tag e) (contents e) ≡ e
+unfolding eventOf pick
+read (Crash i) = refl
+read (Recover i) = refl
+read (Check i) = refl
+read (Timeout i) = refl
+read (Tick i) = refl
+read (Expire i) = refl
+read (Finish i t) = let z : t .number / 256 * 256 + t .number % 256 ≡ t .number = omega arith in ap (λ x. Finish i (record { number = x })) z
+read (Deliver a b) = refl
+read (Lose a b) = refl
 
 same-event : (e f : Event) → tag e ≡ tag f → contents e ≡ contents f → e ≡ f
-same-event e f p q = sym (back-is e) ∙ (ap (λ t. back t (contents e)) p ∙ (ap (λ c. back (tag f) c) q ∙ back-is f))
+same-event e f p q = sym (read e) ∙ (ap (λ t. eventOf t (contents e)) p ∙ (ap (λ c. eventOf (tag f) c) q ∙ read f))
 
 event-compare : (e f : Event) → Below e f ⊎ ((e ≡ f) ⊎ Below f e)
 event-compare e f = by (numbers-compare (tag e) (tag f)) (bytes-compare (contents e) (contents f))

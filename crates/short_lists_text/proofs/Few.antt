@@ -1,0 +1,93 @@
+-- There are fewer than 2 ^ 32 lists for each n and length that is allowed: from the starting table n events are accepted, later at most 33.
+use Prim.Native.Nat.{ℕ, zero, suc, _*_, _^_, _≤_, _<_}
+use native.Mathlib.Nat.{pow-succ', pow-le-pow-right, mul-le-mul-right}
+use native.Mathlib.Omega.{arith}
+use mathlib.Core.Path.{_≡_, refl, ap}
+use mathlib.Core.List.{List, [], _∷_}
+use lib.Count.{onesIn, ones, leadingZeros, trailingZeros}
+use lib.ListN.{length, length-append}
+use Rattle.model.specs.Pick.{pick}
+use Rattle.model.specs.Procedures.{inviteNext, merges, handNext, finishes, forwardNext, askedAll, askAt, askAfter}
+use Rattle.model.specs.React.{checked, timedOut, ticked, expired, resumed, onAreYouCoordinator, onAreYouThere, onInvitation, onAccept, onReady, onReply, received, react}
+use Rattle.model.specs.Range.{activityInRange, nodeInRange, messageInRange}
+use Rattle.model.specs.State.{State, start, waits, oldest, withoutOldest, every, inRange}
+use Rattle.model.specs.Step.{reactionTo, remaining, effect, grounds, judged, Result, refused, accepted, step}
+use Rattle.model.specs.declared.Mark.{Mark}
+use Rattle.model.specs.declared.Event.{Event}
+use Rattle.model.specs.declared.Event.the-variants.{Recover}
+use Rattle.model.proofs.Judged.{accepted-is}
+use Rattle.short_lists_text.specs.Rows.{each, rows}
+use Rattle.short_lists_text.specs.Lists.{upFrom, nodesOf, without, pairsOf, alphabet, continued, listsFrom}
+use Rattle.short_lists_text.specs.Claims.{FewLists}
+
+-- ── lengths ──
+
+pub each-long : {A B : Type 0} (f : A → B) (xs : List A) → length (each f xs) ≡ length xs
+each-long f [] = refl
+each-long f (x ∷ xs) = ap suc (each-long f xs)
+
+rows-long : {A B : Type 0} (f : A → List B) (b : ℕ) → ((x : A) → length (f x) ≤ b) → (xs : List A) → length (rows f xs) ≤ length xs * b
+rows-long f b h [] = omega arith
+rows-long f b h (x ∷ xs) = let r = rows-long f b h xs in let q = h x in simp length-append (omega arith)
+
+-- 7 events of each node, and 2 of each ordered pair
+alphabet-long : (n : ℕ) → 1 ≤ n → n ≤ 3 → length (alphabet n) ≤ 33
+unfolding alphabet pairsOf upFrom without pick
+alphabet-long zero a b = absurd (omega arith)
+alphabet-long (suc zero) a b = omega arith
+alphabet-long (suc (suc zero)) a b = omega arith
+alphabet-long (suc (suc (suc zero))) a b = omega arith
+alphabet-long (suc (suc (suc (suc n)))) a b = absurd (omega arith)
+
+-- ── from any table of at most three nodes ──
+
+same-n : (s : State) (e : Event) (u : State) (m : Mark) → step s e ≡ accepted u m → u .n ≡ s .n
+unfolding effect
+same-n s e u m q = ap (λ (x : State). x .n) (accepted-is s e u m q .state)
+
+pub lists-within : (k : ℕ) (s : State) → 1 ≤ s .n → s .n ≤ 3 → length (listsFrom k s) ≤ 33 ^ k
+unfolding listsFrom
+lists-within zero s a b = omega arith
+lists-within (suc k) s a b =
+    let r = rows-long (λ e. continued e (step s e) (listsFrom k)) (33 ^ k) (λ e. by (lists-within k) e (step s e) refl) (alphabet (s .n)) in
+    let l = mul-le-mul-right (33 ^ k) (alphabet-long (s .n) a b) in
+    omega (arith, pow-succ' 33 k)
+  where
+    by : ((u : State) → 1 ≤ u .n → u .n ≤ 3 → length (listsFrom k u) ≤ 33 ^ k) → (e : Event) (r : Result) → step s e ≡ r → length (continued e r (listsFrom k)) ≤ 33 ^ k
+    by f e (refused x) q = omega arith
+    by f e (accepted u m) q = let z = same-n s e u m q in let h = f u (omega arith) (omega arith) in rw (each-long (λ l. e ∷ l) (listsFrom k u)) h
+
+-- ── from the starting table ──
+
+-- one event is accepted for each node, its recovery
+module _ (later : State → List (List Event)) where
+  abbrev recovered : ℕ → ℕ → List (List Event)
+  recovered n i = each (λ l. Recover i ∷ l) (later (effect (start n) (Recover i)))
+
+  first-events : (n : ℕ) → 1 ≤ n → n ≤ 3 → rows (λ e. continued e (step (start n) e) later) (alphabet n) ≡ rows (recovered n) (nodesOf n)
+  unfolding pick onesIn ones leadingZeros trailingZeros inviteNext merges handNext finishes forwardNext askedAll askAt askAfter checked timedOut ticked expired resumed onAreYouCoordinator onAreYouThere onInvitation onAccept onReady onReply received react activityInRange nodeInRange messageInRange waits oldest withoutOldest every inRange reactionTo remaining effect grounds judged step upFrom without pairsOf alphabet
+  first-events zero p q = absurd (omega arith)
+  first-events (suc zero) p q = refl
+  first-events (suc (suc zero)) p q = refl
+  first-events (suc (suc (suc zero))) p q = refl
+  first-events (suc (suc (suc (suc n)))) p q = absurd (omega arith)
+
+nodes-long : (k c : ℕ) → length (upFrom k c) ≡ c
+unfolding upFrom
+nodes-long k zero = refl
+nodes-long k (suc c) = ap suc (nodes-long (suc k) c)
+
+few : (n k : ℕ) → 1 ≤ n → n ≤ 3 → k ≤ 7 → length (listsFrom k (start n)) < 2 ^ 32
+unfolding listsFrom effect
+few n zero p q h = omega arith
+few n (suc k) p q h =
+    let r =
+    rows-long (recovered (listsFrom k) n) (33 ^ k)
+    (λ i. rw (each-long (λ l. Recover i ∷ l) (listsFrom k (effect (start n) (Recover i)))) (lists-within k (effect (start n) (Recover i)) p q)) (nodesOf n)
+    in
+    let m : 33 ^ k ≤ 33 ^ 6 = pow-le-pow-right {n = 33} (omega arith) {i = k} {j = 6} (omega arith) in
+    let t : length (nodesOf n) * 33 ^ k ≤ 3 * 33 ^ k = mul-le-mul-right (33 ^ k) (omega (arith, nodes-long 1 n)) in
+    rw (first-events (listsFrom k) n p q) (omega arith)
+
+pub few-lists : FewLists
+few-lists = record { few = few }
