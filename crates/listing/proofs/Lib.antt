@@ -1,5 +1,6 @@
 pub mod Decimal
 pub mod Printing
+pub mod Appended
 pub mod Lengths
 pub mod Making
 pub mod Table

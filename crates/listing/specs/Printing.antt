@@ -1,7 +1,8 @@
 -- Lines written one after the other into the free end of a lent buffer: what is answered, and what the buffer then holds.
 use mathlib.Core.Bool.{Bool, _&&_}
+use mathlib.Core.Path.{_≡_}
 use mathlib.Core.List.{List, [], _∷_, _++_}
-use Prim.Native.Nat.{ℕ, _+_, _-_}
+use Prim.Native.Nat.{ℕ, _+_, _-_, _≤_}
 use lib.ListN.{length, take, drop}
 use lib.Dec.{leb}
 use Rattle.model.specs.Pick.{pick}
@@ -44,3 +45,10 @@ printed b p (x ∷ xs) = pick (room b p x) (printed (written b p x) (p + length 
 unfoldable pub joined : List (List ℕ) → List ℕ
 joined [] = []
 joined (x ∷ xs) = x ++ joined xs
+
+-- s behind the first p bytes of b: o has both before r, and is as long as b
+pub record Appended (b : List ℕ) (p : ℕ) (s : List ℕ) (o : List ℕ) (r : ℕ) : Type 0 where
+  pub long : length o ≡ length b
+  pub next : r ≡ p + length s
+  pub fits : r ≤ length o
+  pub text : take r o ≡ take p b ++ s

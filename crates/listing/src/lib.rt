@@ -15,7 +15,7 @@ ghost use Rattle.model.specs.Answers.{statusNumber};
 ghost use Rattle.model.specs.State.{startingNode, view};
 ghost use Rattle.listing.specs.Decimal.{decimal};
 ghost use Rattle.listing.specs.Lines.{row, cabinetsLine, refusedLine, stoppedLine, nodeLine, messagesLine, tableLines};
-ghost use Rattle.listing.specs.Printing.{shown, written, printed};
+ghost use Rattle.listing.specs.Printing.{shown, written, printed, Appended};
 ghost use Rattle.listing.specs.Parts.{padded};
 
 // Written, and the offset after it; or refusal 15.
@@ -106,6 +106,25 @@ fn field_at(free: &mut [u8], p: usize, k: usize, x: u32)
 {
     free[p] = b' ';
     number_at(free, p + 1, k, x)
+}
+
+// The bytes of w into out from at on: the offset behind them. The caller sees to the room.
+pub fn put_bytes(out: &mut [u8], at: usize, w: &[u8]) -> usize
+    requires { ⌜ at + length (now w) ≤ length (now out) ⌝ }
+    ensures { λ r. ⌜ Appended (now (out .entry)) at (now (w .entry)) (now (out .exit)) r ⌝ }
+{
+    copy_in(&mut out[at..], w);
+    at + w.len()
+}
+
+// A space and x in decimal into out from at on: the offset behind them. The caller sees to the room.
+pub fn put_field(out: &mut [u8], at: usize, x: u32) -> usize
+    requires { ⌜ at + length (32 ∷ decimal x) ≤ length (now out) ⌝ }
+    ensures { λ r. ⌜ Appended (now (out .entry)) at (32 ∷ decimal x) (now (out .exit)) r ⌝ }
+{
+    let k = digit_count(x);
+    field_at(out, at, k, x);
+    at + 1 + k
 }
 
 // The line of a word, which has its space behind it, and a number, at the start of free, which is the free end of a buffer.
