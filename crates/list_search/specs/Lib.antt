@@ -1,2 +1,4 @@
 pub mod Stack
 pub mod Events
+pub mod Line
+pub mod Search

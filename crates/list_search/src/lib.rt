@@ -1,60 +1,68 @@
-// All accepted lists of a length, found by a search over a stack of tables, and their text in pieces.
+// All accepted lists of a length, found by a search over a stack of tables, and their text in pieces: no beginning of a list is run twice, and nothing grows with
+// the text. What the text is, is in crate short_lists_text; what a search means, in specs/.
 mod alphabet;
 mod line;
 
+ghost use mathlib.Core.Path.{_≡_};
+ghost use Prim.Native.Nat.{_-_, _≤_};
+ghost use lib.ListN.{length};
+ghost use Rattle.list_search.specs.Search.{Sound, Begun, Gave, Going};
 use line::LINE;
-use model::Activity;
-use model::CallNo;
-use model::Event;
-use model::GroupNo;
 use model::Node;
-use model::Status;
-use model::TaskNo;
 use packed::WORDS;
 
-pub const LEVELS: usize = 8;
+// A list of 7 events goes through 8 tables; the last is never needed.
+const LEVELS: usize = 8;
 
+// The bytes of a piece.
 pub const PIECE: usize = 65536;
 
-pub struct Level {
-    pub nodes: [Node; 16],
-    pub words: [u32; WORDS],
-    pub waiting: u8,
-    pub tried: u8,
-    pub line: [u8; LINE],
-    pub end: usize,
+// A table on the way to lists, its messages as words; how many events of the alphabet were tried on it; and the beginning of the line of every list through it, of
+// which the first end bytes count.
+struct Level {
+    nodes: [Node; 16],
+    words: [u32; WORDS],
+    waiting: u8,
+    tried: u8,
+    line: [u8; LINE],
+    end: usize,
 }
 
+// A search for lists of a length among n nodes, of which some were given; n is 0 where the input is refused. Only `begin` and `next_lines` make one.
 pub struct Search {
-    pub n: u8,
-    pub length: usize,
-    pub height: usize,
-    pub given: u32,
-    pub levels: [Level; LEVELS],
+    n: u8,
+    length: usize,
+    given: u32,
+    // how many levels of the stack count, the lowest first
+    height: usize,
+    levels: [Level; LEVELS],
 }
 
+// So many bytes were written: the last ones, or the search that goes on with the next.
 pub struct Piece {
     pub written: usize,
     pub done: bool,
     pub search: Search,
 }
 
-fn seat(e: Event) -> usize {
-    (machine::actor(e) as usize + 15) % 16
-}
-
-pub fn next_lines(s: Search, out: &mut [u8; PIECE]) -> Piece {
+// The next lines of a search in which an event is missing behind the topmost table. That table stands in this function's own locals, and the functions that it
+// calls take a node, a message and numbers: a table is copied only where an event is accepted that is not a list's last.
+fn lines_on(s: Search, out: &mut [u8; PIECE]) -> Piece
+    requires { ⌜ Going s (s .height - 1) × (1 ≤ s .length) ⌝ }
+    ensures { λ r. ⌜ Gave s (now (out .exit)) r ⌝ }
+{
     let n = s.n;
-    let count = alphabet::event_count(n);
     let length = s.length;
+    let count = alphabet::event_count(n);
     let mut levels = s.levels;
+    // how many levels stand below the topmost
     let mut height = s.height - 1;
     let top = levels[height];
     let mut nodes = top.nodes;
     let mut words = top.words;
     let mut waiting = top.waiting;
     let mut tried = top.tried;
-    let mut text = top.line;
+    let mut line = top.line;
     let mut end = top.end;
     let mut given = s.given;
     let mut at: usize = 0;
@@ -73,13 +81,13 @@ pub fn next_lines(s: Search, out: &mut [u8; PIECE]) -> Piece {
             words = below.words;
             waiting = below.waiting;
             tried = below.tried;
-            text = below.line;
+            line = below.line;
             end = below.end;
             continue;
         }
         let e = alphabet::event_at(n, tried);
         tried += 1;
-        let i = seat(e);
+        let i = packed::seat(e);
         let c = nodes[i];
         let ruling = packed::rule(&words, n, waiting, c, e);
         let verdict = ruling.verdict;
@@ -88,72 +96,46 @@ pub fn next_lines(s: Search, out: &mut [u8; PIECE]) -> Piece {
             continue;
         }
         if height + 1 == length {
-            at = line::put_line(out, at, &text, end, e);
+            at = line::put_line(out, at, &line, end, e);
             given += 1;
-            if PIECE - LINE < at {
-                levels[height] = Level {
-                    nodes: nodes,
-                    words: words,
-                    waiting: waiting,
-                    tried: tried,
-                    line: text,
-                    end: end,
-                };
-                return Piece {
-                    written: at,
-                    done: false,
-                    search: Search {
-                        n: n,
-                        length: length,
-                        height: height + 1,
-                        given: given,
-                        levels: levels,
-                    },
-                };
+            if at <= PIECE - LINE {
+                continue;
             }
-            continue;
+            levels[height] = Level {
+                nodes: nodes,
+                words: words,
+                waiting: waiting,
+                tried: tried,
+                line: line,
+                end: end,
+            };
+            return Piece {
+                written: at,
+                done: false,
+                search: Search {
+                    n: n,
+                    length: length,
+                    given: given,
+                    height: height + 1,
+                    levels: levels,
+                },
+            };
         }
         levels[height] = Level {
             nodes: nodes,
             words: words,
             waiting: waiting,
             tried: tried,
-            line: text,
+            line: line,
             end: end,
         };
+        height += 1;
         let reaction = verdict.reaction;
         let node = reaction.node;
         let outgoing = reaction.outgoing;
         nodes[i] = node;
         waiting = packed::exchange(&mut words, ruling.place, waiting, outgoing);
-        end = line::extend(&mut text, end, e);
+        end = line::extend(&mut line, end, e);
         tried = 0;
-        height += 1;
-    }
-}
-
-fn blank() -> Level {
-    let begun = machine::starting(3);
-    let t = begun.table;
-    let nodes = t.nodes;
-    Level {
-        nodes: nodes,
-        words: packed::none(),
-        waiting: 0,
-        tried: 0,
-        line: [0; LINE],
-        end: 0,
-    }
-}
-
-pub fn begin(input: &[u8]) -> Search {
-    let n = input[0];
-    let length = input[1] as usize;
-    Search {
-        n: n,
-        length: length,
-        height: 1,
-        given: 0,
-        levels: [blank(); LEVELS],
     }
 }

@@ -2,10 +2,13 @@
 -- and `exchange` changes the words.
 use Prim.Native.Nat.{ℕ, _+_, _%_, _≤_}
 use native.Mathlib.Omega.{arith}
+use native.Mathlib.Nat.{le-refl}
 use mathlib.Core.Path.{_≡_, refl, sym, _∙_, ap}
 use mathlib.Core.Bool.{true, false}
 use mathlib.Core.List.{List, _++_}
 use lib.ListN.{length, getD, set, length-set}
+use lib.Seq.{take-all}
+use Rattle.model.specs.Claims.{Accepts}
 use Rattle.model.specs.State.{State, start, noMessage, inRange, firstOf, view}
 use Rattle.model.specs.Step.{Result, refused, accepted, actor, sent, step, kept, after}
 use Rattle.model.specs.Answers.{answerNumber, resultNumber}
@@ -16,7 +19,7 @@ use Rattle.model.specs.declared.Event.{Event}
 use Rattle.model.proofs.InRange.{stays-in-range}
 use Rattle.model.proofs.Refusals.{refuses-by-ground}
 use Rattle.machine.specs.Parts.{without, Room, isAccepted, leftOf}
-use Rattle.machine.proofs.Laws.{Sized, first-length, nodes-set, state-is}
+use Rattle.machine.proofs.Laws.{Sized, first-length, first-take, nodes-set, state-is}
 use Rattle.machine.proofs.Parts.{refused-some}
 use Rattle.machine.proofs.Places.{small}
 use Rattle.machine.proofs.Judged.{judging, refuses, seated, room, accepts}
@@ -71,6 +74,16 @@ module _ (n : ℕ) (cs : List Node) (ws : List ℕ) (w : ℕ) (h : Ready n cs ws
       module _ (q : isAccepted (r .verdict .answer) ≡ true) where
         pub has-room : Room (r .verdict .reaction .outgoing) (leftOf w (r .place))
         has-room = room (whole n cs ws w) z (h .range) e _ (j .place) (j .reach) at ha d _ refl noMessage _ refl (r .verdict) (j .judged) q
+
+        -- accepted: the step is, whatever is then done with the words
+        pub step-accepts : Accepts (seen n cs ws w) e
+        step-accepts =
+            let l = without (r .place) (queue ws w) ++ sent (r .verdict .reaction .outgoing) in
+            let below = seated (whole n cs ws w) z (h .range) e _ (j .place) (j .reach) at ha d _ refl noMessage _ refl (r .verdict) (j .judged) q in
+            let s = accepts (whole n cs ws w) z (h .range) e _ (j .place) (j .reach) at ha d _ refl noMessage _ refl (r .verdict) (j .judged) q
+            (record { n = n; nodes = set cs at (r .verdict .reaction .node); messages = l; waiting = length l })
+            (state-is n (nodes-set n at cs (r .verdict .reaction .node) below (omega (arith, h .nodes, small (whole n cs ws w) z (h .range) e .1))) (first-take (length l) noMessage l (le-refl _) ∙ take-all (length l) l (le-refl _))) in
+            refuses-by-ground .zero-accepts (seen n cs ws w) e (sym (s .answer))
 
         -- accepted: the state after it, where us are the words after the exchange and v is how many wait then
         module _ (us : List ℕ) (v : ℕ) (x : queue us v ≡ without (r .place) (queue ws w) ++ sent (r .verdict .reaction .outgoing)) where

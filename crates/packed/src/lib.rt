@@ -13,7 +13,7 @@ ghost use mathlib.Core.List.{_++_};
 ghost use Prim.Native.Nat.{_+_, _*_, _%_, _≤_, _<_};
 ghost use lib.ListN.{length, getD, take, set};
 ghost use Rattle.model.specs.State.{noMessage};
-ghost use Rattle.model.specs.Step.{sent};
+ghost use Rattle.model.specs.Step.{actor, sent};
 ghost use Rattle.machine.specs.Parts as parts;
 ghost use Rattle.packed.specs.Packed as spec;
 
@@ -140,6 +140,13 @@ fn place_for(q: &[u32; WORDS], waiting: u8, e: Event) -> usize
         return find(q, waiting as usize, machine::sender(e), machine::actor(e));
     }
     waiting as usize
+}
+
+// The place of the event's node among the records, where its number is one of a node.
+pub fn seat(e: Event) -> usize
+    ensures { λ r. ⌜ (r ≡ (actor e + 15) % 16) × (r < 16) ⌝ }
+{
+    (machine::actor(e) as usize + 15) % 16
 }
 
 // The judgement of an event on a node's record c, with its message as it stands in q.

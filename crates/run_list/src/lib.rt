@@ -5,16 +5,14 @@ use event_list::Next;
 use event_list::Stop;
 use listing::Put;
 use model::Answer;
-use model::Event;
 use model::Table;
 ghost use mathlib.Core.Path.{_≡_};
 ghost use mathlib.Core.Bool.{true};
 ghost use mathlib.Core.List.{_∷_};
-ghost use Prim.Native.Nat.{_+_, _%_, _≤_, _<_};
+ghost use Prim.Native.Nat.{_≤_};
 ghost use lib.ListN.{length};
 ghost use Rattle.model.specs.Answers.{answerNumber};
 ghost use Rattle.model.specs.State.{view, inRange};
-ghost use Rattle.model.specs.Step.{actor};
 ghost use Rattle.event_list.specs.Format.{stopNumber, rest};
 ghost use Rattle.listing.specs.Lines.{stoppedLine, tableLines};
 ghost use Rattle.listing.specs.Printing.{shown, printed};
@@ -66,13 +64,6 @@ pub fn stop(out: &mut [u8], at: usize, b: u32, s: Stop, t: Table) -> Put
     }
 }
 
-// The place of the event's node, where its number is one of a node.
-fn seat(e: Event) -> usize
-    ensures { λ r. ⌜ (r ≡ (actor e + 15) % 16) × (r < 16) ⌝ }
-{
-    (machine::actor(e) as usize + 15) % 16
-}
-
 // The events of list behind its first field, run from the table start, in which no message waits, and all that is printed of them.
 // The table stands in this function's own local and its messages in q; the functions that it calls take a node, a message and numbers, so no table is copied.
 fn run(list: &[u8], out: &mut [u8], from: usize, start: Table) -> Put
@@ -90,7 +81,7 @@ fn run(list: &[u8], out: &mut [u8], from: usize, start: Table) -> Put
             Next::Stopped(s) => return stop(out, p, at as u32, s, t),
             Next::Got(event, next) => {
                 let waiting = t.waiting;
-                let i = seat(event);
+                let i = packed::seat(event);
                 let c = t.nodes[i];
                 let ruling = packed::rule(&q, t.n, waiting, c, event);
                 let verdict = ruling.verdict;
