@@ -53,9 +53,12 @@ pub fn read_all(buf: &mut [u8]) -> Input
     Input::Read(at)
 }
 
-// Writes all of text to standard output. Where that fails, standard error is told why; some of text may have been written.
-pub fn write_all(text: &[u8]) {
-    if !io::write_all(STDOUT_FILENO, text) {
-        os::fail(b"standard output");
+// Writes all of text to standard output and answers whether all was written, so that a program that writes in pieces can stop at the first failure.
+// Where that fails, standard error is told why; some of text may have been written. No contract can say what was written, so none says what the answer means.
+pub fn write_all(text: &[u8]) -> bool {
+    if io::write_all(STDOUT_FILENO, text) {
+        return true;
     }
+    os::fail(b"standard output");
+    false
 }
