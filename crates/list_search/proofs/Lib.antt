@@ -1,2 +1,4 @@
 pub mod Events
 pub mod Stack
+pub mod Lines
+pub mod Loop

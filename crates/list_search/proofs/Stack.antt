@@ -50,7 +50,7 @@ one-tried f q =
     let z : suc (f .tried) ≡ f .tried + 1 = omega arith in
     drop-cons (alphabet (f .state .n)) (f .tried) (Crash 0) (leb-false _ _ q) ∙ ap (λ i. eventAt (f .state .n) (f .tried) ∷ drop i (alphabet (f .state .n))) z
 
-path-passed : (f : Frame) (fs : List Frame) → path (passed f ∷ fs) ≡ path fs ++ (eventAt (f .state .n) (f .tried) ∷ [])
+pub path-passed : (f : Frame) (fs : List Frame) → path (passed f ∷ fs) ≡ path fs ++ (eventAt (f .state .n) (f .tried) ∷ [])
 unfolding path
 path-passed f fs = let z : f .tried + 1 - 1 ≡ f .tried = omega arith in ap (λ i. path fs ++ (eventAt (f .state .n) i ∷ [])) z
 
@@ -84,25 +84,25 @@ module _ (r : ℕ) (f : Frame) (fs : List Frame) (e : Event) (q : untried f ≡ 
       rw (fresh-frame r u, p)
       (ap (λ x. each (λ l. path fs ++ l) x ++ left (suc (suc r)) fs) (split u m h) ∙ parted (listsFrom r u) (onFrame (suc r) (passed f)) (left (suc (suc r)) fs))
 
-left-none : (r : ℕ) → left r [] ≡ []
+pub left-none : (r : ℕ) → left r [] ≡ []
 unfolding left
 left-none r = refl
 
-left-given : (f : Frame) (fs : List Frame) → left 0 (f ∷ fs) ≡ path fs ∷ left 1 fs
+pub left-given : (f : Frame) (fs : List Frame) → left 0 (f ∷ fs) ≡ path fs ∷ left 1 fs
 unfolding left onFrame
 left-given f fs = rw (append-nil (path fs))
 
 -- ── the text ──
 
-text-same : (g r r′ : ℕ) (fs fs′ : List Frame) → left r fs ≡ left r′ fs′ → leftText g r fs ≡ leftText g r′ fs′
+pub text-same : (g r r′ : ℕ) (fs fs′ : List Frame) → left r fs ≡ left r′ fs′ → leftText g r fs ≡ leftText g r′ fs′
 unfolding leftText
 text-same g r r′ fs fs′ q = rw q
 
-text-over : (g r : ℕ) (fs : List Frame) → left r fs ≡ [] → leftText g r fs ≡ countLine g
+pub text-over : (g r : ℕ) (fs : List Frame) → left r fs ≡ [] → leftText g r fs ≡ countLine g
 unfolding leftText joined
 text-over g r fs q = let z : g + 0 ≡ g = omega arith in rw (q, append-nil, z)
 
-text-given : (g r r′ : ℕ) (fs fs′ : List Frame) (l : List Event) → left r fs ≡ l ∷ left r′ fs′ → leftText g r fs ≡ listLine l ++ leftText (g + 1) r′ fs′
+pub text-given : (g r r′ : ℕ) (fs fs′ : List Frame) (l : List Event) → left r fs ≡ l ∷ left r′ fs′ → leftText g r fs ≡ listLine l ++ leftText (g + 1) r′ fs′
 unfolding leftText joined
 text-given g r r′ fs fs′ l q = let z : g + suc (length (left r′ fs′)) ≡ g + 1 + length (left r′ fs′) = omega arith in rw (q, z)
 
@@ -131,6 +131,39 @@ all-left : (r : ℕ) (s : State) → left r (frame s 0 ∷ []) ≡ listsFrom r s
 unfolding left path
 all-left r s = rw (fresh-frame r s, append-nil) (each-same (listsFrom r s))
 
-whole-text : (n k : ℕ) → fits (n ∷ k ∷ []) ≡ true → textOf (n ∷ k ∷ []) ≡ leftText 0 k (frame (start n) 0 ∷ [])
+pub whole-text : (n k : ℕ) → fits (n ∷ k ∷ []) ≡ true → textOf (n ∷ k ∷ []) ≡ leftText 0 k (frame (start n) 0 ∷ [])
 unfolding textOf leftText
 whole-text n k q = let z : 0 + length (listsFrom k (start n)) ≡ length (listsFrom k (start n)) = omega arith in rw (q, pick-true, all-left k (start n), z)
+
+-- ── a turn: what is left, and that fewer turns are ──
+
+module _ (r : ℕ) (f : Frame) (fs : List Frame) where
+  -- all events were tried
+  pub gone : leb (sizeOf (f .state .n)) (f .tried) ≡ true → (left (suc r) (f ∷ fs) ≡ left (suc (suc r)) fs) × (turnsLeft (suc (suc r)) fs < turnsLeft (suc r) (f ∷ fs))
+  unfolding turnsLeft
+  gone q = (left-over r f fs (all-tried f q), omega (arith, turns-over r f (all-tried f q)))
+
+  module _ (q : leb (sizeOf (f .state .n)) (f .tried) ≡ false) where
+    abbrev e : Event
+    e = eventAt (f .state .n) (f .tried)
+
+    -- the next is refused
+    pub passed-by : (x : ℕ) → step (f .state) e ≡ refused x → (left (suc r) (f ∷ fs) ≡ left (suc r) (passed f ∷ fs)) × (turnsLeft (suc r) (passed f ∷ fs) < turnsLeft (suc r) (f ∷ fs))
+    unfolding turnsLeft
+    passed-by x h = (left-refused r f fs e (one-tried f q) x h, omega (arith, turns-tried r f e (one-tried f q)))
+
+    -- it is accepted: its table is put on top
+    pub gone-up : (u : State) (m : Mark) → step (f .state) e ≡ accepted u m
+        → (left (suc r) (f ∷ fs) ≡ left r (frame u 0 ∷ passed f ∷ fs)) × (turnsLeft r (frame u 0 ∷ passed f ∷ fs) < turnsLeft (suc r) (f ∷ fs))
+    unfolding turnsLeft
+    gone-up u m h =
+        let z : turnsOn r (frame u 0) ≡ turnsFrom (f .state .n) r = fresh-turns r u ∙ ap (λ i. turnsFrom i r) (same-n (f .state) e u m h) in
+        (left-accepted r f fs e (one-tried f q) u m h (path-passed f fs), omega (arith, z, turns-tried r f e (one-tried f q)))
+
+-- the next is accepted, and the last of a list: that list is given
+pub gave-one : (f : Frame) (fs : List Frame) → leb (sizeOf (f .state .n)) (f .tried) ≡ false → (u : State) (m : Mark) → step (f .state) (eventAt (f .state .n) (f .tried)) ≡ accepted u m
+    → (left 1 (f ∷ fs) ≡ (path fs ++ (eventAt (f .state .n) (f .tried) ∷ [])) ∷ left 1 (passed f ∷ fs)) × (turnsLeft 1 (passed f ∷ fs) < turnsLeft 1 (f ∷ fs))
+unfolding turnsLeft
+gave-one f fs q u m h =
+    let e = eventAt (f .state .n) (f .tried) in
+    (gone-up 0 f fs q u m h .0 ∙ left-given (frame u 0) (passed f ∷ fs) ∙ ap (λ p. p ∷ left 1 (passed f ∷ fs)) (path-passed f fs), omega (arith, turns-tried 0 f e (one-tried f q)))

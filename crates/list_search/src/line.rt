@@ -15,7 +15,7 @@ pub const LINE: usize = 128;
 
 // A name and a number behind it.
 fn put_one(out: &mut [u8], at: usize, w: &[u8], i: u8) -> usize
-    requires { ⌜ at + length (now w ++ spaced (i ∷ [])) ≤ length (now out) ⌝ }
+    requires { ⌜ at + length (now w) + length (spaced (i ∷ [])) ≤ length (now out) ⌝ }
     ensures { λ r. ⌜ Appended (now (out .entry)) at (now (w .entry) ++ spaced (i ∷ [])) (now (out .exit)) r ⌝ }
 {
     let p = put_bytes(out, at, w);
@@ -24,7 +24,7 @@ fn put_one(out: &mut [u8], at: usize, w: &[u8], i: u8) -> usize
 
 // A name and two numbers behind it.
 fn put_two(out: &mut [u8], at: usize, w: &[u8], i: u8, x: u32) -> usize
-    requires { ⌜ at + length (now w ++ spaced (i ∷ x ∷ [])) ≤ length (now out) ⌝ }
+    requires { ⌜ at + length (now w) + length (spaced (i ∷ x ∷ [])) ≤ length (now out) ⌝ }
     ensures { λ r. ⌜ Appended (now (out .entry)) at (now (w .entry) ++ spaced (i ∷ x ∷ [])) (now (out .exit)) r ⌝ }
 {
     let p = put_one(out, at, w, i);
@@ -51,7 +51,7 @@ fn put_event(out: &mut [u8], at: usize, e: Event) -> usize
 
 // The event and what parts it from the next, behind the end bytes of text: the new end.
 pub fn extend(text: &mut [u8; LINE], end: usize, e: Event) -> usize
-    requires { ⌜ (length (now text) ≡ 128) × (end ≤ 108) ⌝ }
+    requires { ⌜ end ≤ 108 ⌝ }
     ensures { λ r. ⌜ (length (now (text .exit)) ≡ 128) × Appended (now (text .entry)) end (eventText e ++ bytes ", ") (now (text .exit)) r × (r ≤ end + 18) ⌝ }
 {
     let p = put_event(text, end, e);
@@ -60,7 +60,7 @@ pub fn extend(text: &mut [u8; LINE], end: usize, e: Event) -> usize
 
 // The line of the list whose beginning is the first end bytes of text and whose last event is e.
 pub fn put_line(out: &mut [u8], at: usize, text: &[u8; LINE], end: usize, e: Event) -> usize
-    requires { ⌜ (at + 128 ≤ length (now out)) × (length (now text) ≡ 128) × (end ≤ 108) ⌝ }
+    requires { ⌜ (at + 128 ≤ length (now out)) × (end ≤ 108) ⌝ }
     ensures { λ r. ⌜ Appended (now (out .entry)) at (take end (now (text .entry)) ++ (eventText e ++ bytes "\n")) (now (out .exit)) r × (at < r) × (r ≤ at + 128) ⌝ }
 {
     let beginning: &[u8] = text;
