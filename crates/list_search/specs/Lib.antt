@@ -1,2 +1,3 @@
 pub mod Stack
 pub mod Events
+pub mod Line
