@@ -1,5 +1,5 @@
 -- Laws of the text of a list: one event more, and the last; and how long the text of an event can be.
-use Prim.Native.Nat.{ℕ, _+_, _^_, _≤_, _<_}
+use Prim.Native.Nat.{ℕ, _+_, _≤_, _<_}
 use native.Mathlib.Omega.{arith}
 use mathlib.Core.Path.{_≡_, refl, _∙_, ap}
 use mathlib.Core.List.{List, [], _∷_, _++_, append-assoc, append-nil}
@@ -7,6 +7,7 @@ use lib.ListN.{length, length-append}
 use Rattle.model.specs.declared.Event.{Event}
 use Rattle.listing.specs.Ascii.{bytes}
 use Rattle.listing.specs.Decimal.{decimal}
+use Rattle.listing.specs.Printing.{Appended}
 use Rattle.listing.proofs.Decimal.{decimal-short}
 use Rattle.short_lists_text.specs.Text.{spaced, eventText, moreText, eventsText, listLine}
 use Rattle.list_search.specs.Line.{beginning}
@@ -36,7 +37,7 @@ line-empty = refl
 
 -- ── an event ──
 
--- Its numbers, as they are written.
+-- Its numbers as they are written, and how many bytes that is.
 pub spaced-one : (i : ℕ) → spaced (i ∷ []) ≡ 32 ∷ decimal i
 unfolding spaced
 spaced-one i = simp append-nil
@@ -60,3 +61,7 @@ two-short {i} {x} h k = let a = one-short h in let b = one-short k in let l = on
 
 pub task-short : {i x : ℕ} → i < 256 → x < 65536 → length (spaced (i ∷ x ∷ [])) ≤ 10
 task-short {i} {x} h k = let a = one-short h in let b = decimal-short 5 {x = x} (omega arith) (omega arith) in let m = two-long i x in omega arith
+
+-- A text of 16 bytes at most, by another name.
+pub short-put : {b s t o : List ℕ} {p r : ℕ} → t ≡ s → length s ≤ 16 → Appended b p s o r → Appended b p t o r × (r ≤ p + 16)
+short-put f h a = (rw f a, omega arith)
