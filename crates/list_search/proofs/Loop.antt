@@ -11,7 +11,7 @@ use lib.Seq.{getD-set-same, getD-set-other}
 use borrow.Author.Tests.{le-leb, lt-leb, ne-eqb}
 use Rattle.model.specs.Pick.{pick-true, pick-false}
 use Rattle.model.specs.State.{State}
-use Rattle.model.specs.Step.{refused, accepted, step}
+use Rattle.model.specs.Step.{Result, refused, accepted, step}
 use Rattle.model.specs.declared.Mark.{Mark}
 use Rattle.model.specs.declared.Node.{Node}
 use Rattle.model.specs.declared.Event.{Event}
@@ -380,3 +380,12 @@ module _ {x o : List ℕ} {n len : ℕ} {ls : List Level} {g at h : ℕ} {t : Le
 
     pub down-less : turnsOf n len ls (h - 1) (getD ls (h - 1) noLevel) < turnsOf n len ls h t
     down-less = subst (λ i. turnsOf n len ls (h - 1) (getD ls (h - 1) noLevel) < turnsOf n len ls i t) (sym up-one) (popped-less above (all q))
+
+pub same-step : (s : State) (d e : Event) (r : Result) → d ≡ e → step s d ≡ r → step s e ≡ r
+same-step s d e r p h = subst (λ y. step s y ≡ r) p h
+
+pub is-last : (h len : ℕ) → h + 1 ≡ len → suc h ≡ len
+is-last h len q = omega (arith, q)
+
+pub not-last : (h len : ℕ) → h < len → (h + 1 ≡ len → ⊥) → suc h < len
+not-last h len q d = omega (arith, q, d)

@@ -48,7 +48,7 @@ pub struct Piece {
 // The next lines of a search in which an event is missing behind the topmost table. That table stands in this function's own locals, and the functions that it
 // calls take a node, a message and numbers: a table is copied only where an event is accepted that is not a list's last.
 fn lines_on(s: Search, out: &mut [u8; PIECE]) -> Piece
-    requires { ⌜ Going s (s .height - 1) × (1 ≤ s .length) ⌝ }
+    requires { ⌜ Going s (s .height - 1) × (1 ≤ s .length) × (length (now out) ≡ 65536) ⌝ }
     ensures { λ r. ⌜ Gave s (now (out .exit)) r ⌝ }
 {
     let n = s.n;

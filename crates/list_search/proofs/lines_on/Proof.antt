@@ -10,7 +10,7 @@ use Rattle.list_search.specs.declared.Level.{Level}
 use Rattle.list_search.specs.Stack.{sizeOf}
 use Rattle.list_search.specs.Search.{textLeft}
 use Rattle.packed.proofs.Turns.{few, rulable, refused-step, has-room, step-accepts, accepted-step, ready-again}
-use Rattle.list_search.proofs.Loop.{Kept, turnsOf, ready, top-place, loop-starts, gave-last, gave-more, not-all, short-line, ends, down, down-less, refused-kept, refused-less, count-more, given-kept, given-less, pushed, pushed-less}
+use Rattle.list_search.proofs.Loop.{Kept, turnsOf, same-step, is-last, not-last, ready, top-place, loop-starts, gave-last, gave-more, not-all, short-line, ends, down, down-less, refused-kept, refused-less, count-more, given-kept, given-less, pushed, pushed-less}
 use Rattle.list_search.proofs.lines_on.Statement.{statement}
 use Rattle.list_search.proofs.lines_on.Tie as tie
 
@@ -46,7 +46,7 @@ array-copy-out-top c =
 loop-holds : tie.Need-loop-holds Inv-loop μ-loop
 loop-holds c =
     let b = c .before .before .before .before .before .before .before in
-    (loop-starts (b .args .s) _ _ (b .pre .0) (b .pre .1) (search needs), c .before .before .before .before .before .before .event-count .ensures .0)
+    (loop-starts (b .args .s) _ _ (b .pre .0) (b .pre .1) (b .pre .2), c .before .before .before .before .before .before .event-count .ensures .0)
 
 -- src/lib.rt:73:30
 put-count-requires : tie.Need-put-count-requires Inv-loop μ-loop
@@ -122,7 +122,7 @@ loop-less-2 c =
     let h = ready _ _ _ (k .top) in
     let e = v .before .before .before .before .before .before .event-at .ensures in
     let q = not-all k _ (l .inv .1) (v .before .before .before .before .before .before .before .if1 .left) in
-    let z = rw e at (refused-step _ _ _ _ h _ _ (v .before .before .before .before .before .seat .ensures .0) _ _ (v .before .before .rule .ensures) (sym (v .is-accepted .ensures) ∙ not-true _ (c .if3 .taken))) in
+    let z = same-step _ _ _ _ e (refused-step _ _ _ _ h _ _ (v .before .before .before .before .before .seat .ensures .0) _ _ (v .before .before .rule .ensures) (sym (v .is-accepted .ensures) ∙ not-true _ (c .if3 .taken))) in
     refused-less k q _ z
 
 -- src/lib.rt:69:5
@@ -134,7 +134,7 @@ loop-again-2 c =
     let h = ready _ _ _ (k .top) in
     let e = v .before .before .before .before .before .before .event-at .ensures in
     let q = not-all k _ (l .inv .1) (v .before .before .before .before .before .before .before .if1 .left) in
-    let z = rw e at (refused-step _ _ _ _ h _ _ (v .before .before .before .before .before .seat .ensures .0) _ _ (v .before .before .rule .ensures) (sym (v .is-accepted .ensures) ∙ not-true _ (c .if3 .taken))) in
+    let z = same-step _ _ _ _ e (refused-step _ _ _ _ h _ _ (v .before .before .before .before .before .seat .ensures .0) _ _ (v .before .before .rule .ensures) (sym (v .is-accepted .ensures) ∙ not-true _ (c .if3 .taken))) in
     (refused-kept k q _ z, l .inv .1)
 
 -- src/lib.rt:98:12
@@ -146,7 +146,7 @@ put-line-requires : tie.Need-put-line-requires Inv-loop μ-loop
 put-line-requires c κs =
     let l = c .before .before .before .before .before .before .before .before .before .before .before .before .loop in
     let k = l .inv .0 in
-    (omega (arith, k .size, k .space), k .top .room, short-line k _ (l .inv .1))
+    (omega (arith, k .size, k .space), short-line k _ (l .inv .1))
 
 -- src/lib.rt:100:13
 add-given : tie.Need-add-given Inv-loop μ-loop
@@ -159,8 +159,8 @@ add-given c =
     let q = not-all k _ (l .inv .1) (v .before .before .before .before .before .before .before .if1 .left) in
     let y = sym (v .is-accepted .ensures) ∙ not-false _ (c .before .before .before .before .if3 .left) in
     let a = step-accepts _ _ _ _ h _ _ (v .before .before .before .before .before .seat .ensures .0) _ _ (v .before .before .rule .ensures) y in
-    let z = rw e at (a .is) in
-    let last : suc (l .height) ≡ _ = omega (arith, c .before .before .before .if4 .taken) in
+    let z = same-step _ _ _ _ e (a .is) in
+    let last = is-last _ _ (c .before .before .before .if4 .taken) in
     let n = count-more k q _ _ z last in
     search needs
 
@@ -179,8 +179,8 @@ loop-less-3 c =
     let q = not-all k _ (l .inv .1) (v .before .before .before .before .before .before .before .if1 .left) in
     let y = sym (v .is-accepted .ensures) ∙ not-false _ (c .before .before .before .before .before .if3 .left) in
     let a = step-accepts _ _ _ _ h _ _ (v .before .before .before .before .before .seat .ensures .0) _ _ (v .before .before .rule .ensures) y in
-    let z = rw e at (a .is) in
-    let last : suc (l .height) ≡ _ = omega (arith, c .before .before .before .before .if4 .taken) in
+    let z = same-step _ _ _ _ e (a .is) in
+    let last = is-last _ _ (c .before .before .before .before .if4 .taken) in
     given-less k q _ _ z last
 
 -- src/lib.rt:69:5
@@ -194,8 +194,8 @@ loop-again-3 c =
     let q = not-all k _ (l .inv .1) (v .before .before .before .before .before .before .before .if1 .left) in
     let y = sym (v .is-accepted .ensures) ∙ not-false _ (c .before .before .before .before .before .if3 .left) in
     let a = step-accepts _ _ _ _ h _ _ (v .before .before .before .before .before .seat .ensures .0) _ _ (v .before .before .rule .ensures) y in
-    let z = rw e at (a .is) in
-    let last : suc (l .height) ≡ _ = omega (arith, c .before .before .before .before .if4 .taken) in
+    let z = same-step _ _ _ _ e (a .is) in
+    let last = is-last _ _ (c .before .before .before .before .if4 .taken) in
     let w = rw e at (c .before .put-line .ensures .0) in
     (given-kept k q _ _ z last w (omega (arith, c .if5 .taken)), l .inv .1)
 
@@ -222,8 +222,8 @@ returns-2 c =
     let q = not-all k _ (l .inv .1) (v .before .before .before .before .before .before .before .if1 .left) in
     let y = sym (v .is-accepted .ensures) ∙ not-false _ (c .before .before .before .before .before .if3 .left) in
     let a = step-accepts _ _ _ _ h _ _ (v .before .before .before .before .before .seat .ensures .0) _ _ (v .before .before .rule .ensures) y in
-    let z = rw e at (a .is) in
-    let last : suc (l .height) ≡ _ = omega (arith, c .before .before .before .before .if4 .taken) in
+    let z = same-step _ _ _ _ e (a .is) in
+    let last = is-last _ _ (c .before .before .before .before .if4 .taken) in
     let w = rw e at (c .before .put-line .ensures .0) in
     gave-more k q _ _ z last _ _ w _ refl (c .before .put-line .ensures .1)
 
@@ -264,7 +264,7 @@ extend-requires : tie.Need-extend-requires Inv-loop μ-loop
 extend-requires c κs =
     let l = c .before .before .before .before .before .before .before .before .before .before .before .before .before .before .before .loop in
     let k = l .inv .0 in
-    (k .top .room, short-line k _ (l .inv .1))
+    short-line k _ (l .inv .1)
 
 -- src/lib.rt:69:5
 loop-less-4 : tie.Need-loop-less-4 Inv-loop μ-loop
@@ -279,8 +279,8 @@ loop-less-4 c =
     let x = c .before .before .exchange .ensures in
     let a = accepted-step _ _ _ _ h _ _ (v .before .before .before .before .before .seat .ensures .0) _ _ (v .before .before .rule .ensures) y _ _ (x .2) in
     let d = ready-again _ _ _ _ h _ _ (v .before .before .before .before .before .seat .ensures .0) _ _ (v .before .before .rule .ensures) y _ _ (x .2) (x .0) in
-    let z = rw e at (a .1) in
-    let more = omega (arith, k .below, c .before .before .before .before .before .before .if4 .left) in
+    let z = same-step _ _ _ _ e (a .1) in
+    let more = not-last _ _ (k .below) (c .before .before .before .before .before .before .if4 .left) in
     let w = rw e at (c .extend .ensures .1) in
     pushed-less k q _ _ z more _ refl refl d w
 
@@ -297,8 +297,8 @@ loop-again-4 c =
     let x = c .before .before .exchange .ensures in
     let a = accepted-step _ _ _ _ h _ _ (v .before .before .before .before .before .seat .ensures .0) _ _ (v .before .before .rule .ensures) y _ _ (x .2) in
     let d = ready-again _ _ _ _ h _ _ (v .before .before .before .before .before .seat .ensures .0) _ _ (v .before .before .rule .ensures) y _ _ (x .2) (x .0) in
-    let z = rw e at (a .1) in
-    let more = omega (arith, k .below, c .before .before .before .before .before .before .if4 .left) in
+    let z = same-step _ _ _ _ e (a .1) in
+    let more = not-last _ _ (k .below) (c .before .before .before .before .before .before .if4 .left) in
     let w = rw e at (c .extend .ensures .1) in
     (pushed k q _ _ z more _ refl refl d w (c .extend .ensures .2), l .inv .1)
 
