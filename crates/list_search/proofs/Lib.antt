@@ -2,3 +2,4 @@ pub mod Events
 pub mod Stack
 pub mod Lines
 pub mod Loop
+pub mod Ends

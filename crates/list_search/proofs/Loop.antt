@@ -267,7 +267,7 @@ module _ {x o : List ℕ} {n len : ℕ} {ls : List Level} {g at : ℕ} where
 -- ── the search before the loop and after it ──
 
 -- the text of a search that goes on, by its topmost level
-text-of : (s : Search) (h : ℕ) → Going s h → textLeft s ≡ leftText (s .given) (s .length - h) (frameOf (s .n) (getD (s .levels) h noLevel) ∷ framesOf (s .n) (s .levels) h)
+pub text-of : (s : Search) (h : ℕ) → Going s h → textLeft s ≡ leftText (s .given) (s .length - h) (frameOf (s .n) (getD (s .levels) h noLevel) ∷ framesOf (s .n) (s .levels) h)
 unfolding textLeft framesOf
 text-of s h c =
     let z : eqb (s .n) 0 ≡ false = ne-eqb (s .n) 0 (λ q. absurd (omega (arith, c .some, q))) in

@@ -5,7 +5,7 @@ use mathlib.Core.Bool.{true, false}
 use mathlib.Core.Path.{_≡_, refl, _∙_, ap}
 use mathlib.Core.List.{List, [], _∷_, _++_, append-assoc, append-nil}
 use lib.Dec.{leb}
-use lib.ListN.{length, drop, drop-of-length-le}
+use lib.ListN.{length, getD, drop, drop-of-length-le}
 use lib.Seq.{drop-cons}
 use borrow.Author.Tests.{leb-true, leb-false}
 use Rattle.model.specs.Pick.{pick-true}
@@ -127,13 +127,16 @@ same-n s e u m q = ap (λ (x : State). x .n) (accepted-is s e u m q .state)
 
 -- ── the first stack ──
 
-all-left : (r : ℕ) (s : State) → left r (frame s 0 ∷ []) ≡ listsFrom r s
+pub all-left : (r : ℕ) (s : State) → left r (frame s 0 ∷ []) ≡ listsFrom r s
 unfolding left path
 all-left r s = rw (fresh-frame r s, append-nil) (each-same (listsFrom r s))
 
-pub whole-text : (n k : ℕ) → fits (n ∷ k ∷ []) ≡ true → textOf (n ∷ k ∷ []) ≡ leftText 0 k (frame (start n) 0 ∷ [])
+pub whole-text : (l : List ℕ) → fits l ≡ true → textOf l ≡ leftText 0 (getD l 1 0) (frame (start (getD l 0 0)) 0 ∷ [])
 unfolding textOf leftText
-whole-text n k q = let z : 0 + length (listsFrom k (start n)) ≡ length (listsFrom k (start n)) = omega arith in rw (q, pick-true, all-left k (start n), z)
+whole-text l q =
+    let ls = listsFrom (getD l 1 0) (start (getD l 0 0)) in
+    let z : 0 + length ls ≡ length ls = omega arith in
+    rw (q, pick-true, all-left (getD l 1 0) (start (getD l 0 0)), z)
 
 -- ── a turn: what is left, and that fewer turns are ──
 

@@ -7,7 +7,7 @@ use mathlib.Core.List.{List, [], _∷_, _++_}
 use lib.Dec.{eqb}
 use lib.ListN.{length, take, getD}
 use Rattle.model.specs.Pick.{pick}
-use Rattle.model.specs.State.{startingNode, inRange}
+use Rattle.model.specs.State.{start, inRange}
 use Rattle.model.specs.declared.Event.{Event}
 use Rattle.packed.specs.Seen.{seen}
 use Rattle.listing.specs.Lines.{stoppedLine}
@@ -79,6 +79,26 @@ pub record Going (s : Search) (h : ℕ) : Type 0 where
 abbrev pub Sound : Search → Type 0
 Sound s = (s .n ≡ 0) ⊎ Going s (s .height - 1)
 
+-- ── the first search ──
+
+-- the level of the starting table of n nodes, on which no event was tried
+pub record Lowest (n : ℕ) (l : Level) : Type 0 where
+  pub state : seen n (l .nodes) (l .words) (l .waiting) ≡ start n
+  pub nodes : length (l .nodes) ≡ 16
+  pub words : length (l .words) ≡ 256
+  pub tried : l .tried ≡ 0
+  pub room : length (l .line) ≡ 128
+  pub end : l .end ≡ 0
+
+-- the search for lists of k events among n nodes, before anything was given
+pub record First (n k : ℕ) (s : Search) : Type 0 where
+  pub nodes : s .n ≡ n
+  pub events : s .length ≡ k
+  pub given : s .given ≡ 0
+  pub height : s .height ≡ 1
+  pub room : length (s .levels) ≡ 8
+  pub lowest : Lowest n (getD (s .levels) 0 noLevel)
+
 -- ── the promises ──
 
 -- a search for the input l: all of its text is still to come
@@ -99,3 +119,36 @@ pub record Gave (s : Search) (o : List ℕ) (p : Piece) : Type 0 where
   pub some : 1 ≤ p .written
   -- and the search goes on
   pub sound : p .done ≡ false → Sound (p .search)
+
+-- ── calls one after another ──
+
+-- what a call of `next_lines` leaves: the buffer, and its answer
+pub record Call : Type 0 where
+  pub buffer : List ℕ
+  pub piece : Piece
+
+-- what calls wrote, one behind the other
+abbrev pub writtenBy : List Call → List ℕ
+writtenBy [] = []
+writtenBy (c ∷ cs) = take (c .piece .written) (c .buffer) ++ writtenBy cs
+
+-- calls from the search s on, each with the search that the one before gave, none of which said that it is done
+abbrev pub Calls : Search → List Call → Type 0
+Calls s [] = Unit {0}
+Calls s (c ∷ cs) = Gave s (c .buffer) (c .piece) × (c .piece .done ≡ false) × Calls (c .piece .search) cs
+
+-- the search after them
+abbrev pub searchAfter : Search → List Call → Search
+searchAfter s [] = s
+searchAfter s (c ∷ cs) = searchAfter (c .piece .search) cs
+
+-- The pieces of an input's text. l is any input, and s the search that `begin` gives for it.
+pub record PiecesMakeText (l : List ℕ) (s : Search) : Type 0 where
+  -- the calls up to the one that says that it is done have written the text, whole
+  pub whole : (cs : List Call) (c : Call) → Calls s cs → Gave (searchAfter s cs) (c .buffer) (c .piece) → c .piece .done ≡ true → writtenBy (cs ++ (c ∷ [])) ≡ textOf l
+  -- up to any other they have written a part of it, and what is left is what the search still gives
+  pub part : (cs : List Call) → Calls s cs → textOf l ≡ writtenBy cs ++ textLeft (searchAfter s cs)
+  -- which can be called again
+  pub again : (cs : List Call) → Calls s cs → Sound (searchAfter s cs)
+  -- and they come to an end: there are no more of them than the text has bytes
+  pub ends : (cs : List Call) → Calls s cs → length cs ≤ length (textOf l)

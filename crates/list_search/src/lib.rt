@@ -6,7 +6,8 @@ mod line;
 ghost use mathlib.Core.Path.{_≡_};
 ghost use Prim.Native.Nat.{_-_, _≤_};
 ghost use lib.ListN.{length};
-ghost use Rattle.list_search.specs.Search.{Sound, Begun, Gave, Going};
+ghost use Rattle.short_lists_text.specs.Text as text;
+ghost use Rattle.list_search.specs.Search.{Lowest, First, Going, Sound, Begun, Gave};
 use line::LINE;
 use model::Node;
 use packed::WORDS;
@@ -138,4 +139,98 @@ fn lines_on(s: Search, out: &mut [u8; PIECE]) -> Piece
         end = line::extend(&mut line, end, e);
         tried = 0;
     }
+}
+
+// An input that is refused: its line, alone.
+fn refused(s: Search, out: &mut [u8; PIECE]) -> Piece
+    requires { ⌜ s .n ≡ 0 ⌝ }
+    ensures { λ r. ⌜ Gave s (now (out .exit)) r ⌝ }
+{
+    Piece {
+        written: listing::put_bytes(out, 0, b"stopped 0 16\n"),
+        done: true,
+        search: s,
+    }
+}
+
+// Lists of no events: there is one, an empty line.
+fn empty_list(s: Search, out: &mut [u8; PIECE]) -> Piece
+    requires { ⌜ Going s (s .height - 1) × (s .length ≡ 0) ⌝ }
+    ensures { λ r. ⌜ Gave s (now (out .exit)) r ⌝ }
+{
+    let p = listing::put_bytes(out, 0, b"\n");
+    Piece {
+        written: line::put_count(out, p, s.given + 1),
+        done: true,
+        search: s,
+    }
+}
+
+// The next whole lines of the text that s still gives, at the start of out: called with the search that the call before gave, until one says that it is done.
+pub fn next_lines(s: Search, out: &mut [u8; PIECE]) -> Piece
+    requires { ⌜ Sound s ⌝ }
+    ensures { λ r. ⌜ Gave s (now (out .exit)) r ⌝ }
+{
+    if s.n == 0 {
+        return refused(s, out);
+    }
+    if s.length == 0 {
+        return empty_list(s, out);
+    }
+    lines_on(s, out)
+}
+
+// The starting table of n nodes, on which no event was tried.
+fn lowest(n: u8) -> Level
+    ensures { λ r. ⌜ Lowest n r ⌝ }
+{
+    let begun = machine::starting(n);
+    let t = begun.table;
+    let nodes = t.nodes;
+    Level {
+        nodes: nodes,
+        words: packed::none(),
+        waiting: 0,
+        tried: 0,
+        line: [0; LINE],
+        end: 0,
+    }
+}
+
+// A search that has given nothing yet.
+fn first(n: u8, length: usize) -> Search
+    ensures { λ r. ⌜ First n length r ⌝ }
+{
+    let l = lowest(n);
+    Search {
+        n: n,
+        length: length,
+        given: 0,
+        height: 1,
+        levels: [l; LEVELS],
+    }
+}
+
+// "n from 1 to 3 and a length from 0 to 7, as two bytes"
+fn fits(input: &[u8]) -> bool
+    ensures { λ r. ⌜ r ≡ text.fits (now (input .entry)) ⌝ }
+{
+    if input.len() != 2 {
+        return false;
+    }
+    let n = input[0];
+    let length = input[1];
+    (1 <= n) & (n <= 3) & (length <= 7)
+}
+
+// The search for the text of any input.
+pub fn begin(input: &[u8]) -> Search
+    ensures { λ r. ⌜ Begun (now (input .entry)) r ⌝ }
+{
+    if !fits(input) {
+        return first(0, 0);
+    }
+    let n = input[0];
+    let length = input[1];
+    first(n, length as usize)
 }
