@@ -8,9 +8,12 @@ use mathlib.Core.List.{List, [], _∷_, _++_, append-assoc, append-nil}
 use lib.Dec.{eqb, leb}
 use lib.ListN.{length, take, getD, length-append}
 use lib.Seq.{length-take-le}
-use borrow.Author.Tests.{ne-eqb, leb-true}
+use borrow.Author.Tests.{ne-eqb, leb-true, eqb-true}
 use Rattle.model.specs.Pick.{pick, pick-true, pick-false}
-use Rattle.model.specs.State.{start, inRange}
+use Rattle.model.specs.State.{start, inRange, view}
+use Rattle.model.specs.declared.Table.{Table}
+use Rattle.machine.specs.Stepped.{startingTable}
+use Rattle.packed.proofs.Turns.{same-start}
 use Rattle.model.proofs.InRange.{stays-in-range}
 use Rattle.model.proofs.Local.{both-left, both-right}
 use Rattle.listing.specs.Ascii.{bytes}
@@ -33,14 +36,25 @@ use Rattle.list_search.proofs.Loop.{text-of}
 
 -- ── the first search ──
 
-fits-are : (l : List ℕ) → fits l ≡ true → (1 ≤ getD l 0 0) × (getD l 0 0 ≤ 3) × (getD l 1 0 ≤ 7)
+pub two-bytes : (l : List ℕ) → fits l ≡ true → length l ≡ 2
+unfolding fits
+two-bytes l q =
+    eqb-true (length l) 2 (both-left (eqb (length l) 2) (leb 1 (getD l 0 0))
+    (both-left (eqb (length l) 2 && leb 1 (getD l 0 0)) (leb (getD l 0 0) 3)
+    (both-left (eqb (length l) 2 && leb 1 (getD l 0 0) && leb (getD l 0 0) 3) (leb (getD l 1 0) 7) q)))
+
+pub fits-are : (l : List ℕ) → fits l ≡ true → (1 ≤ getD l 0 0) × (getD l 0 0 ≤ 3) × (getD l 1 0 ≤ 7)
 unfolding fits
 fits-are l q =
     let a = both-left (eqb (length l) 2 && leb 1 (getD l 0 0) && leb (getD l 0 0) 3) (leb (getD l 1 0) 7) q in
-    let b = both-left (eqb (length l) 2 && leb 1 (getD l 0 0)) (leb (getD l 0 0) 3) a in
-    (leb-true 1 (getD l 0 0) (both-right (eqb (length l) 2) (leb 1 (getD l 0 0)) b),
-    leb-true (getD l 0 0) 3 (both-right (eqb (length l) 2 && leb 1 (getD l 0 0)) (leb (getD l 0 0) 3) a),
-    leb-true (getD l 1 0) 7 (both-right (eqb (length l) 2 && leb 1 (getD l 0 0) && leb (getD l 0 0) 3) (leb (getD l 1 0) 7) q))
+    let b = both-left (eqb (length l) 2 && leb 1 (getD l 0 0)) (leb (getD l 0 0) 3) a in (
+      leb-true 1 (getD l 0 0) (both-right (eqb (length l) 2) (leb 1 (getD l 0 0)) b),
+      leb-true (getD l 0 0) 3 (both-right (eqb (length l) 2 && leb 1 (getD l 0 0)) (leb (getD l 0 0) 3) a),
+      leb-true (getD l 1 0) 7 (both-right (eqb (length l) 2 && leb 1 (getD l 0 0) && leb (getD l 0 0) 3) (leb (getD l 1 0) 7) q),
+    )
+
+pub lowest-state : (n : ℕ) (t : Table) (ws : List ℕ) → t ≡ startingTable n → view t ≡ start n → seen n (t .nodes) ws 0 ≡ start n
+lowest-state n t ws e v = ap (λ (u : Table). seen n (u .nodes) ws 0) e ∙ same-start (startingTable n) ws refl ∙ ap view (sym e) ∙ v
 
 module _ (n k : ℕ) (s : Search) (f : First n k s) where
   stack-is : stackOf s ≡ frame (start n) 0 ∷ []
@@ -148,6 +162,19 @@ module _ (s : Search) (h : ℕ) (c : Going s h) (z : s .length ≡ 0) where
       let d = rw (y, m) at (c .count) in
       let e = ap length one-left in
       omega (arith, d, e)
+
+-- the whole text is one piece
+pub gave-whole : (s : Search) (o x o′ : List ℕ) (r : ℕ) → textLeft s ≡ x → Appended o 0 x o′ r → 1 ≤ length x → Gave s o′ (record { written = r; done = true; search = s })
+gave-whole s o x o′ r q w l = record {
+  text = rw pick-true (q ∙ sym (w .text) ∙ sym (append-nil (take r o′)));
+  room = w .fits;
+  some = let n = w .next in omega (arith, n, l);
+  sound = λ z. absurd (true≢false z);
+}
+
+pub not-refused : (s : Search) → Sound s → (s .n ≡ 0 → ⊥) → Going s (s .height - 1)
+not-refused s (inl q) d = absurd (d q)
+not-refused s (inr g) d = g
 
 -- ── the pieces put together ──
 

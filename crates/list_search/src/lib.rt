@@ -48,7 +48,7 @@ pub struct Piece {
 
 // The next lines of a search in which an event is missing behind the topmost table. That table stands in this function's own locals, and the functions that it
 // calls take a node, a message and numbers: a table is copied only where an event is accepted that is not a list's last.
-fn lines_on(s: Search, out: &mut [u8; PIECE]) -> Piece
+fn lines_on(s: Search, out: &mut [u8]) -> Piece
     requires { ⌜ Going s (s .height - 1) × (1 ≤ s .length) × (length (now out) ≡ 65536) ⌝ }
     ensures { λ r. ⌜ Gave s (now (out .exit)) r ⌝ }
 {
@@ -180,6 +180,12 @@ pub fn next_lines(s: Search, out: &mut [u8; PIECE]) -> Piece
     lines_on(s, out)
 }
 
+fn blank_line() -> [u8; LINE]
+    ensures { λ r. ⌜ length r ≡ 128 ⌝ }
+{
+    [0; LINE]
+}
+
 // The starting table of n nodes, on which no event was tried.
 fn lowest(n: u8) -> Level
     ensures { λ r. ⌜ Lowest n r ⌝ }
@@ -192,7 +198,7 @@ fn lowest(n: u8) -> Level
         words: packed::none(),
         waiting: 0,
         tried: 0,
-        line: [0; LINE],
+        line: blank_line(),
         end: 0,
     }
 }
