@@ -178,6 +178,15 @@ not-refused s (inr g) d = g
 
 -- ── the pieces put together ──
 
+-- after a piece less is left
+pub less-left : (s : Search) (o : List ℕ) (p : Piece) → Gave s o p → p .done ≡ false → length (textLeft (p .search)) < length (textLeft s)
+less-left s o p g d =
+    let e = ap length (rw (d, pick-false) at (g .text)) in
+    let a = length-append (take (p .written) o) (textLeft (p .search)) in
+    let w : length (take (p .written) o) ≡ p .written = length-take-le (p .written) o (g .room) in
+    let i = g .some in
+    omega (arith, e, a, w, i)
+
 sound-again : (s : Search) (cs : List Call) → Sound s → Calls s cs → Sound (searchAfter s cs)
 sound-again s [] h a = h
 sound-again s (c ∷ cs) h a = sound-again (c .piece .search) cs (a .0 .sound (a .1)) (a .2)

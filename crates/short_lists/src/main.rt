@@ -1,18 +1,35 @@
-// The program of T-01: reads two bytes, n and a length, from standard input, and writes the text of all accepted lists to standard output.
+// The program of T-01: reads two bytes, n and a length, from standard input, and writes the text of all lists of that length to standard output, piece by piece.
+// Where the input can't be read nothing is printed; where a piece can't be written nothing more is. Standard error says why.
 use list_search::PIECE;
 use standard_io::Input;
+ghost use mathlib.Core.Path.{_≡_};
+ghost use lib.ListN.{length};
 
-fn piece_space() -> [u8; PIECE] {
+// One byte more than an input may have.
+const INPUT_SPACE: usize = 3;
+
+fn input_space() -> [u8; INPUT_SPACE]
+    ensures { λ r. ⌜ 3 ≡ length r ⌝ }
+{
+    [0; INPUT_SPACE]
+}
+
+fn piece_space() -> [u8; PIECE]
+    ensures { λ r. ⌜ 65536 ≡ length r ⌝ }
+{
     [0; PIECE]
 }
 
+// The text of the input, to standard output.
 fn print(input: &[u8]) {
     let mut out = piece_space();
     let mut s = list_search::begin(input);
     loop {
         let p = list_search::next_lines(s, &mut out);
         let n = p.written;
-        standard_io::write_all(&out[..n]);
+        if !standard_io::write_all(&out[..n]) {
+            return;
+        }
         if p.done {
             return;
         }
@@ -21,7 +38,7 @@ fn print(input: &[u8]) {
 }
 
 fn main() {
-    let mut input: [u8; 3] = [0; 3];
+    let mut input = input_space();
     match standard_io::read_all(&mut input) {
         Input::Failed => {}
         Input::Read(n) => print(&input[..n]),
