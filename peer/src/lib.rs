@@ -17,6 +17,7 @@ pub mod proved;
 pub mod sha256;
 pub mod short;
 pub mod shortest;
+pub mod spread;
 pub mod tables;
 pub mod tuned;
 pub mod vectors;
