@@ -1,4 +1,4 @@
-//! The test values that NIST gives for SHA-256, and every length around the end of a block.
+//! The test values that NIST gives for SHA-256, and every length up to a few blocks.
 
 use peer::sha256::sha256;
 
@@ -21,4 +21,13 @@ fn standard_values() {
     for (bytes, digest) in values {
         assert_eq!(sha256(bytes), digest);
     }
+}
+
+/// The digests of 0 to 199 bytes, each byte the length, against the digest of them all in a row that
+/// another implementation gives (Python's hashlib).
+#[test]
+fn every_length() {
+    let digests: String = (0..200).map(|n| sha256(&vec![n; usize::from(n)])).collect();
+    let all = "c86ce814ed1233ab1d4b273da1b6b13765cd39e72e81ce941452479e70ff1b10";
+    assert_eq!(sha256(digests.as_bytes()), all);
 }
