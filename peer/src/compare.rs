@@ -390,7 +390,7 @@ pub fn list_words(list: &[u8]) -> String {
     words
 }
 
-/// An event in the words of steps.txt.
+/// An event in the words of steps.txt, which are those of T-01 too.
 pub fn event_words(event: &Event) -> String {
     match *event {
         Event::Crash(i) => format!("crash {i}"),

@@ -257,10 +257,10 @@ impl Corners {
             }
         }
         for (deed, name) in DEEDS.iter().enumerate() {
-            for before in 0..9 {
+            for (before, from) in ACTIVITIES.iter().enumerate() {
                 for &after in possible(deed, before) {
                     corners.push((
-                        format!("{name}: {} -> {}", ACTIVITIES[before], ACTIVITIES[after]),
+                        format!("{name}: {from} -> {}", ACTIVITIES[after]),
                         self.transitions[deed][before][after],
                     ));
                 }
@@ -281,15 +281,12 @@ impl Corners {
             }
         }
         for (deed, name) in DEEDS.iter().enumerate() {
-            for before in 0..9 {
-                for after in 0..9 {
+            for (before, from) in ACTIVITIES.iter().enumerate() {
+                for (after, to) in ACTIVITIES.iter().enumerate() {
                     if !possible(deed, before).contains(&after)
                         && met(self.transitions[deed][before][after])
                     {
-                        found.push(format!(
-                            "{name}: {} -> {}",
-                            ACTIVITIES[before], ACTIVITIES[after]
-                        ));
+                        found.push(format!("{name}: {from} -> {to}"));
                     }
                 }
             }

@@ -242,7 +242,7 @@ impl<L: Library> Fuzz<L> {
         };
         let events = self.events(&table, most);
         // In most cases random bytes stand in what is no part of the tables.
-        let noise = self.numbers.next();
+        let noise = self.numbers.bits();
         let noise = (!self.numbers.one_in(4)).then_some(noise);
         self.tables += 1;
         self.table_events += events.len() as u64;
@@ -298,7 +298,7 @@ impl<L: Library> Fuzz<L> {
         if let (Err(number), true) = (first_event(&field), room >= TABLE_BYTES) {
             self.corners.refusal(number);
         }
-        let noise = self.numbers.next();
+        let noise = self.numbers.bits();
         if let Some(words) = field_difference(&self.library, &table, &field, room, noise) {
             return self.difference(words);
         }

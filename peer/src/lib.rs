@@ -1,6 +1,6 @@
-//! A second implementation of document 01 (coordinator election among cabinets), written from the
-//! papers alone, so that other implementations can be compared with it. Document 01's cabinet is
-//! called node here, and its book history.
+//! A second implementation of document 01 (coordinator election among cabinets) and of T-01 of
+//! document 02, written from the papers alone, so that other implementations can be compared with it.
+//! Document 01's cabinet is called node here, and its book history.
 
 pub mod compare;
 pub mod corners;
@@ -14,7 +14,10 @@ pub mod machine;
 pub mod numbers;
 pub mod print;
 pub mod proved;
+pub mod sha256;
+pub mod short;
 pub mod shortest;
+pub mod spread;
 pub mod tables;
 pub mod tuned;
 pub mod vectors;

@@ -59,7 +59,7 @@ fn any_task(numbers: &mut Numbers) -> u16 {
 
 /// A part of a set: often none of it or all of it.
 fn part(set: Set, numbers: &mut Numbers) -> Set {
-    let bits = numbers.next();
+    let bits = numbers.bits();
     match numbers.below(6) {
         0 | 1 => 0,
         2 => set,
@@ -97,7 +97,7 @@ fn node(i: u8, n: u8, numbers: &mut Numbers) -> Node {
         task: match numbers.below(4) {
             0 => 0,
             1 => u16::from(i),
-            2 => numbers.next() as u16,
+            2 => numbers.bits() as u16,
             _ => any_task(numbers),
         },
         members: part(others, numbers),

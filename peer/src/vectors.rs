@@ -1,5 +1,5 @@
-//! Reads and writes the vectors: single events on tables (the form of steps.txt), and pairs of a
-//! list and its printed text (NAME.list and NAME.txt).
+//! Reads and writes the vectors: single events on tables (the form of steps.txt), pairs of a list and
+//! its printed text (NAME.list and NAME.txt), and the sums and the wrong inputs of T-01.
 
 use crate::machine::{Activity, Body, Event, Message, Node, Status, Table, MAX_NODES};
 use std::fmt::Write;
@@ -45,6 +45,70 @@ pub fn read_lists(directory: &Path) -> Result<Vec<ListCase>, String> {
     }
     cases.sort_by(|a, b| a.name.cmp(&b.name));
     Ok(cases)
+}
+
+/// A line of sums.txt: what is known of the text of an input.
+#[derive(Clone, Debug)]
+pub struct Sum {
+    pub n: u8,
+    pub length: u8,
+    pub lists: u64,
+    pub bytes: u64,
+    pub sha256: String,
+}
+
+/// Reads sums.txt, whose first line names the columns. The error names the line.
+pub fn read_sums(text: &str) -> Result<Vec<Sum>, String> {
+    let sum = |line: &str| {
+        let w = &mut line.split_whitespace();
+        let (n, length, lists, bytes) = (number(w)?, number(w)?, number(w)?, number(w)?);
+        let sum = Sum { n, length, lists, bytes, sha256: w.next()?.to_string() };
+        w.next().is_none().then_some(sum)
+    };
+    let lines = text.lines().skip(1);
+    lines.map(|line| sum(line).ok_or(format!("sums.txt: {line}"))).collect()
+}
+
+/// An input that is refused, and the text that it prints.
+#[derive(Clone, Debug)]
+pub struct WrongInput {
+    pub input: Vec<u8>,
+    pub text: Vec<u8>,
+}
+
+/// Reads wrong-inputs.txt: an input in hex and the line that it prints. The error names the line.
+pub fn read_wrong_inputs(text: &str) -> Result<Vec<WrongInput>, String> {
+    let wrong_input = |line: &str| {
+        let (input, printed) = line.split_once(' ')?;
+        Some(WrongInput { input: read_hex(input)?, text: format!("{printed}\n").into_bytes() })
+    };
+    let fault = |line: &str| format!("wrong-inputs.txt: {line}");
+    text.lines().map(|line| wrong_input(line).ok_or_else(|| fault(line))).collect()
+}
+
+/// Bytes in hex, in which `_N_` stands for N zero bytes; `-` is none.
+pub fn read_hex(word: &str) -> Option<Vec<u8>> {
+    let mut bytes = Vec::new();
+    if word == "-" {
+        return Some(bytes);
+    }
+    let parts: Vec<&str> = word.split('_').collect();
+    if parts.len().is_multiple_of(2) {
+        return None;
+    }
+    for (k, part) in parts.iter().enumerate() {
+        if k % 2 == 1 {
+            bytes.resize(bytes.len() + part.parse::<usize>().ok()?, 0);
+            continue;
+        }
+        let (pairs, []) = part.as_bytes().as_chunks::<2>() else {
+            return None;
+        };
+        for pair in pairs {
+            bytes.push(u8::from_str_radix(std::str::from_utf8(pair).ok()?, 16).ok()?);
+        }
+    }
+    Some(bytes)
 }
 
 /// The parts of a case as its lines come.

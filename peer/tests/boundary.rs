@@ -32,7 +32,7 @@ fn too_short_a_buffer(library: &impl Library) {
                 table = in_range(&mut numbers);
                 spoil(&mut table, &mut numbers);
             }
-            no_difference(field_difference(library, &table, field, room, numbers.next()));
+            no_difference(field_difference(library, &table, field, room, numbers.bits()));
         }
     }
 }
@@ -79,7 +79,7 @@ fn no_field(library: &impl Library) {
         assert_eq!(first_event(field), Err(number), "{field:02x?}");
         for table in [Table::start(16), in_range(&mut numbers)] {
             for room in [TABLE_BYTES, TABLE_BYTES + 7] {
-                no_difference(field_difference(library, &table, field, room, numbers.next()));
+                no_difference(field_difference(library, &table, field, room, numbers.bits()));
             }
         }
     }
@@ -104,7 +104,7 @@ fn bytes_behind_the_field(library: &impl Library) {
             write_event(&mut field, &any_event(table.n, &mut numbers));
             field.extend(behind);
             let room = TABLE_BYTES + numbers.place(9);
-            no_difference(field_difference(library, &table, &field, room, numbers.next()));
+            no_difference(field_difference(library, &table, &field, room, numbers.bits()));
         }
         let field = [&[0x11, 0, 1, 1], behind].concat();
         let mut out = [0; TABLE_BYTES];

@@ -272,7 +272,8 @@ fn hands_on_after_recovery(table: &mut Table, event: &Event) -> Result<(), u8> {
 /// The wrong turnings and the impostors that document 01 names.
 #[test]
 fn fuzzer_finds_wrong_turnings_and_impostors() {
-    let machines: [(&str, fn(&mut Table, &Event) -> Result<(), u8>); 12] = [
+    type Step = fn(&mut Table, &Event) -> Result<(), u8>;
+    let machines: [(&str, Step); 12] = [
         ("clears the counter at a crash", clears_counter),
         ("forgets the members", forgets_members),
         ("takes the task early", takes_task_early),

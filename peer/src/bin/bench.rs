@@ -13,6 +13,7 @@ use peer::machine::Event;
 use peer::numbers::Numbers;
 use peer::print::run_list;
 use peer::proved::{fold, Library, Proved};
+use peer::spread::{median, ratios, spread};
 use peer::tuned;
 use std::hint::black_box;
 use std::process::ExitCode;
@@ -166,18 +167,9 @@ fn row(case: &Case, times: &[Vec<f64>]) -> String {
         row += &format!(" {:.1} |", median(times) / case.events.len() as f64 * 1e9);
     }
     for other in &times[1..] {
-        let ratios: Vec<f64> = other.iter().zip(&times[0]).map(|(b, a)| b / a).collect();
-        let least = ratios.iter().copied().fold(f64::INFINITY, f64::min);
-        let most = ratios.iter().copied().fold(0.0, f64::max);
-        row += &format!(" {:.3} ({least:.3} to {most:.3}) |", median(&ratios));
+        row += &format!(" {} |", spread(&ratios(other, &times[0]), 3));
     }
     row
-}
-
-fn median(values: &[f64]) -> f64 {
-    let mut sorted = values.to_vec();
-    sorted.sort_by(f64::total_cmp);
-    sorted[sorted.len() / 2]
 }
 
 /// Times some sides, one pass of each in turn. Gives the seconds for a pass of each side, the least of
