@@ -1,5 +1,5 @@
 -- What the search's loop keeps, turn by turn. The topmost level stands in its locals: t.
-use Prim.Native.Nat.{ℕ, zero, suc, _+_, _-_, _*_, _^_, _≤_, _<_}
+use Prim.Native.Nat.{ℕ, zero, suc, _+_, _-_, _*_, _%_, _^_, _≤_, _<_}
 use native.Mathlib.Omega.{arith}
 use mathlib.Core.Bool.{true, false, true≢false}
 use mathlib.Core.Logic.{_⊎_, inl, inr}
@@ -11,14 +11,19 @@ use lib.Seq.{getD-set-same, getD-set-other}
 use borrow.Author.Tests.{le-leb, lt-leb, ne-eqb}
 use Rattle.model.specs.Pick.{pick-true, pick-false}
 use Rattle.model.specs.State.{State}
-use Rattle.model.specs.Step.{Result, refused, accepted, step}
+use Rattle.model.specs.Claims.{Accepts}
+use Rattle.model.specs.Answers.{answerNumber}
+use Rattle.model.specs.Step.{Result, refused, accepted, step, actor, sent}
 use Rattle.model.specs.declared.Mark.{Mark}
 use Rattle.model.specs.declared.Node.{Node}
 use Rattle.model.specs.declared.Event.{Event}
 use Rattle.listing.specs.Ascii.{bytes}
 use Rattle.listing.specs.Printing.{Appended}
 use Rattle.packed.specs.Seen.{seen}
-use Rattle.packed.proofs.Turns.{Ready}
+use Rattle.machine.specs.Parts.{isAccepted, without, Room, leftOf}
+use Rattle.packed.specs.declared.Ruling.{Ruling}
+use Rattle.packed.specs.Packed.{queue, Ruled}
+use Rattle.packed.proofs.Turns.{Ready, refused-step, has-room, step-accepts, accepted-step, ready-again}
 use Rattle.short_lists_text.specs.Text.{eventText, listLine, countLine}
 use Rattle.list_search.specs.declared.Level.{Level}
 use Rattle.list_search.specs.declared.Search.{Search}
@@ -31,17 +36,17 @@ use Rattle.list_search.proofs.Lines.{beginning-more, line-ends}
 
 -- ── the levels below one that is stored ──
 
-pub frames-below : (n : ℕ) (ls : List Level) (k : ℕ) (l : Level) (h : ℕ) → h ≤ k → framesOf n (set ls k l) h ≡ framesOf n ls h
+frames-below : (n : ℕ) (ls : List Level) (k : ℕ) (l : Level) (h : ℕ) → h ≤ k → framesOf n (set ls k l) h ≡ framesOf n ls h
 unfolding framesOf
 frames-below n ls k l zero q = refl
 frames-below n ls k l (suc h) q = rw (getD-set-other ls k h l noLevel (λ z. absurd (omega arith)), frames-below n ls k l h (omega arith))
 
-pub sound-below : (n : ℕ) (ls : List Level) (k : ℕ) (l : Level) (h : ℕ) → h ≤ k → SoundBelow n ls h → SoundBelow n (set ls k l) h
+sound-below : (n : ℕ) (ls : List Level) (k : ℕ) (l : Level) (h : ℕ) → h ≤ k → SoundBelow n ls h → SoundBelow n (set ls k l) h
 sound-below n ls k l zero q b = tt
 sound-below n ls k l (suc h) q b =
     rw (getD-set-other ls k h l noLevel (λ z. absurd (omega arith)), frames-below n ls k l h (omega arith)) (b .0, b .1, sound-below n ls k l h (omega arith) (b .2))
 
-pub path-long : (n : ℕ) (ls : List Level) (h : ℕ) → length (path (framesOf n ls h)) ≡ h
+path-long : (n : ℕ) (ls : List Level) (h : ℕ) → length (path (framesOf n ls h)) ≡ h
 unfolding framesOf path
 path-long n ls zero = refl
 path-long n ls (suc h) = simp length-append (omega (arith, path-long n ls h))
@@ -81,7 +86,7 @@ module _ {x o : List ℕ} {n len : ℕ} {ls : List Level} {g at : ℕ} where
   -- ── all events were tried ──
 
   -- on the lowest table: the last line is left
-  pub last-line : {t : Level} → Kept x o n len ls 0 t g at → sizeOf n ≤ t .tried → x ≡ take at o ++ countLine g
+  last-line : {t : Level} → Kept x o n len ls 0 t g at → sizeOf n ≤ t .tried → x ≡ take at o ++ countLine g
   unfolding framesOf
   last-line {t} k q =
       let z : len - 0 ≡ suc (len - 1) = omega (arith, k .below) in
@@ -96,7 +101,7 @@ module _ {x o : List ℕ} {n len : ℕ} {ls : List Level} {g at : ℕ} where
         let y : len - h ≡ suc (suc (len - suc (suc h))) = omega (arith, k .below) in
         rw (z, y) (gone (len - suc (suc h)) (frameOf n t) (framesOf n ls (suc h)) (le-leb _ _ q) .0)
 
-    pub popped : Kept x o n len ls h (getD ls h noLevel) g at
+    popped : Kept x o n len ls h (getD ls h noLevel) g at
     unfolding framesOf
     popped = record {
       some = k .some;
@@ -112,7 +117,7 @@ module _ {x o : List ℕ} {n len : ℕ} {ls : List Level} {g at : ℕ} where
       text = k .text ∙ ap (λ y. take at o ++ y) (text-same g _ _ _ _ same);
     }
 
-    pub popped-less : turnsOf n len ls h (getD ls h noLevel) < turnsOf n len ls (suc h) t
+    popped-less : turnsOf n len ls h (getD ls h noLevel) < turnsOf n len ls (suc h) t
     unfolding framesOf
     popped-less =
         let z : len - suc h ≡ suc (len - suc (suc h)) = omega (arith, k .below) in
@@ -133,7 +138,7 @@ module _ {x o : List ℕ} {n len : ℕ} {ls : List Level} {g at : ℕ} where
     missing-one : len - h ≡ suc (len - suc h)
     missing-one = omega (arith, k .below)
 
-    pub onward-sound : SoundLevel n (path fs) (onward t)
+    onward-sound : SoundLevel n (path fs) (onward t)
     onward-sound =
         let p = k .top in
         record { nodes = p .nodes; words = p .words; range = p .range; within = omega (arith, q); room = p .room; end = p .end; line = p .line }
@@ -143,7 +148,7 @@ module _ {x o : List ℕ} {n len : ℕ} {ls : List Level} {g at : ℕ} where
       same-lists : left (len - h) (frameOf n t ∷ fs) ≡ left (len - h) (frameOf n (onward t) ∷ fs)
       same-lists = rw missing-one (passed-by (len - suc h) (frameOf n t) fs (lt-leb _ _ q) r z .0)
 
-      pub refused-kept : Kept x o n len ls h (onward t) g at
+      refused-kept : Kept x o n len ls h (onward t) g at
       refused-kept = record {
         some = k .some;
         few = k .few;
@@ -158,7 +163,7 @@ module _ {x o : List ℕ} {n len : ℕ} {ls : List Level} {g at : ℕ} where
         text = k .text ∙ ap (λ y. take at o ++ y) (text-same g _ _ _ _ same-lists);
       }
 
-      pub refused-less : turnsOf n len ls h (onward t) < turnsOf n len ls h t
+      refused-less : turnsOf n len ls h (onward t) < turnsOf n len ls h t
       refused-less = rw missing-one (passed-by (len - suc h) (frameOf n t) fs (lt-leb _ _ q) r z .1)
 
     -- accepted
@@ -171,10 +176,10 @@ module _ {x o : List ℕ} {n len : ℕ} {ls : List Level} {g at : ℕ} where
         given-one : left (len - h) (frameOf n t ∷ fs) ≡ (path fs ++ (e ∷ [])) ∷ left (len - h) (frameOf n (onward t) ∷ fs)
         given-one = rw one (gave-one (frameOf n t) fs (lt-leb _ _ q) u m z .0)
 
-        pub count-more : g + 1 + length (left (len - h) (frameOf n (onward t) ∷ fs)) < 2 ^ 32
+        count-more : g + 1 + length (left (len - h) (frameOf n (onward t) ∷ fs)) < 2 ^ 32
         count-more = let c = k .count in let y = ap length given-one in omega (arith, c, y)
 
-        pub given-less : turnsOf n len ls h (onward t) < turnsOf n len ls h t
+        given-less : turnsOf n len ls h (onward t) < turnsOf n len ls h t
         given-less = rw one (gave-one (frameOf n t) fs (lt-leb _ _ q) u m z .1)
 
         -- its line was written
@@ -182,13 +187,13 @@ module _ {x o : List ℕ} {n len : ℕ} {ls : List Level} {g at : ℕ} where
           written-line : take r o′ ≡ take at o ++ listLine (path fs ++ (e ∷ []))
           written-line = w .text ∙ ap (λ y. take at o ++ y) (ap (λ y. y ++ (eventText e ++ bytes "\n")) (k .top .line) ∙ sym (line-ends (path fs) e))
 
-          pub given-text : x ≡ take r o′ ++ leftText (g + 1) (len - h) (frameOf n (onward t) ∷ fs)
+          given-text : x ≡ take r o′ ++ leftText (g + 1) (len - h) (frameOf n (onward t) ∷ fs)
           given-text =
               k .text ∙ ap (λ y. take at o ++ y) (text-given g _ _ _ _ _ given-one)
               ∙ sym (append-assoc (take at o) (listLine (path fs ++ (e ∷ []))) _)
               ∙ ap (λ y. y ++ leftText (g + 1) (len - h) (frameOf n (onward t) ∷ fs)) (sym written-line)
 
-          pub given-kept : r ≤ 65408 → Kept x o′ n len ls h (onward t) (g + 1) r
+          given-kept : r ≤ 65408 → Kept x o′ n len ls h (onward t) (g + 1) r
           given-kept y = record {
             some = k .some;
             few = k .few;
@@ -258,10 +263,10 @@ module _ {x o : List ℕ} {n len : ℕ} {ls : List Level} {g at : ℕ} where
           text = k .text ∙ ap (λ l. take at o ++ l) (text-same g _ _ _ _ up);
         }
 
-        pub pushed : v .end ≤ t .end + 18 → Kept x o n len below (h + 1) v g at
+        pushed : v .end ≤ t .end + 18 → Kept x o n len below (h + 1) v g at
         pushed y = let i : suc h ≡ h + 1 = omega arith in subst (λ j. Kept x o n len below j v g at) i (pushed-suc y)
 
-        pub pushed-less : turnsOf n len below (h + 1) v < turnsOf n len ls h t
+        pushed-less : turnsOf n len below (h + 1) v < turnsOf n len ls h t
         pushed-less = let i : suc h ≡ h + 1 = omega arith in subst (λ j. turnsOf n len below j v < turnsOf n len ls h t) i suc-less
 
 -- ── the search before the loop and after it ──
@@ -336,7 +341,7 @@ module _ {x o : List ℕ} {n len : ℕ} {ls : List Level} {g at h : ℕ} {t : Le
         count = rw (y, d, stays, stored) (count-more k q u m z last);
       }
 
-  pub gave-more : (o′ : List ℕ) (r : ℕ) → Appended o at (take (t .end) (t .line) ++ (eventText (eventAt n (t .tried)) ++ bytes "\n")) o′ r → (s : Search) → x ≡ textLeft s → at < r
+  gave-more : (o′ : List ℕ) (r : ℕ) → Appended o at (take (t .end) (t .line) ++ (eventText (eventAt n (t .tried)) ++ bytes "\n")) o′ r → (s : Search) → x ≡ textLeft s → at < r
       → Gave s o′ (record { written = r; done = false; search = goes-on })
   gave-more o′ r w s c l = record {
     text = rw pick-false (sym c ∙ given-text k q u m z last w ∙ ap (λ y. take r o′ ++ y) (sym (text-of goes-on h going ∙ rw (stays, stored))));
@@ -353,12 +358,12 @@ top-place s h c = by (c .below)
     by (inl q) = omega (arith, q, c .long)
     by (inr q) = omega (arith, q .1)
 
--- ── as the code has the numbers; c: how many events there are ──
+-- ── as the code has it; c: how many events there are ──
+
+same-step : (s : State) (d e : Event) (r : Result) → d ≡ e → step s d ≡ r → step s e ≡ r
+same-step s d e r p h = subst (λ y. step s y ≡ r) p h
 
 module _ {x o : List ℕ} {n len : ℕ} {ls : List Level} {g at h : ℕ} {t : Level} (k : Kept x o n len ls h t g at) (c : ℕ) (hc : c ≡ sizeOf n) where
-  pub not-all : (t .tried ≡ c → ⊥) → t .tried < sizeOf n
-  not-all d = let w = k .top .within in omega (arith, w, hc, d)
-
   pub short-line : t .end ≤ 108
   short-line = let e = k .top .end in let p = path-long n ls h in omega (arith, e, p, k .below, k .long)
 
@@ -381,11 +386,73 @@ module _ {x o : List ℕ} {n len : ℕ} {ls : List Level} {g at h : ℕ} {t : Le
     pub down-less : turnsOf n len ls (h - 1) (getD ls (h - 1) noLevel) < turnsOf n len ls h t
     down-less = subst (λ i. turnsOf n len ls (h - 1) (getD ls (h - 1) noLevel) < turnsOf n len ls i t) (sym up-one) (popped-less above (all q))
 
-pub same-step : (s : State) (d e : Event) (r : Result) → d ≡ e → step s d ≡ r → step s e ≡ r
-same-step s d e r p h = subst (λ y. step s y ≡ r) p h
+  -- e is tried: i is its node's place, and r what is ruled
+  module _ (d : t .tried ≡ c → ⊥) {e : Event} (he : e ≡ eventAt n (t .tried)) {i : ℕ} (hi : i ≡ (actor e + 15) % 16) (b : Node) {r : Ruling}
+      (j : Ruled (t .words) n (t .waiting) (getD (t .nodes) i b) e r) where
+    under : t .tried < sizeOf n
+    under = let w = k .top .within in omega (arith, w, hc, d)
 
-pub is-last : (h len : ℕ) → h + 1 ≡ len → suc h ≡ len
-is-last h len q = omega (arith, q)
+    rd : Ready n (t .nodes) (t .words) (t .waiting)
+    rd = ready n (path (framesOf n ls h)) t (k .top)
 
-pub not-last : (h len : ℕ) → h < len → (h + 1 ≡ len → ⊥) → suc h < len
-not-last h len q d = omega (arith, q, d)
+    module _ (no : isAccepted (r .verdict .answer) ≡ false) where
+      refusal : step (seen n (t .nodes) (t .words) (t .waiting)) (eventAt n (t .tried)) ≡ refused (answerNumber (r .verdict .answer))
+      refusal = same-step _ _ _ _ he (refused-step _ _ _ _ rd e i hi b r j no)
+
+      pub turned-down : Kept x o n len ls h (onward t) g at
+      turned-down = refused-kept k under _ refusal
+
+      pub turned-less : turnsOf n len ls h (onward t) < turnsOf n len ls h t
+      turned-less = refused-less k under _ refusal
+
+    module _ (yes : isAccepted (r .verdict .answer) ≡ true) where
+      pub room-for : Room (r .verdict .reaction .outgoing) (leftOf (t .waiting) (r .place))
+      room-for = has-room _ _ _ _ rd e i hi b r j yes
+
+      -- as the last of a list
+      module _ (l : h + 1 ≡ len) where
+        last : suc h ≡ len
+        last = omega (arith, l)
+
+        abbrev got : Accepts (seen n (t .nodes) (t .words) (t .waiting)) e
+        got = step-accepts _ _ _ _ rd e i hi b r j yes
+
+        taken : step (seen n (t .nodes) (t .words) (t .waiting)) (eventAt n (t .tried)) ≡ accepted (got .state) (got .mark)
+        taken = same-step _ _ _ _ he (got .is)
+
+        pub count-one : g + 1 + length (left (len - h) (frameOf n (onward t) ∷ framesOf n ls h)) < 2 ^ 32
+        count-one = count-more k under _ _ taken last
+
+        pub listed-less : turnsOf n len ls h (onward t) < turnsOf n len ls h t
+        listed-less = given-less k under _ _ taken last
+
+        module _ {o′ : List ℕ} {p : ℕ} (w : Appended o at (take (t .end) (t .line) ++ (eventText e ++ bytes "\n")) o′ p) where
+          line-of : Appended o at (take (t .end) (t .line) ++ (eventText (eventAt n (t .tried)) ++ bytes "\n")) o′ p
+          line-of = rw he at w
+
+          pub listed : p ≤ 65408 → Kept x o′ n len ls h (onward t) (g + 1) p
+          listed q = given-kept k under _ _ taken last line-of q
+
+          pub listed-more : (s : Search) → x ≡ textLeft s → at < p → Gave s o′ (record { written = p; done = false; search = record { n = n; length = len; given = g + 1; height = h + 1; levels = set ls h (onward t) } })
+          listed-more s q z = gave-more k under _ _ taken last o′ p line-of s q z
+
+      -- as one of others: v is the level of its table
+      module _ (l : h + 1 ≡ len → ⊥) (us : List ℕ) (w : ℕ) (q : queue us w ≡ without (r .place) (queue (t .words) (t .waiting)) ++ sent (r .verdict .reaction .outgoing)) (z : length us ≡ 256)
+          {line : List ℕ} {end : ℕ} (a : Appended (t .line) (t .end) (eventText e ++ bytes ", ") line end) where
+        abbrev v : Level
+        v = record { nodes = set (t .nodes) i (r .verdict .reaction .node); words = us; waiting = w; tried = 0; line = line; end = end }
+
+        more : suc h < len
+        more = omega (arith, l, k .below)
+
+        abbrev went : (m : Mark) × (step (seen n (t .nodes) (t .words) (t .waiting)) e ≡ accepted (seen n (v .nodes) us w) m)
+        went = accepted-step _ _ _ _ rd e i hi b r j yes us w q
+
+        longer : Appended (t .line) (t .end) (eventText (eventAt n (t .tried)) ++ bytes ", ") line end
+        longer = rw he at a
+
+        pub raised : end ≤ t .end + 18 → Kept x o n len (set ls h (onward t)) (h + 1) v g at
+        raised y = pushed k under _ _ (same-step _ _ _ _ he (went .1)) more v refl refl (ready-again _ _ _ _ rd e i hi b r j yes us w q z) longer y
+
+        pub raised-less : turnsOf n len (set ls h (onward t)) (h + 1) v < turnsOf n len ls h t
+        raised-less = pushed-less k under _ _ (same-step _ _ _ _ he (went .1)) more v refl refl (ready-again _ _ _ _ rd e i hi b r j yes us w q z) longer

@@ -1,14 +1,13 @@
 -- `list_search::lines_on` meets its contract. The invariant, `Kept`: what was written, and then what the stack still gives, is the text that the search gave at first.
 use borrow.Author.Needs.{needs}
 use borrow.Author.Tests.{not-true, not-false}
-use Prim.Native.Nat.{ℕ}
 use native.Mathlib.Omega.{arith}
 use mathlib.Core.Path.{_≡_, refl, sym, _∙_}
-use Rattle.packed.proofs.Turns.{few, rulable, refused-step, has-room, step-accepts, accepted-step, ready-again}
+use Rattle.packed.proofs.Turns.{few, rulable}
 use Rattle.list_search.specs.declared.Level.{Level}
 use Rattle.list_search.specs.Stack.{sizeOf}
 use Rattle.list_search.specs.Search.{textLeft}
-use Rattle.list_search.proofs.Loop.{Kept, turnsOf, ready, same-step, is-last, not-last, top-place, loop-starts, gave-last, gave-more, not-all, short-line, ends, down, down-less, refused-kept, refused-less, count-more, given-kept, given-less, pushed, pushed-less}
+use Rattle.list_search.proofs.Loop.{Kept, turnsOf, ready, top-place, loop-starts, gave-last, short-line, ends, down, down-less, turned-down, turned-less, room-for, count-one, listed, listed-less, listed-more, raised, raised-less}
 use Rattle.list_search.proofs.lines_on.Statement.{statement}
 use Rattle.list_search.proofs.lines_on.Tie as tie
 
@@ -50,7 +49,7 @@ loop-again c =
     let l = c .before .before .before .before .before .before .loop in
     (down (l .inv .0) _ (l .inv .1) (c .before .before .before .before .before .if1 .taken) (c .before .before .before .before .if2 .left), l .inv .1)
 
--- an event is tried
+-- an event is tried; v: where it was judged
 rule-requires : tie.Need-rule-requires Inv-loop μ-loop
 rule-requires c κs =
     let l = c .before .before .before .before .before .loop in
@@ -62,23 +61,17 @@ loop-less-2 : tie.Need-loop-less-2 Inv-loop μ-loop
 loop-less-2 c =
     let v = c .before in
     let l = v .before .before .before .before .before .before .before .before .loop in
-    let k = l .inv .0 in
-    let h = ready _ _ _ (k .top) in
-    let e = v .before .before .before .before .before .before .event-at .ensures in
-    let q = not-all k _ (l .inv .1) (v .before .before .before .before .before .before .before .if1 .left) in
-    let z = same-step _ _ _ _ e (refused-step _ _ _ _ h _ _ (v .before .before .before .before .before .seat .ensures .0) _ _ (v .before .before .rule .ensures) (sym (v .is-accepted .ensures) ∙ not-true _ (c .if3 .taken))) in
-    refused-less k q _ z
+    turned-less (l .inv .0) _ (l .inv .1) (v .before .before .before .before .before .before .before .if1 .left) (v .before .before .before .before .before .before .event-at .ensures) (v .before .before .before .before .before .seat .ensures .0) _ (v .before .before .rule .ensures)
+    (sym (v .is-accepted .ensures) ∙ not-true _ (c .if3 .taken))
 
 loop-again-2 : tie.Need-loop-again-2 Inv-loop μ-loop
 loop-again-2 c =
     let v = c .before in
-    let l = v .before .before .before .before .before .before .before .before .loop in
-    let k = l .inv .0 in
-    let h = ready _ _ _ (k .top) in
-    let e = v .before .before .before .before .before .before .event-at .ensures in
-    let q = not-all k _ (l .inv .1) (v .before .before .before .before .before .before .before .if1 .left) in
-    let z = same-step _ _ _ _ e (refused-step _ _ _ _ h _ _ (v .before .before .before .before .before .seat .ensures .0) _ _ (v .before .before .rule .ensures) (sym (v .is-accepted .ensures) ∙ not-true _ (c .if3 .taken))) in
-    (refused-kept k q _ z, l .inv .1)
+    let l = v .before .before .before .before .before .before .before .before .loop in (
+      turned-down (l .inv .0) _ (l .inv .1) (v .before .before .before .before .before .before .before .if1 .left) (v .before .before .before .before .before .before .event-at .ensures) (v .before .before .before .before .before .seat .ensures .0) _ (v .before .before .rule .ensures)
+          (sym (v .is-accepted .ensures) ∙ not-true _ (c .if3 .taken)),
+      l .inv .1,
+    )
 
 -- it is accepted, and the last of a list: there is room for another line, or not
 put-line-requires : tie.Need-put-line-requires Inv-loop μ-loop
@@ -91,76 +84,49 @@ add-given : tie.Need-add-given Inv-loop μ-loop
 add-given c =
     let v = c .before .before .before .before .before .before .before in
     let l = v .before .before .before .before .before .before .before .before .loop in
-    let k = l .inv .0 in
-    let h = ready _ _ _ (k .top) in
-    let e = v .before .before .before .before .before .before .event-at .ensures in
-    let q = not-all k _ (l .inv .1) (v .before .before .before .before .before .before .before .if1 .left) in
-    let y = sym (v .is-accepted .ensures) ∙ not-false _ (c .before .before .before .before .before .before .if3 .left) in
-    let a = step-accepts _ _ _ _ h _ _ (v .before .before .before .before .before .seat .ensures .0) _ _ (v .before .before .rule .ensures) y in
-    let z = same-step _ _ _ _ e (a .is) in
-    let last = is-last _ _ (c .before .before .before .before .before .if4 .taken) in
-    let n = count-more k q _ _ z last in
+    let z = count-one (l .inv .0) _ (l .inv .1) (v .before .before .before .before .before .before .before .if1 .left) (v .before .before .before .before .before .before .event-at .ensures) (v .before .before .before .before .before .seat .ensures .0) _ (v .before .before .rule .ensures)
+    (sym (v .is-accepted .ensures) ∙ not-false _ (c .before .before .before .before .before .before .if3 .left)) (c .before .before .before .before .before .if4 .taken) in
     search needs
 
 loop-less-3 : tie.Need-loop-less-3 Inv-loop μ-loop
 loop-less-3 c =
     let v = c .before .before .before .before .before .before .before .before in
     let l = v .before .before .before .before .before .before .before .before .loop in
-    let k = l .inv .0 in
-    let h = ready _ _ _ (k .top) in
-    let e = v .before .before .before .before .before .before .event-at .ensures in
-    let q = not-all k _ (l .inv .1) (v .before .before .before .before .before .before .before .if1 .left) in
-    let y = sym (v .is-accepted .ensures) ∙ not-false _ (c .before .before .before .before .before .before .before .if3 .left) in
-    let a = step-accepts _ _ _ _ h _ _ (v .before .before .before .before .before .seat .ensures .0) _ _ (v .before .before .rule .ensures) y in
-    let z = same-step _ _ _ _ e (a .is) in
-    let last = is-last _ _ (c .before .before .before .before .before .before .if4 .taken) in
-    given-less k q _ _ z last
+    listed-less (l .inv .0) _ (l .inv .1) (v .before .before .before .before .before .before .before .if1 .left) (v .before .before .before .before .before .before .event-at .ensures) (v .before .before .before .before .before .seat .ensures .0) _ (v .before .before .rule .ensures)
+    (sym (v .is-accepted .ensures) ∙ not-false _ (c .before .before .before .before .before .before .before .if3 .left)) (c .before .before .before .before .before .before .if4 .taken)
 
 loop-again-3 : tie.Need-loop-again-3 Inv-loop μ-loop
 loop-again-3 c =
     let v = c .before .before .before .before .before .before .before .before in
-    let l = v .before .before .before .before .before .before .before .before .loop in
-    let k = l .inv .0 in
-    let h = ready _ _ _ (k .top) in
-    let e = v .before .before .before .before .before .before .event-at .ensures in
-    let q = not-all k _ (l .inv .1) (v .before .before .before .before .before .before .before .if1 .left) in
-    let y = sym (v .is-accepted .ensures) ∙ not-false _ (c .before .before .before .before .before .before .before .if3 .left) in
-    let a = step-accepts _ _ _ _ h _ _ (v .before .before .before .before .before .seat .ensures .0) _ _ (v .before .before .rule .ensures) y in
-    let z = same-step _ _ _ _ e (a .is) in
-    let last = is-last _ _ (c .before .before .before .before .before .before .if4 .taken) in
-    let w = rw e at (c .before .before .before .put-line .ensures .0) in
-    (given-kept k q _ _ z last w (omega (arith, c .if5 .taken)), l .inv .1)
+    let l = v .before .before .before .before .before .before .before .before .loop in (
+      listed (l .inv .0) _ (l .inv .1) (v .before .before .before .before .before .before .before .if1 .left) (v .before .before .before .before .before .before .event-at .ensures) (v .before .before .before .before .before .seat .ensures .0) _ (v .before .before .rule .ensures)
+          (sym (v .is-accepted .ensures) ∙ not-false _ (c .before .before .before .before .before .before .before .if3 .left)) (c .before .before .before .before .before .before .if4 .taken) (c .before .before .before .put-line .ensures .0) (omega (arith, c .if5 .taken)),
+      l .inv .1,
+    )
 
 same-length-2 : tie.Need-same-length-2 Inv-loop μ-loop
-same-length-2 c = c .before .before .before .put-line .ensures .0 .long ∙ c .before .before .before .before .before .before .before .before .before .before .before .before .before .before .before .before .loop .inv .0 .size ∙ sym (c .before .before .before .before .before .before .before .before .before .before .before .before .before .before .before .before .before .before .before .before .before .before .before .before .before .pre .2)
+same-length-2 c =
+    c .before .before .before .put-line .ensures .0 .long ∙ c .before .before .before .before .before .before .before .before .before .before .before .before .before .before .before .before .loop .inv .0 .size ∙ sym (c .before .before .before .before .before .before .before .before .before .before .before .before .before .before .before .before .before .before .before .before .before .before .before .before .before .pre .2)
 
 returns-2 : tie.Need-returns-2 Inv-loop μ-loop
 returns-2 c =
     let v = c .before .before .before .before .before .before .before .before in
     let l = v .before .before .before .before .before .before .before .before .loop in
-    let k = l .inv .0 in
-    let h = ready _ _ _ (k .top) in
-    let e = v .before .before .before .before .before .before .event-at .ensures in
-    let q = not-all k _ (l .inv .1) (v .before .before .before .before .before .before .before .if1 .left) in
-    let y = sym (v .is-accepted .ensures) ∙ not-false _ (c .before .before .before .before .before .before .before .if3 .left) in
-    let a = step-accepts _ _ _ _ h _ _ (v .before .before .before .before .before .seat .ensures .0) _ _ (v .before .before .rule .ensures) y in
-    let z = same-step _ _ _ _ e (a .is) in
-    let last = is-last _ _ (c .before .before .before .before .before .before .if4 .taken) in
-    let p = c .before .before .before .put-line .ensures in
-    let w = rw e at (p .0) in
-    gave-more k q _ _ z last _ _ w _ refl (p .1)
+    listed-more (l .inv .0) _ (l .inv .1) (v .before .before .before .before .before .before .before .if1 .left) (v .before .before .before .before .before .before .event-at .ensures) (v .before .before .before .before .before .seat .ensures .0) _ (v .before .before .rule .ensures)
+    (sym (v .is-accepted .ensures) ∙ not-false _ (c .before .before .before .before .before .before .before .if3 .left)) (c .before .before .before .before .before .before .if4 .taken) (c .before .before .before .put-line .ensures .0) _ refl (c .before .before .before .put-line .ensures .1)
 
 -- it is accepted, and others follow
 exchange-requires : tie.Need-exchange-requires Inv-loop μ-loop
 exchange-requires c κs =
     let v = c .before .before .before .before .before in
     let l = v .before .before .before .before .before .before .before .before .loop in
-    let k = l .inv .0 in
-    let h = ready _ _ _ (k .top) in
-    let e = v .before .before .before .before .before .before .event-at .ensures in
-    let q = not-all k _ (l .inv .1) (v .before .before .before .before .before .before .before .if1 .left) in
-    let y = sym (v .is-accepted .ensures) ∙ not-false _ (c .before .before .before .before .if3 .left) in
-    (h .words, few _ _ _ _ h (v .before .before .before .before .before .before .event-at .result), v .before .before .rule .ensures .reach, has-room _ _ _ _ h _ _ (v .before .before .before .before .before .seat .ensures .0) _ _ (v .before .before .rule .ensures) y)
+    let h = ready _ _ _ (l .inv .0 .top) in (
+      h .words,
+      few _ _ _ _ h (v .before .before .before .before .before .before .event-at .result),
+      v .before .before .rule .ensures .reach,
+      room-for (l .inv .0) _ (l .inv .1) (v .before .before .before .before .before .before .before .if1 .left) (v .before .before .before .before .before .before .event-at .ensures) (v .before .before .before .before .before .seat .ensures .0) _ (v .before .before .rule .ensures)
+          (sym (v .is-accepted .ensures) ∙ not-false _ (c .before .before .before .before .if3 .left)),
+    )
 
 extend-requires : tie.Need-extend-requires Inv-loop μ-loop
 extend-requires c κs =
@@ -171,35 +137,17 @@ loop-less-4 : tie.Need-loop-less-4 Inv-loop μ-loop
 loop-less-4 c =
     let v = c .before .before .before .before .before .before .before .before in
     let l = v .before .before .before .before .before .before .before .before .loop in
-    let k = l .inv .0 in
-    let h = ready _ _ _ (k .top) in
-    let e = v .before .before .before .before .before .before .event-at .ensures in
-    let q = not-all k _ (l .inv .1) (v .before .before .before .before .before .before .before .if1 .left) in
-    let y = sym (v .is-accepted .ensures) ∙ not-false _ (c .before .before .before .before .before .before .before .if3 .left) in
-    let x = c .before .before .exchange .ensures in
-    let a = accepted-step _ _ _ _ h _ _ (v .before .before .before .before .before .seat .ensures .0) _ _ (v .before .before .rule .ensures) y _ _ (x .2) in
-    let d = ready-again _ _ _ _ h _ _ (v .before .before .before .before .before .seat .ensures .0) _ _ (v .before .before .rule .ensures) y _ _ (x .2) (x .0) in
-    let z = same-step _ _ _ _ e (a .1) in
-    let more = not-last _ _ (k .below) (c .before .before .before .before .before .before .if4 .left) in
-    let w = rw e at (c .extend .ensures .1) in
-    pushed-less k q _ _ z more _ refl refl d w
+    raised-less (l .inv .0) _ (l .inv .1) (v .before .before .before .before .before .before .before .if1 .left) (v .before .before .before .before .before .before .event-at .ensures) (v .before .before .before .before .before .seat .ensures .0) _ (v .before .before .rule .ensures)
+    (sym (v .is-accepted .ensures) ∙ not-false _ (c .before .before .before .before .before .before .before .if3 .left)) (c .before .before .before .before .before .before .if4 .left) _ _ (c .before .before .exchange .ensures .2) (c .before .before .exchange .ensures .0) (c .extend .ensures .1)
 
 loop-again-4 : tie.Need-loop-again-4 Inv-loop μ-loop
 loop-again-4 c =
     let v = c .before .before .before .before .before .before .before .before in
-    let l = v .before .before .before .before .before .before .before .before .loop in
-    let k = l .inv .0 in
-    let h = ready _ _ _ (k .top) in
-    let e = v .before .before .before .before .before .before .event-at .ensures in
-    let q = not-all k _ (l .inv .1) (v .before .before .before .before .before .before .before .if1 .left) in
-    let y = sym (v .is-accepted .ensures) ∙ not-false _ (c .before .before .before .before .before .before .before .if3 .left) in
-    let x = c .before .before .exchange .ensures in
-    let a = accepted-step _ _ _ _ h _ _ (v .before .before .before .before .before .seat .ensures .0) _ _ (v .before .before .rule .ensures) y _ _ (x .2) in
-    let d = ready-again _ _ _ _ h _ _ (v .before .before .before .before .before .seat .ensures .0) _ _ (v .before .before .rule .ensures) y _ _ (x .2) (x .0) in
-    let z = same-step _ _ _ _ e (a .1) in
-    let more = not-last _ _ (k .below) (c .before .before .before .before .before .before .if4 .left) in
-    let w = rw e at (c .extend .ensures .1) in
-    (pushed k q _ _ z more _ refl refl d w (c .extend .ensures .2), l .inv .1)
+    let l = v .before .before .before .before .before .before .before .before .loop in (
+      raised (l .inv .0) _ (l .inv .1) (v .before .before .before .before .before .before .before .if1 .left) (v .before .before .before .before .before .before .event-at .ensures) (v .before .before .before .before .before .seat .ensures .0) _ (v .before .before .rule .ensures)
+          (sym (v .is-accepted .ensures) ∙ not-false _ (c .before .before .before .before .before .before .before .if3 .left)) (c .before .before .before .before .before .before .if4 .left) _ _ (c .before .before .exchange .ensures .2) (c .before .before .exchange .ensures .0) (c .extend .ensures .1) (c .extend .ensures .2),
+      l .inv .1,
+    )
 
 pub lines-on-spec : {M : Type 1} → statement M
 lines-on-spec =
