@@ -1,5 +1,5 @@
 -- The first search, a search of the empty list, a refused one; and the pieces put together.
-use Prim.Native.Nat.{ℕ, zero, suc, _+_, _-_, _*_, _^_, _≤_, _<_}
+use Prim.Native.Nat.{ℕ, zero, suc, _+_, _-_, _^_, _≤_, _<_}
 use native.Mathlib.Omega.{arith}
 use mathlib.Core.Bool.{true, false, true≢false, _&&_}
 use mathlib.Core.Logic.{_⊎_, inl, inr}
@@ -21,15 +21,13 @@ use Rattle.listing.specs.Decimal.{digits, decimal}
 use Rattle.listing.specs.Lines.{row, stoppedLine}
 use Rattle.listing.specs.Printing.{Appended}
 use Rattle.packed.specs.Seen.{seen}
-use Rattle.short_lists_text.specs.Lists.{listsFrom}
-use Rattle.short_lists_text.specs.Text.{listLine, countLine, fits, textOf}
+use Rattle.short_lists_text.specs.Text.{countLine, fits, textOf}
 use Rattle.short_lists_text.proofs.Few.{few-lists}
-use Rattle.list_search.specs.declared.Level.{Level}
 use Rattle.list_search.specs.declared.Search.{Search}
 use Rattle.list_search.specs.declared.Piece.{Piece}
-use Rattle.list_search.specs.Stack.{Frame, frame, sizeOf, path, left, leftText}
+use Rattle.list_search.specs.Stack.{Frame, frame, path, left, leftText}
 use Rattle.list_search.specs.Line.{beginning}
-use Rattle.list_search.specs.Search.{noLevel, frameOf, framesOf, stackOf, missing, textLeft, SoundLevel, Going, Sound, Lowest, First, Begun, Gave, Call, writtenBy, Calls, searchAfter, PiecesMakeText}
+use Rattle.list_search.specs.Search.{noLevel, frameOf, framesOf, stackOf, missing, textLeft, SoundLevel, Going, Sound, First, Begun, Gave, Call, writtenBy, Calls, searchAfter, PiecesMakeText}
 use Rattle.list_search.proofs.Stack.{all-left, whole-text, left-given, left-none, text-given, text-over}
 use Rattle.list_search.proofs.Lines.{line-empty}
 use Rattle.list_search.proofs.Loop.{text-of}

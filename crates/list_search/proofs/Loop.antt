@@ -1,11 +1,11 @@
 -- What the search's loop keeps, turn by turn. The topmost level stands in its locals: t.
-use Prim.Native.Nat.{ℕ, zero, suc, _+_, _-_, _*_, _%_, _^_, _≤_, _<_}
+use Prim.Native.Nat.{ℕ, zero, suc, _+_, _-_, _%_, _^_, _≤_, _<_}
 use native.Mathlib.Omega.{arith}
 use mathlib.Core.Bool.{true, false, true≢false}
 use mathlib.Core.Logic.{_⊎_, inl, inr}
 use mathlib.Core.Path.{_≡_, refl, sym, _∙_, ap, subst}
 use mathlib.Core.List.{List, [], _∷_, _++_, append-assoc, append-nil}
-use lib.Dec.{eqb, leb}
+use lib.Dec.{eqb}
 use lib.ListN.{length, take, getD, set, length-set, length-append}
 use lib.Seq.{getD-set-same, getD-set-other}
 use borrow.Author.Tests.{le-leb, lt-leb, ne-eqb}
@@ -27,8 +27,7 @@ use Rattle.packed.proofs.Turns.{Ready, refused-step, has-room, step-accepts, ac
 use Rattle.short_lists_text.specs.Text.{eventText, listLine, countLine}
 use Rattle.list_search.specs.declared.Level.{Level}
 use Rattle.list_search.specs.declared.Search.{Search}
-use Rattle.list_search.specs.declared.Piece.{Piece}
-use Rattle.list_search.specs.Stack.{Frame, frame, passed, sizeOf, eventAt, path, left, leftText, turnsLeft}
+use Rattle.list_search.specs.Stack.{Frame, frame, sizeOf, eventAt, path, left, leftText, turnsLeft}
 use Rattle.list_search.specs.Line.{beginning}
 use Rattle.list_search.specs.Search.{noLevel, frameOf, framesOf, textLeft, SoundLevel, SoundBelow, Going, Gave}
 use Rattle.list_search.proofs.Stack.{text-same, text-over, text-given, left-none, gone, passed-by, gone-up, gave-one, path-passed}

@@ -1,8 +1,6 @@
 -- A few texts in full, and every refused form of input.
-use Prim.Native.Nat.{ℕ}
 use mathlib.Core.Path.{_≡_}
-use mathlib.Core.List.{List, [], _∷_}
-use Rattle.model.specs.declared.Event.{Event}
+use mathlib.Core.List.{[], _∷_}
 use Rattle.model.specs.declared.Event.the-variants.{Crash, Recover, Check, Timeout, Tick, Expire, Finish, Deliver, Lose}
 use Rattle.listing.specs.Ascii.{bytes}
 use Rattle.short_lists_text.specs.Lists.{onlyTask}

@@ -9,7 +9,6 @@ use Rattle.model.specs.Pick.{pick}
 use Rattle.model.specs.State.{State}
 use Rattle.model.specs.Step.{Result, refused, accepted, step, after}
 use Rattle.model.specs.declared.TaskNo.{TaskNo}
-use Rattle.model.specs.declared.Mark.{Mark}
 use Rattle.model.specs.declared.Event.{Event}
 use Rattle.model.specs.declared.Event.the-variants.{Crash, Recover, Check, Timeout, Tick, Expire, Finish, Deliver, Lose}
 use Rattle.short_lists_text.specs.Rows.{All, each, rows}

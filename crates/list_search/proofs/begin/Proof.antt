@@ -1,7 +1,6 @@
 -- `list_search::begin` meets its contract.
 use borrow.Author.Needs.{needs}
 use borrow.Author.Tests.{not-true, not-false}
-use native.Mathlib.Omega.{arith}
 use mathlib.Core.Path.{sym, _∙_}
 use Rattle.list_search.proofs.Ends.{begun-refused, begun-fits, two-bytes, fits-are}
 use Rattle.list_search.proofs.begin.Statement.{statement}

@@ -4,7 +4,6 @@ use borrow.Author.Tests.{not-true, not-false}
 use native.Mathlib.Omega.{arith}
 use mathlib.Core.Path.{_≡_, refl, sym, _∙_}
 use Rattle.packed.proofs.Turns.{few, rulable}
-use Rattle.list_search.specs.declared.Level.{Level}
 use Rattle.list_search.specs.Stack.{sizeOf}
 use Rattle.list_search.specs.Search.{textLeft}
 use Rattle.list_search.proofs.Loop.{Kept, turnsOf, ready, top-place, loop-starts, gave-last, short-line, ends, down, down-less, turned-down, turned-less, room-for, count-one, listed, listed-less, listed-more, raised, raised-less}

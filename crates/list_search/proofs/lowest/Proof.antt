@@ -1,6 +1,6 @@
 -- `list_search::lowest` meets its contract: no message waits, so the words do not matter.
 use borrow.Author.Needs.{needs}
-use mathlib.Core.Path.{_≡_, refl, _∙_, ap}
+use mathlib.Core.Path.{refl, ap}
 use lib.ListN.{length}
 use Rattle.model.specs.declared.Table.{Table}
 use Rattle.list_search.proofs.Ends.{lowest-state}

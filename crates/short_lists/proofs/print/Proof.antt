@@ -1,9 +1,8 @@
 -- `short_lists::print` is safe and ends: the search can be called again, and each piece leaves less of the text.
 use borrow.Author.Needs.{needs}
-use native.Mathlib.Omega.{arith}
 use lib.ListN.{length}
 use lib.Seq.{length-take-le}
-use mathlib.Core.Path.{_≡_, sym}
+use mathlib.Core.Path.{sym}
 use Rattle.list_search.specs.Search.{Sound, textLeft}
 use Rattle.list_search.proofs.Ends.{less-left}
 use Rattle.short_lists.proofs.print.Statement.{statement}

@@ -2,7 +2,7 @@
 use Prim.Native.Nat.{_+_, _*_}
 use borrow.Author.Needs.{needs}
 use native.Mathlib.Omega.{arith}
-use mathlib.Core.Path.{_≡_, sym, _∙_, ap}
+use mathlib.Core.Path.{sym, _∙_, ap}
 use Rattle.list_search.proofs.Events.{by-place}
 use Rattle.list_search.proofs.alphabet.event_count.Statement.{statement}
 use Rattle.list_search.proofs.alphabet.event_count.Tie as tie

@@ -1,8 +1,6 @@
 -- Of the three numbers of nodes.
-use Prim.Native.Nat.{ℕ, _≤_}
 use native.Mathlib.Omega.{arith}
-use mathlib.Core.Path.{_≡_, refl, ap}
-use Rattle.list_search.specs.Events.{pairCount}
+use mathlib.Core.Path.{_≡_, refl}
 use Rattle.list_search.proofs.alphabet.pair_count.Statement.{statement}
 use Rattle.list_search.proofs.alphabet.pair_count.Tie as tie
 
