@@ -25,7 +25,7 @@ use Rattle.short_lists_text.specs.Text.{countLine, fits, textOf}
 use Rattle.short_lists_text.proofs.Few.{few-lists}
 use Rattle.list_search.specs.declared.Search.{Search}
 use Rattle.list_search.specs.declared.Piece.{Piece}
-use Rattle.list_search.specs.Stack.{Frame, frame, path, left, leftText}
+use Rattle.list_search.specs.Stack.{Frame, frame, path, left, stackText}
 use Rattle.list_search.specs.Line.{beginning}
 use Rattle.list_search.specs.Search.{noLevel, frameOf, framesOf, stackOf, missing, textLeft, SoundLevel, Going, Sound, First, Begun, Gave, Call, writtenBy, Calls, searchAfter, PiecesMakeText}
 use Rattle.list_search.proofs.Stack.{all-left, whole-text, left-given, left-none, text-given, text-over}
@@ -97,7 +97,7 @@ module _ (n k : ℕ) (s : Search) (f : First n k s) where
     pub first-sound : Sound s
     first-sound = let z : s .height - 1 ≡ 0 = let a = f .height in omega (arith, a) in inr (subst (Going s) (sym z) going-is)
 
-    pub first-text : textLeft s ≡ leftText 0 k (frame (start n) 0 ∷ [])
+    pub first-text : textLeft s ≡ stackText 0 k (frame (start n) 0 ∷ [])
     unfolding textLeft
     first-text =
         let z : eqb (s .n) 0 ≡ false = let a = f .nodes in ne-eqb (s .n) 0 (λ q. absurd (omega (arith, a, low, q))) in
@@ -150,7 +150,7 @@ module _ (s : Search) (h : ℕ) (c : Going s h) (z : s .length ≡ 0) where
   pub empty-text : textLeft s ≡ bytes "\n" ++ countLine (s .given + 1)
   empty-text =
       text-of s h c ∙ text-given (s .given) (s .length - h) 1 (top ∷ framesOf (s .n) (s .levels) h) [] [] (one-left ∙ ap (λ l. [] ∷ l) (sym (left-none 1)))
-      ∙ ap (λ l. l ++ leftText (s .given + 1) 1 []) line-empty ∙ ap (λ l. bytes "\n" ++ l) (text-over (s .given + 1) 1 [] (left-none 1))
+      ∙ ap (λ l. l ++ stackText (s .given + 1) 1 []) line-empty ∙ ap (λ l. bytes "\n" ++ l) (text-over (s .given + 1) 1 [] (left-none 1))
 
   pub empty-count : s .given + 1 < 2 ^ 32
   unfolding framesOf

@@ -27,7 +27,7 @@ use Rattle.packed.proofs.Turns.{Ready, refused-step, has-room, step-accepts, ac
 use Rattle.short_lists_text.specs.Text.{eventText, listLine, countLine}
 use Rattle.list_search.specs.declared.Level.{Level}
 use Rattle.list_search.specs.declared.Search.{Search}
-use Rattle.list_search.specs.Stack.{Frame, frame, sizeOf, eventAt, path, left, leftText, turnsLeft}
+use Rattle.list_search.specs.Stack.{Frame, frame, sizeOf, eventAt, path, left, stackText, turnsLeft}
 use Rattle.list_search.specs.Line.{beginning}
 use Rattle.list_search.specs.Search.{noLevel, frameOf, framesOf, textLeft, SoundLevel, SoundBelow, Going, Gave}
 use Rattle.list_search.proofs.Stack.{text-same, text-over, text-given, left-none, gone, passed-by, gone-up, gave-one, path-passed}
@@ -68,7 +68,7 @@ pub record Kept (x o : List ℕ) (n len : ℕ) (ls : List Level) (h : ℕ) (t : 
   pub count : g + length (left (len - h) (frameOf n t ∷ framesOf n ls h)) < 2 ^ 32
   pub size : length o ≡ 65536
   pub space : at ≤ 65408
-  pub text : x ≡ take at o ++ leftText g (len - h) (frameOf n t ∷ framesOf n ls h)
+  pub text : x ≡ take at o ++ stackText g (len - h) (frameOf n t ∷ framesOf n ls h)
 
 abbrev pub turnsOf : ℕ → ℕ → List Level → ℕ → Level → ℕ
 turnsOf n len ls h t = turnsLeft (len - h) (frameOf n t ∷ framesOf n ls h)
@@ -186,11 +186,11 @@ module _ {x o : List ℕ} {n len : ℕ} {ls : List Level} {g at : ℕ} where
           written-line : take r o′ ≡ take at o ++ listLine (path fs ++ (e ∷ []))
           written-line = w .text ∙ ap (λ y. take at o ++ y) (ap (λ y. y ++ (eventText e ++ bytes "\n")) (k .top .line) ∙ sym (line-ends (path fs) e))
 
-          given-text : x ≡ take r o′ ++ leftText (g + 1) (len - h) (frameOf n (onward t) ∷ fs)
+          given-text : x ≡ take r o′ ++ stackText (g + 1) (len - h) (frameOf n (onward t) ∷ fs)
           given-text =
               k .text ∙ ap (λ y. take at o ++ y) (text-given g _ _ _ _ _ given-one)
               ∙ sym (append-assoc (take at o) (listLine (path fs ++ (e ∷ []))) _)
-              ∙ ap (λ y. y ++ leftText (g + 1) (len - h) (frameOf n (onward t) ∷ fs)) (sym written-line)
+              ∙ ap (λ y. y ++ stackText (g + 1) (len - h) (frameOf n (onward t) ∷ fs)) (sym written-line)
 
           given-kept : r ≤ 65408 → Kept x o′ n len ls h (onward t) (g + 1) r
           given-kept y = record {
@@ -271,7 +271,7 @@ module _ {x o : List ℕ} {n len : ℕ} {ls : List Level} {g at : ℕ} where
 -- ── the search before the loop and after it ──
 
 -- the text of a search that goes on, by its topmost level
-pub text-of : (s : Search) (h : ℕ) → Going s h → textLeft s ≡ leftText (s .given) (s .length - h) (frameOf (s .n) (getD (s .levels) h noLevel) ∷ framesOf (s .n) (s .levels) h)
+pub text-of : (s : Search) (h : ℕ) → Going s h → textLeft s ≡ stackText (s .given) (s .length - h) (frameOf (s .n) (getD (s .levels) h noLevel) ∷ framesOf (s .n) (s .levels) h)
 unfolding textLeft framesOf
 text-of s h c =
     let z : eqb (s .n) 0 ≡ false = ne-eqb (s .n) 0 (λ q. absurd (omega (arith, c .some, q))) in

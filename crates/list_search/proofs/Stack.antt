@@ -19,9 +19,9 @@ use Rattle.listing.specs.Printing.{joined}
 use Rattle.short_lists_text.specs.Rows.{each}
 use Rattle.short_lists_text.specs.Lists.{alphabet, listsFrom}
 use Rattle.short_lists_text.specs.Text.{listLine, countLine, fits, textOf}
-use Rattle.list_search.specs.Stack.{Frame, frame, passed, sizeOf, eventAt, path, onFrame, left, leftText, turnsFor, turnsFrom, turnsOn, turnsLeft}
+use Rattle.list_search.specs.Stack.{Frame, frame, passed, sizeOf, eventAt, path, onFrame, left, stackText, turnsFor, turnsFrom, turnsOn, turnsLeft}
 
--- ── rows ──
+-- ── concatMap ──
 
 each-append : {A B : Type 0} (f : A → B) (xs ys : List A) → each f (xs ++ ys) ≡ each f xs ++ each f ys
 each-append f [] ys = refl
@@ -94,16 +94,16 @@ left-given f fs = rw (append-nil (path fs))
 
 -- ── the text ──
 
-pub text-same : (g r r′ : ℕ) (fs fs′ : List Frame) → left r fs ≡ left r′ fs′ → leftText g r fs ≡ leftText g r′ fs′
-unfolding leftText
+pub text-same : (g r r′ : ℕ) (fs fs′ : List Frame) → left r fs ≡ left r′ fs′ → stackText g r fs ≡ stackText g r′ fs′
+unfolding stackText
 text-same g r r′ fs fs′ q = rw q
 
-pub text-over : (g r : ℕ) (fs : List Frame) → left r fs ≡ [] → leftText g r fs ≡ countLine g
-unfolding leftText joined
+pub text-over : (g r : ℕ) (fs : List Frame) → left r fs ≡ [] → stackText g r fs ≡ countLine g
+unfolding stackText joined
 text-over g r fs q = let z : g + 0 ≡ g = omega arith in rw (q, append-nil, z)
 
-pub text-given : (g r r′ : ℕ) (fs fs′ : List Frame) (l : List Event) → left r fs ≡ l ∷ left r′ fs′ → leftText g r fs ≡ listLine l ++ leftText (g + 1) r′ fs′
-unfolding leftText joined
+pub text-given : (g r r′ : ℕ) (fs fs′ : List Frame) (l : List Event) → left r fs ≡ l ∷ left r′ fs′ → stackText g r fs ≡ listLine l ++ stackText (g + 1) r′ fs′
+unfolding stackText joined
 text-given g r r′ fs fs′ l q = let z : g + suc (length (left r′ fs′)) ≡ g + 1 + length (left r′ fs′) = omega arith in rw (q, z)
 
 -- ── how many turns are left ──
@@ -131,8 +131,8 @@ pub all-left : (r : ℕ) (s : State) → left r (frame s 0 ∷ []) ≡ listsFrom
 unfolding left path
 all-left r s = rw (fresh-frame r s, append-nil) (each-same (listsFrom r s))
 
-pub whole-text : (l : List ℕ) → fits l ≡ true → textOf l ≡ leftText 0 (getD l 1 0) (frame (start (getD l 0 0)) 0 ∷ [])
-unfolding textOf leftText
+pub whole-text : (l : List ℕ) → fits l ≡ true → textOf l ≡ stackText 0 (getD l 1 0) (frame (start (getD l 0 0)) 0 ∷ [])
+unfolding textOf stackText
 whole-text l q =
     let ls = listsFrom (getD l 1 0) (start (getD l 0 0)) in
     let z : 0 + length ls ≡ length ls = omega arith in

@@ -15,7 +15,7 @@ use Rattle.short_lists_text.specs.Text.{textOf}
 use Rattle.list_search.specs.declared.Level.{Level}
 use Rattle.list_search.specs.declared.Search.{Search}
 use Rattle.list_search.specs.declared.Piece.{Piece}
-use Rattle.list_search.specs.Stack.{Frame, frame, sizeOf, path, left, leftText}
+use Rattle.list_search.specs.Stack.{Frame, frame, sizeOf, path, left, stackText}
 use Rattle.list_search.specs.Line.{beginning}
 
 -- ── the stack of a search ──
@@ -42,7 +42,7 @@ missing s = s .length + 1 - s .height
 
 -- the text that a search still gives; 0 nodes stand for an input that is refused
 unfoldable pub textLeft : Search → List ℕ
-textLeft s = pick (eqb (s .n) 0) (stoppedLine 0 16) (leftText (s .given) (missing s) (stackOf s))
+textLeft s = pick (eqb (s .n) 0) (stoppedLine 0 16) (stackText (s .given) (missing s) (stackOf s))
 
 -- ── what is so of every search that is given ──
 

@@ -7,7 +7,7 @@ use Rattle.model.specs.Step.{step}
 use Rattle.model.specs.declared.Event.{Event}
 use Rattle.model.specs.declared.Event.the-variants.{Crash}
 use Rattle.listing.specs.Printing.{joined}
-use Rattle.short_lists_text.specs.Rows.{each, rows}
+use Rattle.short_lists_text.specs.Rows.{each, concatMap}
 use Rattle.short_lists_text.specs.Lists.{alphabet, continued, listsFrom}
 use Rattle.short_lists_text.specs.Text.{listLine, countLine}
 
@@ -41,7 +41,7 @@ path (f ∷ fs) = path fs ++ (eventAt (f .state .n) (f .tried - 1) ∷ [])
 -- lists of r events from a frame: those whose first event was not tried yet
 unfoldable pub onFrame : ℕ → Frame → List (List Event)
 onFrame zero f = [] ∷ []
-onFrame (suc r) f = rows (λ e. continued e (step (f .state) e) (listsFrom r)) (drop (f .tried) (alphabet (f .state .n)))
+onFrame (suc r) f = concatMap (λ e. continued e (step (f .state) e) (listsFrom r)) (drop (f .tried) (alphabet (f .state .n)))
 
 -- the lists that a stack still gives, where r events are missing behind its top
 unfoldable pub left : ℕ → List Frame → List (List Event)
@@ -49,8 +49,8 @@ left r [] = []
 left r (f ∷ fs) = each (λ l. path fs ++ l) (onFrame r f) ++ left (suc r) fs
 
 -- the text that it still gives, where g lists were given before
-unfoldable pub leftText : ℕ → ℕ → List Frame → List ℕ
-leftText g r fs = joined (each listLine (left r fs) ++ (countLine (g + length (left r fs)) ∷ []))
+unfoldable pub stackText : ℕ → ℕ → List Frame → List ℕ
+stackText g r fs = joined (each listLine (left r fs) ++ (countLine (g + length (left r fs)) ∷ []))
 
 -- ── how many turns are enough ──
 

@@ -6,7 +6,7 @@ use Rattle.model.specs.Procedures.{inviteNext, merges, handNext, finishes, forw
 use Rattle.model.specs.React.{checked, timedOut, ticked, expired, resumed, onAreYouCoordinator, onAreYouThere, onInvitation, onAccept, onReady, onReply, received, react}
 use Rattle.model.specs.Range.{activityInRange, nodeInRange, messageInRange}
 use Rattle.model.specs.State.{waits, oldest, withoutOldest, every, inRange}
-use Rattle.model.specs.Step.{reactionTo, remaining, effect, grounds, judged, step}
+use Rattle.model.specs.Step.{reactionTo, remaining, effect, grounds, judged, step, runFrom}
 use Rattle.listing.specs.Decimal.{digits, decimal}
 use Rattle.listing.specs.Lines.{row, stoppedLine}
 use Rattle.listing.specs.Printing.{joined}
@@ -15,14 +15,22 @@ use Rattle.short_lists_text.specs.Text.{nameOf, spaced, eventText, moreT
 use Rattle.short_lists_text.specs.Cases.{TextCases}
 
 pub text-cases : TextCases
-unfolding pick onesIn ones leadingZeros trailingZeros inviteNext merges handNext finishes forwardNext askedAll askAt askAfter checked timedOut ticked expired resumed onAreYouCoordinator onAreYouThere onInvitation onAccept onReady onReply received react activityInRange nodeInRange messageInRange waits oldest withoutOldest every inRange reactionTo remaining effect grounds judged step digits decimal row stoppedLine joined upFrom without pairsOf alphabet listsFrom nameOf spaced eventText moreText eventsText listLine countLine fits textOf
+unfolding pick onesIn ones leadingZeros trailingZeros inviteNext merges handNext finishes forwardNext askedAll askAt askAfter checked timedOut ticked expired resumed onAreYouCoordinator onAreYouThere onInvitation onAccept onReady onReply received react activityInRange nodeInRange messageInRange waits oldest withoutOldest every inRange reactionTo remaining effect grounds judged step runFrom digits decimal row stoppedLine joined upFrom without pairsOf alphabet listsFrom nameOf spaced eventText moreText eventsText listLine countLine fits textOf
 text-cases =
     record {
-      none = refl;
+      empty-list = refl;
+      line-end = refl;
       one = refl;
       two = refl;
       two-of-two = refl;
+      four = refl;
+      events = refl;
       words = refl;
+      pairs = refl;
+      finish = refl;
+      tick = refl;
+      most = refl;
+      least = refl;
       no-bytes = refl;
       one-byte = refl;
       three-bytes = refl;

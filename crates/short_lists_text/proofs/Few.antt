@@ -16,7 +16,7 @@ use Rattle.model.specs.declared.Mark.{Mark}
 use Rattle.model.specs.declared.Event.{Event}
 use Rattle.model.specs.declared.Event.the-variants.{Recover}
 use Rattle.model.proofs.Judged.{accepted-is}
-use Rattle.short_lists_text.specs.Rows.{each, rows}
+use Rattle.short_lists_text.specs.Rows.{each, concatMap}
 use Rattle.short_lists_text.specs.Lists.{upFrom, nodesOf, without, pairsOf, alphabet, continued, listsFrom}
 use Rattle.short_lists_text.specs.Claims.{FewLists}
 
@@ -26,7 +26,7 @@ pub each-long : {A B : Type 0} (f : A → B) (xs : List A) → length (each f xs
 each-long f [] = refl
 each-long f (x ∷ xs) = ap suc (each-long f xs)
 
-rows-long : {A B : Type 0} (f : A → List B) (b : ℕ) → ((x : A) → length (f x) ≤ b) → (xs : List A) → length (rows f xs) ≤ length xs * b
+rows-long : {A B : Type 0} (f : A → List B) (b : ℕ) → ((x : A) → length (f x) ≤ b) → (xs : List A) → length (concatMap f xs) ≤ length xs * b
 rows-long f b h [] = omega arith
 rows-long f b h (x ∷ xs) = let r = rows-long f b h xs in let q = h x in simp length-append (omega arith)
 
@@ -64,7 +64,7 @@ module _ (later : State → List (List Event)) where
   abbrev recovered : ℕ → ℕ → List (List Event)
   recovered n i = each (λ l. Recover i ∷ l) (later (effect (start n) (Recover i)))
 
-  first-events : (n : ℕ) → 1 ≤ n → n ≤ 3 → rows (λ e. continued e (step (start n) e) later) (alphabet n) ≡ rows (recovered n) (nodesOf n)
+  first-events : (n : ℕ) → 1 ≤ n → n ≤ 3 → concatMap (λ e. continued e (step (start n) e) later) (alphabet n) ≡ concatMap (recovered n) (nodesOf n)
   unfolding pick onesIn ones leadingZeros trailingZeros inviteNext merges handNext finishes forwardNext askedAll askAt askAfter checked timedOut ticked expired resumed onAreYouCoordinator onAreYouThere onInvitation onAccept onReady onReply received react activityInRange nodeInRange messageInRange waits oldest withoutOldest every inRange reactionTo remaining effect grounds judged step upFrom without pairsOf alphabet
   first-events zero p q = absurd (omega arith)
   first-events (suc zero) p q = refl

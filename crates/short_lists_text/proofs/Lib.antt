@@ -7,3 +7,5 @@ pub mod Counts
 pub mod Bytes
 pub mod Lines
 pub mod Cases
+pub mod Refuses
+pub mod Decides

@@ -19,7 +19,7 @@ use Rattle.listing.proofs.Decimal.{decimal-each}
 use Rattle.listing.proofs.Parted.{Each, Stops, each-append, each-map, each-at, parted, Inside, IsLine, joined-same}
 use Rattle.listing.proofs.Claims.{decimal-same}
 use Rattle.short_lists_text.specs.Rows.{Among, All, Ascending, each}
-use Rattle.short_lists_text.specs.Order.{ListBelow}
+use Rattle.short_lists_text.specs.Order.{ListBefore}
 use Rattle.short_lists_text.specs.Lists.{listsFrom, AcceptedFrom}
 use Rattle.short_lists_text.specs.Text.{nameOf, numbersOf, spaced, eventText, moreText, eventsText, listLine, countLine, linesOf}
 use Rattle.short_lists_text.specs.Claims.{FitsBytes, SmallNumbers, ListLinesDetermine}
@@ -204,19 +204,19 @@ record LineBelow (x y : List ℕ) : Type 0 where
   pub upper-small : All SmallNumbers upper
   pub lower-line : x ≡ listLine lower
   pub upper-line : y ≡ listLine upper
-  pub below : ListBelow lower upper
+  pub below : ListBefore lower upper
 
 line-never : (x : List ℕ) → LineBelow x x → ⊥
 line-never x b =
     let q = line-same (b .lower) (b .upper) (b .lower-small) (b .upper-small) (sym (b .lower-line) ∙ b .upper-line) in
-    strict-order .never-itself (b .upper) (subst (λ l. ListBelow l (b .upper)) q (b .below))
+    strict-order .never-itself (b .upper) (subst (λ l. ListBefore l (b .upper)) q (b .below))
 
-lines-above : (l : List Event) (ms : List (List Event)) → All SmallNumbers l → All (All SmallNumbers) ms → All (ListBelow l) ms → All (LineBelow (listLine l)) (each listLine ms)
+lines-above : (l : List Event) (ms : List (List Event)) → All SmallNumbers l → All (All SmallNumbers) ms → All (ListBefore l) ms → All (LineBelow (listLine l)) (each listLine ms)
 lines-above l [] a b c = tt
 lines-above l (m ∷ ms) a b c =
     (record { lower = l; upper = m; lower-small = a; upper-small = b .0; lower-line = refl; upper-line = refl; below = c .0 }, lines-above l ms a (b .1) (c .1))
 
-lines-ascend : (ls : List (List Event)) → All (All SmallNumbers) ls → Ascending ListBelow ls → Ascending LineBelow (each listLine ls)
+lines-ascend : (ls : List (List Event)) → All (All SmallNumbers) ls → Ascending ListBefore ls → Ascending LineBelow (each listLine ls)
 lines-ascend [] a b = tt
 lines-ascend (l ∷ ls) a b = (lines-above l ls (a .0) (a .1) (b .0), lines-ascend ls (a .1) (b .1))
 

@@ -13,43 +13,43 @@ use Rattle.model.specs.declared.Event.{Event}
 use Rattle.model.specs.declared.Event.the-variants.{Crash, Recover, Check, Timeout, Tick, Expire, Finish, Deliver, Lose}
 use Rattle.event_list.specs.Format.{eventOf}
 use Rattle.short_lists_text.specs.Rows.{All, Ascending, each}
-use Rattle.short_lists_text.specs.Order.{tag, contents, BytesBelow, Below, ListBelow}
+use Rattle.short_lists_text.specs.Order.{tag, contents, BytesBefore, Before, ListBefore}
 use Rattle.short_lists_text.specs.Lists.{onlyTask, upFrom, nodesOf, without, pairsOf, alphabet}
 use Rattle.short_lists_text.specs.Claims.{StrictOrder}
 use Rattle.short_lists_text.proofs.Rows.{all-weaken, all-append, each-by, rows-by, ascending-append, ascending-each, ascending-rows}
 
 -- ── strict ──
 
-bytes-never : (xs : List ℕ) → BytesBelow xs xs → ⊥
+bytes-never : (xs : List ℕ) → BytesBefore xs xs → ⊥
 bytes-never (x ∷ xs) (inl h) = omega arith
 bytes-never (x ∷ xs) (inr h) = bytes-never xs (h .1)
 
-event-never : (e : Event) → Below e e → ⊥
+pub event-never : (e : Event) → Before e e → ⊥
 event-never e (inl h) = omega arith
 event-never e (inr h) = bytes-never (contents e) (h .1)
 
-list-never : (l : List Event) → ListBelow l l → ⊥
+list-never : (l : List Event) → ListBefore l l → ⊥
 list-never (e ∷ es) (inl h) = event-never e h
 list-never (e ∷ es) (inr h) = list-never es (h .1)
 
-bytes-on : (xs ys zs : List ℕ) → BytesBelow xs ys → BytesBelow ys zs → BytesBelow xs zs
+bytes-on : (xs ys zs : List ℕ) → BytesBefore xs ys → BytesBefore ys zs → BytesBefore xs zs
 bytes-on [] (y ∷ ys) (z ∷ zs) a b = tt
 bytes-on (x ∷ xs) (y ∷ ys) (z ∷ zs) (inl a) (inl b) = inl (omega arith)
 bytes-on (x ∷ xs) (y ∷ ys) (z ∷ zs) (inl a) (inr b) = let q = b .0 in inl (omega arith)
 bytes-on (x ∷ xs) (y ∷ ys) (z ∷ zs) (inr a) (inl b) = let q = a .0 in inl (omega arith)
 bytes-on (x ∷ xs) (y ∷ ys) (z ∷ zs) (inr a) (inr b) = inr (a .0 ∙ b .0, bytes-on xs ys zs (a .1) (b .1))
 
-event-on : (e f g : Event) → Below e f → Below f g → Below e g
+event-on : (e f g : Event) → Before e f → Before f g → Before e g
 event-on e f g (inl a) (inl b) = inl (omega arith)
 event-on e f g (inl a) (inr b) = let q = b .0 in inl (omega arith)
 event-on e f g (inr a) (inl b) = let q = a .0 in inl (omega arith)
 event-on e f g (inr a) (inr b) = inr (a .0 ∙ b .0, bytes-on (contents e) (contents f) (contents g) (a .1) (b .1))
 
-list-on : (l m r : List Event) → ListBelow l m → ListBelow m r → ListBelow l r
+list-on : (l m r : List Event) → ListBefore l m → ListBefore m r → ListBefore l r
 list-on [] (f ∷ m) (g ∷ r) a b = tt
 list-on (e ∷ l) (f ∷ m) (g ∷ r) (inl a) (inl b) = inl (event-on e f g a b)
-list-on (e ∷ l) (f ∷ m) (g ∷ r) (inl a) (inr b) = inl (subst (λ x. Below e x) (b .0) a)
-list-on (e ∷ l) (f ∷ m) (g ∷ r) (inr a) (inl b) = inl (subst (λ x. Below x g) (sym (a .0)) b)
+list-on (e ∷ l) (f ∷ m) (g ∷ r) (inl a) (inr b) = inl (subst (λ x. Before e x) (b .0) a)
+list-on (e ∷ l) (f ∷ m) (g ∷ r) (inr a) (inl b) = inl (subst (λ x. Before x g) (sym (a .0)) b)
 list-on (e ∷ l) (f ∷ m) (g ∷ r) (inr a) (inr b) = inr (a .0 ∙ b .0, list-on l m r (a .1) (b .1))
 
 numbers-compare : (x y : ℕ) → (x < y) ⊎ ((x ≡ y) ⊎ (y < x))
@@ -60,13 +60,13 @@ numbers-compare x y = by (ltb x y) (eqb x y) refl refl
     by false true p q = inr (inl (eqb-true x y q))
     by false false p q = let a = ltb-false x y p in let b = eqb-false x y q in inr (inr (omega arith))
 
-bytes-compare : (xs ys : List ℕ) → BytesBelow xs ys ⊎ ((xs ≡ ys) ⊎ BytesBelow ys xs)
+bytes-compare : (xs ys : List ℕ) → BytesBefore xs ys ⊎ ((xs ≡ ys) ⊎ BytesBefore ys xs)
 bytes-compare [] [] = inr (inl refl)
 bytes-compare [] (y ∷ ys) = inl tt
 bytes-compare (x ∷ xs) [] = inr (inr tt)
 bytes-compare (x ∷ xs) (y ∷ ys) = by (numbers-compare x y) (bytes-compare xs ys)
   where
-    by : (x < y) ⊎ ((x ≡ y) ⊎ (y < x)) → BytesBelow xs ys ⊎ ((xs ≡ ys) ⊎ BytesBelow ys xs) → BytesBelow (x ∷ xs) (y ∷ ys) ⊎ (((x ∷ xs) ≡ (y ∷ ys)) ⊎ BytesBelow (y ∷ ys) (x ∷ xs))
+    by : (x < y) ⊎ ((x ≡ y) ⊎ (y < x)) → BytesBefore xs ys ⊎ ((xs ≡ ys) ⊎ BytesBefore ys xs) → BytesBefore (x ∷ xs) (y ∷ ys) ⊎ (((x ∷ xs) ≡ (y ∷ ys)) ⊎ BytesBefore (y ∷ ys) (x ∷ xs))
     by (inl a) b = inl (inl a)
     by (inr (inr a)) b = inr (inr (inl a))
     by (inr (inl a)) (inl b) = inl (inr (a, b))
@@ -89,23 +89,23 @@ read (Lose a b) = refl
 same-event : (e f : Event) → tag e ≡ tag f → contents e ≡ contents f → e ≡ f
 same-event e f p q = sym (read e) ∙ (ap (λ t. eventOf t (contents e)) p ∙ (ap (λ c. eventOf (tag f) c) q ∙ read f))
 
-event-compare : (e f : Event) → Below e f ⊎ ((e ≡ f) ⊎ Below f e)
+event-compare : (e f : Event) → Before e f ⊎ ((e ≡ f) ⊎ Before f e)
 event-compare e f = by (numbers-compare (tag e) (tag f)) (bytes-compare (contents e) (contents f))
   where
-    by : (tag e < tag f) ⊎ ((tag e ≡ tag f) ⊎ (tag f < tag e)) → BytesBelow (contents e) (contents f) ⊎ ((contents e ≡ contents f) ⊎ BytesBelow (contents f) (contents e)) → Below e f ⊎ ((e ≡ f) ⊎ Below f e)
+    by : (tag e < tag f) ⊎ ((tag e ≡ tag f) ⊎ (tag f < tag e)) → BytesBefore (contents e) (contents f) ⊎ ((contents e ≡ contents f) ⊎ BytesBefore (contents f) (contents e)) → Before e f ⊎ ((e ≡ f) ⊎ Before f e)
     by (inl a) b = inl (inl a)
     by (inr (inr a)) b = inr (inr (inl a))
     by (inr (inl a)) (inl b) = inl (inr (a, b))
     by (inr (inl a)) (inr (inl b)) = inr (inl (same-event e f a b))
     by (inr (inl a)) (inr (inr b)) = inr (inr (inr (sym a, b)))
 
-list-compare : (l m : List Event) → ListBelow l m ⊎ ((l ≡ m) ⊎ ListBelow m l)
+list-compare : (l m : List Event) → ListBefore l m ⊎ ((l ≡ m) ⊎ ListBefore m l)
 list-compare [] [] = inr (inl refl)
 list-compare [] (f ∷ m) = inl tt
 list-compare (e ∷ l) [] = inr (inr tt)
 list-compare (e ∷ l) (f ∷ m) = by (event-compare e f) (list-compare l m)
   where
-    by : Below e f ⊎ ((e ≡ f) ⊎ Below f e) → ListBelow l m ⊎ ((l ≡ m) ⊎ ListBelow m l) → ListBelow (e ∷ l) (f ∷ m) ⊎ (((e ∷ l) ≡ (f ∷ m)) ⊎ ListBelow (f ∷ m) (e ∷ l))
+    by : Before e f ⊎ ((e ≡ f) ⊎ Before f e) → ListBefore l m ⊎ ((l ≡ m) ⊎ ListBefore m l) → ListBefore (e ∷ l) (f ∷ m) ⊎ (((e ∷ l) ≡ (f ∷ m)) ⊎ ListBefore (f ∷ m) (e ∷ l))
     by (inl a) b = inl (inl a)
     by (inr (inr a)) b = inr (inr (inl a))
     by (inr (inl a)) (inl b) = inl (inr (a, b))
@@ -140,23 +140,23 @@ without-ascends i (j ∷ js) a = by-test (Ascending _<_) (λ _. without-ascends 
 -- ── the events of one tag ──
 
 pub record Block (t : ℕ) (es : List Event) : Type 0 where
-  pub ascends : Ascending Below es
+  pub ascends : Ascending Before es
   pub tags : All (λ e. tag e ≡ t) es
 
-single : (t n : ℕ) (f : ℕ → Event) → ((i j : ℕ) → i < j → Below (f i) (f j)) → ((i : ℕ) → tag (f i) ≡ t) → Block t (each f (nodesOf n))
+single : (t n : ℕ) (f : ℕ → Event) → ((i j : ℕ) → i < j → Before (f i) (f j)) → ((i : ℕ) → tag (f i) ≡ t) → Block t (each f (nodesOf n))
 single t n f g h = record {
-  ascends = ascending-each _<_ Below f (nodesOf n) g (numbers-ascend 1 n);
+  ascends = ascending-each _<_ Before f (nodesOf n) g (numbers-ascend 1 n);
   tags = each-by (λ e. tag e ≡ t) f (nodesOf n) h;
 }
 
-double : (t n : ℕ) (f : ℕ → ℕ → Event) → ((a b i j : ℕ) → a < b → Below (f a i) (f b j)) → ((a i j : ℕ) → i < j → Below (f a i) (f a j))
+double : (t n : ℕ) (f : ℕ → ℕ → Event) → ((a b i j : ℕ) → a < b → Before (f a i) (f b j)) → ((a i j : ℕ) → i < j → Before (f a i) (f a j))
     → ((i j : ℕ) → tag (f i j) ≡ t) → Block t (pairsOf f n)
 unfolding pairsOf
 double t n f g h k = record {
-  ascends = ascending-rows _<_ Below (λ a. each (f a) (without a (nodesOf n)))
-      (λ a. ascending-each _<_ Below (f a) (without a (nodesOf n)) (h a) (without-ascends a (nodesOf n) (numbers-ascend 1 n)))
-      (λ a b r. each-by (λ u. All (Below u) (each (f b) (without b (nodesOf n)))) (f a) (without a (nodesOf n))
-      (λ i. each-by (Below (f a i)) (f b) (without b (nodesOf n)) (λ j. g a b i j r)))
+  ascends = ascending-rows _<_ Before (λ a. each (f a) (without a (nodesOf n)))
+      (λ a. ascending-each _<_ Before (f a) (without a (nodesOf n)) (h a) (without-ascends a (nodesOf n) (numbers-ascend 1 n)))
+      (λ a b r. each-by (λ u. All (Before u) (each (f b) (without b (nodesOf n)))) (f a) (without a (nodesOf n))
+      (λ i. each-by (Before (f a i)) (f b) (without b (nodesOf n)) (λ j. g a b i j r)))
       (nodesOf n) (numbers-ascend 1 n);
   tags = rows-by (λ e. tag e ≡ t) (λ a. each (f a) (without a (nodesOf n))) (nodesOf n) (λ a. each-by (λ e. tag e ≡ t) (f a) (without a (nodesOf n)) (k a));
 }
@@ -164,7 +164,7 @@ double t n f g h k = record {
 -- ── blocks one behind the other ──
 
 pub record From (t : ℕ) (es : List Event) : Type 0 where
-  pub ascends : Ascending Below es
+  pub ascends : Ascending Before es
   pub tags : All (λ e. t ≤ tag e) es
 
 last-block : (t : ℕ) (es : List Event) → Block t es → From t es
@@ -172,14 +172,14 @@ last-block t es b = record { ascends = b .ascends; tags = all-weaken (λ e. tag 
 
 then-block : (t : ℕ) (es fs : List Event) → Block t es → From (suc t) fs → From t (es ++ fs)
 then-block t es fs b c = record {
-  ascends = ascending-append Below es fs (b .ascends) (c .ascends)
-      (all-weaken (λ e. tag e ≡ t) (λ e. All (Below e) fs) es (λ e q. all-weaken (λ f. suc t ≤ tag f) (Below e) fs (λ f h. inl (omega arith)) (c .tags)) (b .tags));
+  ascends = ascending-append Before es fs (b .ascends) (c .ascends)
+      (all-weaken (λ e. tag e ≡ t) (λ e. All (Before e) fs) es (λ e q. all-weaken (λ f. suc t ≤ tag f) (Before e) fs (λ f h. inl (omega arith)) (c .tags)) (b .tags));
   tags = all-append (λ e. t ≤ tag e) es fs
       (all-weaken (λ e. tag e ≡ t) (λ e. t ≤ tag e) es (λ e q. omega arith) (b .tags))
       (all-weaken (λ e. suc t ≤ tag e) (λ e. t ≤ tag e) fs (λ e q. omega arith) (c .tags));
 }
 
-pub alphabet-ascends : (n : ℕ) → Ascending Below (alphabet n)
+pub alphabet-ascends : (n : ℕ) → Ascending Before (alphabet n)
 unfolding alphabet
 alphabet-ascends n =
     then-block 0x10 _ _ (single 0x10 n Crash (λ i j h. inr (refl, inl h)) (λ i. refl))

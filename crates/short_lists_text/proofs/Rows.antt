@@ -1,8 +1,8 @@
--- Laws of rows.
+-- Laws of concatMap.
 use mathlib.Core.Path.{_≡_, refl, sym, ap, subst}
 use mathlib.Core.Logic.{inl, inr}
 use mathlib.Core.List.{List, [], _∷_, _++_}
-use Rattle.short_lists_text.specs.Rows.{Among, All, Ascending, each, rows}
+use Rattle.short_lists_text.specs.Rows.{Among, All, Ascending, each, concatMap}
 
 -- ── what holds of all ──
 
@@ -23,18 +23,18 @@ pub all-each : {A B : Type 0} (Q : A → Type 0) (P : B → Type 0) (f : A → B
 all-each Q P f [] g a = tt
 all-each Q P f (x ∷ xs) g a = (g x (a .0), all-each Q P f xs g (a .1))
 
-pub all-rows : {A B : Type 0} (Q : A → Type 0) (P : B → Type 0) (f : A → List B) (xs : List A) → ((x : A) → Q x → All P (f x)) → All Q xs → All P (rows f xs)
+pub all-rows : {A B : Type 0} (Q : A → Type 0) (P : B → Type 0) (f : A → List B) (xs : List A) → ((x : A) → Q x → All P (f x)) → All Q xs → All P (concatMap f xs)
 all-rows Q P f [] g a = tt
-all-rows Q P f (x ∷ xs) g a = all-append P (f x) (rows f xs) (g x (a .0)) (all-rows Q P f xs g (a .1))
+all-rows Q P f (x ∷ xs) g a = all-append P (f x) (concatMap f xs) (g x (a .0)) (all-rows Q P f xs g (a .1))
 
 -- the same of f of anything
 pub each-by : {A B : Type 0} (P : B → Type 0) (f : A → B) (xs : List A) → ((x : A) → P (f x)) → All P (each f xs)
 each-by P f [] g = tt
 each-by P f (x ∷ xs) g = (g x, each-by P f xs g)
 
-pub rows-by : {A B : Type 0} (P : B → Type 0) (f : A → List B) (xs : List A) → ((x : A) → All P (f x)) → All P (rows f xs)
+pub rows-by : {A B : Type 0} (P : B → Type 0) (f : A → List B) (xs : List A) → ((x : A) → All P (f x)) → All P (concatMap f xs)
 rows-by P f [] g = tt
-rows-by P f (x ∷ xs) g = all-append P (f x) (rows f xs) (g x) (rows-by P f xs g)
+rows-by P f (x ∷ xs) g = all-append P (f x) (concatMap f xs) (g x) (rows-by P f xs g)
 
 -- ── what is among them ──
 
@@ -50,9 +50,9 @@ pub among-each : {A B : Type 0} (f : A → B) (x : A) (xs : List A) → Among x 
 among-each f x (y ∷ ys) (inl e) = inl (ap f e)
 among-each f x (y ∷ ys) (inr m) = inr (among-each f x ys m)
 
-pub among-rows : {A B : Type 0} (f : A → List B) (x : A) (y : B) (xs : List A) → Among x xs → Among y (f x) → Among y (rows f xs)
-among-rows f x y (z ∷ zs) (inl e) m = among-left y (f z) (rows f zs) (subst (λ w. Among y (f w)) e m)
-among-rows f x y (z ∷ zs) (inr n) m = among-right y (f z) (rows f zs) (among-rows f x y zs n m)
+pub among-rows : {A B : Type 0} (f : A → List B) (x : A) (y : B) (xs : List A) → Among x xs → Among y (f x) → Among y (concatMap f xs)
+among-rows f x y (z ∷ zs) (inl e) m = among-left y (f z) (concatMap f zs) (subst (λ w. Among y (f w)) e m)
+among-rows f x y (z ∷ zs) (inr n) m = among-right y (f z) (concatMap f zs) (among-rows f x y zs n m)
 
 -- ── ascending ──
 
@@ -64,15 +64,15 @@ pub ascending-each : {A B : Type 0} (R : A → A → Type 0) (S : B → B → Ty
 ascending-each R S f [] g a = tt
 ascending-each R S f (x ∷ xs) g a = (all-each (R x) (S (f x)) f xs (g x) (a .0), ascending-each R S f xs g (a .1))
 
--- rows one behind the other ascend, where each does and a row is below those of what is above
+-- concatMap one behind the other ascend, where each does and a row is below those of what is above
 module _ {A B : Type 0} (R : A → A → Type 0) (S : B → B → Type 0) (f : A → List B) (g : (x : A) → Ascending S (f x)) (h : (x y : A) → R x y → All (λ u. All (S u) (f y)) (f x)) where
-  turned : (ls : List B) (x : A) (ys : List A) → ((y : A) → R x y → All (λ u. All (S u) (f y)) ls) → All (R x) ys → All (λ u. All (S u) (rows f ys)) ls
+  turned : (ls : List B) (x : A) (ys : List A) → ((y : A) → R x y → All (λ u. All (S u) (f y)) ls) → All (R x) ys → All (λ u. All (S u) (concatMap f ys)) ls
   turned [] x ys k a = tt
   turned (u ∷ us) x ys k a = (all-rows (R x) (S u) f ys (λ y r. k y r .0) a, turned us x ys (λ y r. k y r .1) a)
 
-  pub ascending-rows : (xs : List A) → Ascending R xs → Ascending S (rows f xs)
+  pub ascending-rows : (xs : List A) → Ascending R xs → Ascending S (concatMap f xs)
   ascending-rows [] a = tt
-  ascending-rows (x ∷ xs) a = ascending-append S (f x) (rows f xs) (g x) (ascending-rows xs (a .1)) (turned (f x) x xs (h x) (a .0))
+  ascending-rows (x ∷ xs) a = ascending-append S (f x) (concatMap f xs) (g x) (ascending-rows xs (a .1)) (turned (f x) x xs (h x) (a .0))
 
 -- what ascends in an order in which nothing is below itself has each once
 pub alone : {A : Type 0} (R : A → A → Type 0) → ((x : A) → R x x → ⊥) → (x : A) (xs ys : List A) → Ascending R (xs ++ (x ∷ ys)) → (Among x xs → ⊥) × (Among x ys → ⊥)

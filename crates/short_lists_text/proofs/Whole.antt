@@ -12,9 +12,9 @@ use Rattle.model.specs.declared.Mark.{Mark}
 use Rattle.model.specs.declared.Event.{Event}
 use Rattle.model.proofs.Judged.{accepted-is}
 use Rattle.short_lists_text.specs.Rows.{Among, All, Ascending}
-use Rattle.short_lists_text.specs.Order.{Below, ListBelow}
+use Rattle.short_lists_text.specs.Order.{Before, ListBefore}
 use Rattle.short_lists_text.specs.Lists.{alphabet, continued, listsFrom, isAccepted, AcceptedFrom, TaskFits, Legal}
-use Rattle.short_lists_text.specs.Claims.{AllLists}
+use Rattle.short_lists_text.specs.Claims.{AllLists, EveryList}
 use Rattle.short_lists_text.proofs.Rows.{all-of, all-each, each-by, all-rows, among-each, among-rows, ascending-each, ascending-rows, alone}
 use Rattle.short_lists_text.proofs.Order.{strict-order, alphabet-ascends}
 use Rattle.short_lists_text.proofs.Members.{among-alphabet, alphabet-fits}
@@ -60,27 +60,27 @@ none-missing (suc k) s (e ∷ l) n t a =
 
 -- ── in order ──
 
-all-ascend : (k : ℕ) (s : State) → Ascending ListBelow (listsFrom k s)
+all-ascend : (k : ℕ) (s : State) → Ascending ListBefore (listsFrom k s)
 unfolding listsFrom
 all-ascend zero s = (tt, tt)
-all-ascend (suc k) s = ascending-rows Below ListBelow (λ e. continued e (step s e) (listsFrom k)) (λ e. inside (all-ascend k) e (step s e)) (λ e f b. across e f b (step s e) (step s f)) (alphabet (s .n)) (alphabet-ascends (s .n))
+all-ascend (suc k) s = ascending-rows Before ListBefore (λ e. continued e (step s e) (listsFrom k)) (λ e. inside (all-ascend k) e (step s e)) (λ e f b. across e f b (step s e) (step s f)) (alphabet (s .n)) (alphabet-ascends (s .n))
   where
-    inside : ((u : State) → Ascending ListBelow (listsFrom k u)) → (e : Event) (r : Result) → Ascending ListBelow (continued e r (listsFrom k))
+    inside : ((u : State) → Ascending ListBefore (listsFrom k u)) → (e : Event) (r : Result) → Ascending ListBefore (continued e r (listsFrom k))
     inside g e (refused x) = tt
-    inside g e (accepted u m) = ascending-each ListBelow ListBelow (λ l. e ∷ l) (listsFrom k u) (λ l r b. inr (refl, b)) (g u)
+    inside g e (accepted u m) = ascending-each ListBefore ListBefore (λ l. e ∷ l) (listsFrom k u) (λ l r b. inr (refl, b)) (g u)
 
-    above : (e f : Event) → Below e f → (l : List Event) (r : Result) → All (ListBelow (e ∷ l)) (continued f r (listsFrom k))
+    above : (e f : Event) → Before e f → (l : List Event) (r : Result) → All (ListBefore (e ∷ l)) (continued f r (listsFrom k))
     above e f b l (refused x) = tt
-    above e f b l (accepted u m) = each-by (ListBelow (e ∷ l)) (λ r. f ∷ r) (listsFrom k u) (λ r. inl b)
+    above e f b l (accepted u m) = each-by (ListBefore (e ∷ l)) (λ r. f ∷ r) (listsFrom k u) (λ r. inl b)
 
-    across : (e f : Event) → Below e f → (r q : Result) → All (λ l. All (ListBelow l) (continued f q (listsFrom k))) (continued e r (listsFrom k))
+    across : (e f : Event) → Before e f → (r q : Result) → All (λ l. All (ListBefore l) (continued f q (listsFrom k))) (continued e r (listsFrom k))
     across e f b (refused x) q = tt
-    across e f b (accepted u m) q = each-by (λ l. All (ListBelow l) (continued f q (listsFrom k))) (λ l. e ∷ l) (listsFrom k u) (λ l. above e f b l q)
+    across e f b (accepted u m) q = each-by (λ l. All (ListBefore l) (continued f q (listsFrom k))) (λ l. e ∷ l) (listsFrom k u) (λ l. above e f b l q)
 
-pub all-lists : (k : ℕ) (s : State) → AllLists k s
+pub all-lists : EveryList
 all-lists k s = record {
   only = λ l m. all-of (Legal k s) l (listsFrom k s) (all-legal k s) m;
   complete = λ l x. none-missing k s l (x .long) (x .tasks) (x .taken);
   ascending = all-ascend k s;
-  once = λ l before behind q. alone ListBelow (strict-order .never-itself) l before behind (subst (Ascending ListBelow) q (all-ascend k s));
+  once = λ l before behind q. alone ListBefore (strict-order .never-itself) l before behind (subst (Ascending ListBefore) q (all-ascend k s));
 }

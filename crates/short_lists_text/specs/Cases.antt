@@ -1,23 +1,52 @@
--- A few texts in full, and every refused form of input.
+-- A few texts in full, single inputs that are refused, and the lists from tables that no short list reaches.
+use mathlib.Core.Bool.{true}
 use mathlib.Core.Path.{_≡_}
-use mathlib.Core.List.{[], _∷_}
+use mathlib.Core.List.{[], _∷_, _++_}
+use Rattle.model.specs.Step.{run}
 use Rattle.model.specs.declared.Event.the-variants.{Crash, Recover, Check, Timeout, Tick, Expire, Finish, Deliver, Lose}
 use Rattle.listing.specs.Ascii.{bytes}
-use Rattle.short_lists_text.specs.Lists.{onlyTask}
-use Rattle.short_lists_text.specs.Text.{listLine, textOf}
+use Rattle.listing.specs.Printing.{joined}
+use Rattle.short_lists_text.specs.Rows.{each}
+use Rattle.short_lists_text.specs.Lists.{onlyTask, alphabet, listsFrom}
+use Rattle.short_lists_text.specs.Text.{listLine, linesOf, fits, textOf}
 
 pub record TextCases : Type 0 where
   -- "the list of no events is an empty line"
-  pub none : textOf (3 ∷ 0 ∷ []) ≡ bytes "\nlists 1\n"
+  pub empty-list : textOf (3 ∷ 0 ∷ []) ≡ bytes "\nlists 1\n"
+  -- a line ends with 0x0A, as 01's lines do
+  pub line-end : bytes "\n" ≡ 0x0A ∷ []
   pub one : textOf (3 ∷ 1 ∷ []) ≡ bytes "recover 1\nrecover 2\nrecover 3\nlists 3\n"
   -- "as in `recover 1, check 1`"
   pub two : textOf (1 ∷ 2 ∷ []) ≡ bytes "recover 1, crash 1\nrecover 1, check 1\nrecover 1, timeout 1\nlists 3\n"
   pub two-of-two : textOf (2 ∷ 2 ∷ [])
       ≡ bytes "recover 1, crash 1\nrecover 1, recover 2\nrecover 1, check 1\nrecover 1, timeout 1\nrecover 2, crash 2\nrecover 2, recover 1\nrecover 2, check 2\nrecover 2, timeout 2\nlists 8\n"
-  -- each event's name and numbers
+  -- long enough that the first event that differs is not the last or the one before it
+  pub four : textOf (1 ∷ 4 ∷ []) ≡ 
+      bytes "recover 1, crash 1, recover 1, crash 1\nrecover 1, crash 1, recover 1, check 1\nrecover 1, crash 1, recover 1, timeout 1\nrecover 1, check 1, crash 1, recover 1\n"
+      ++ (bytes "recover 1, check 1, check 1, crash 1\nrecover 1, check 1, check 1, check 1\nrecover 1, check 1, check 1, timeout 1\nrecover 1, check 1, timeout 1, crash 1\n"
+      ++ (bytes "recover 1, check 1, timeout 1, check 1\nrecover 1, check 1, timeout 1, timeout 1\nrecover 1, timeout 1, crash 1, recover 1\nrecover 1, timeout 1, check 1, crash 1\n"
+      ++ (bytes "recover 1, timeout 1, check 1, check 1\nrecover 1, timeout 1, check 1, timeout 1\nrecover 1, timeout 1, timeout 1, crash 1\nrecover 1, timeout 1, timeout 1, check 1\n"
+      ++ bytes "recover 1, timeout 1, timeout 1, timeout 1\nlists 17\n")))
+  -- each event's name and numbers, and their order, for three nodes
+  pub events : joined (each (λ e. listLine (e ∷ [])) (alphabet 3)) ≡ 
+      bytes "crash 1\ncrash 2\ncrash 3\nrecover 1\nrecover 2\nrecover 3\ncheck 1\ncheck 2\n"
+      ++ (bytes "check 3\ntimeout 1\ntimeout 2\ntimeout 3\ntick 1\ntick 2\ntick 3\nexpire 1\n"
+      ++ (bytes "expire 2\nexpire 3\nfinish 1 100\nfinish 2 100\nfinish 3 100\ndeliver 1 2\ndeliver 1 3\ndeliver 2 1\n"
+      ++ (bytes "deliver 2 3\ndeliver 3 1\ndeliver 3 2\nlose 1 2\nlose 1 3\nlose 2 1\nlose 2 3\nlose 3 1\n"
+      ++ bytes "lose 3 2\n")))
+  -- all nine in one line
   pub words : listLine (Crash 1 ∷ Recover 2 ∷ Check 3 ∷ Timeout 1 ∷ Tick 2 ∷ Expire 3 ∷ Finish 1 (record { number = onlyTask }) ∷ Deliver 1 2 ∷ Lose 2 3 ∷ [])
       ≡ bytes "crash 1, recover 2, check 3, timeout 1, tick 2, expire 3, finish 1 100, deliver 1 2, lose 2 3\n"
-  -- 16: "not exactly two bytes, or one outside its range", on each side of each end
+  -- where a message waits for each pair of three nodes
+  pub pairs : joined (linesOf (listsFrom 1 (run 3 (Recover 1 ∷ Recover 2 ∷ Recover 3 ∷ Check 1 ∷ Expire 1 ∷ Check 2 ∷ Expire 2 ∷ Check 3 ∷ Expire 3 ∷ [])))) ≡ 
+      bytes "crash 1\ncrash 2\ncrash 3\nexpire 1\nexpire 2\nexpire 3\ndeliver 1 2\ndeliver 1 3\ndeliver 2 1\ndeliver 2 3\n"
+      ++ bytes "deliver 3 1\ndeliver 3 2\nlose 1 2\nlose 1 3\nlose 2 1\nlose 2 3\nlose 3 1\nlose 3 2\nlists 18\n"
+  -- where a node collects, and where one waits
+  pub finish : joined (linesOf (listsFrom 1 (run 2 (Recover 1 ∷ Recover 2 ∷ Check 2 ∷ Deliver 2 1 ∷ Deliver 1 2 ∷ Expire 2 ∷ [])))) ≡ bytes "crash 1\ncrash 2\ncheck 1\ntimeout 1\nfinish 2 100\ndeliver 2 1\nlose 2 1\nlists 7\n"
+  pub tick : joined (linesOf (listsFrom 1 (run 2 (Recover 1 ∷ Recover 2 ∷ Check 1 ∷ Deliver 1 2 ∷ Deliver 2 1 ∷ [])))) ≡ bytes "crash 1\ncrash 2\ncheck 2\ntimeout 2\ntick 1\nlists 5\n"
+  -- 16 is not met at the ends of the ranges, and is met just outside them: `Refuses` has all inputs
+  pub most : fits (3 ∷ 7 ∷ []) ≡ true
+  pub least : fits (1 ∷ 0 ∷ []) ≡ true
   pub no-bytes : textOf [] ≡ bytes "stopped 0 16\n"
   pub one-byte : textOf (1 ∷ []) ≡ bytes "stopped 0 16\n"
   pub three-bytes : textOf (2 ∷ 3 ∷ 0 ∷ []) ≡ bytes "stopped 0 16\n"

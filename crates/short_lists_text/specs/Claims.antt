@@ -4,7 +4,7 @@ use mathlib.Core.Bool.{true}
 use mathlib.Core.Path.{_≡_}
 use mathlib.Core.Logic.{_⊎_}
 use mathlib.Core.List.{List, [], _∷_, _++_}
-use lib.ListN.{length}
+use lib.ListN.{length, take}
 use Rattle.model.specs.State.{State, start}
 use Rattle.model.specs.Step.{step}
 use Rattle.model.specs.declared.TaskNo.{TaskNo}
@@ -15,30 +15,56 @@ use Rattle.listing.specs.Ascii.{bytes}
 use Rattle.listing.specs.Decimal.{Denotes}
 use Rattle.listing.specs.Printing.{joined}
 use Rattle.short_lists_text.specs.Rows.{Among, All, Ascending, each}
-use Rattle.short_lists_text.specs.Order.{tag, contents, ListBelow}
+use Rattle.short_lists_text.specs.Order.{tag, contents, BytesBefore, Before, ListBefore}
 use Rattle.short_lists_text.specs.Lists.{listsFrom, isAccepted, Legal}
 use Rattle.short_lists_text.specs.Text.{numbersOf, eventsText, listLine, countLine, linesOf, textOf}
 
--- the lists of k events from s, whatever s is
-pub record AllLists (k : ℕ) (s : State) : Type 0 where
-  -- what is among them is such a list
-  pub only : (l : List Event) → Among l (listsFrom k s) → Legal k s l
+-- the lists of m events from s
+pub record AllLists (m : ℕ) (s : State) : Type 0 where
+  -- each of them is a legal list of m events from s
+  pub only : (l : List Event) → Among l (listsFrom m s) → Legal m s l
   -- "none is missing"
-  pub complete : (l : List Event) → Legal k s l → Among l (listsFrom k s)
-  -- "The order compares lists event by event, tag first, then contents as bytes."
-  pub ascending : Ascending ListBelow (listsFrom k s)
-  -- "Each list appears once": where one stands, it stands neither before nor behind
-  pub once : (l : List Event) (before behind : List (List Event)) → listsFrom k s ≡ before ++ (l ∷ behind) → (Among l before → ⊥) × (Among l behind → ⊥)
+  pub complete : (l : List Event) → Legal m s l → Among l (listsFrom m s)
+  -- they stand in 02's order
+  pub ascending : Ascending ListBefore (listsFrom m s)
+  -- "Each list appears once": one that is at a place is at no earlier and at no later one. It follows from `ascending` and `StrictOrder.never-itself`
+  pub once : (l : List Event) (before after : List (List Event)) → listsFrom m s ≡ before ++ (l ∷ after) → (Among l before → ⊥) × (Among l after → ⊥)
 
--- The order is one, and leaves no choice: no list is below itself, what is below one is below all above that, and of two lists one is below the other.
+-- for every length, and from every state, so from the starting table of every n
+abbrev pub EveryList : Type 0
+EveryList = (m : ℕ) (s : State) → AllLists m s
+
+-- 02's order is a strict total order: no list is before itself, what is before one is before all that this is before, and of two lists one is before the other.
 pub record StrictOrder : Type 0 where
-  pub never-itself : (l : List Event) → ListBelow l l → ⊥
-  pub passes-on : (l m r : List Event) → ListBelow l m → ListBelow m r → ListBelow l r
-  pub compares : (l m : List Event) → ListBelow l m ⊎ ((l ≡ m) ⊎ ListBelow m l)
+  pub never-itself : (l : List Event) → ListBefore l l → ⊥
+  pub passes-on : (l m r : List Event) → ListBefore l m → ListBefore m r → ListBefore l r
+  pub compares : (l m : List Event) → ListBefore l m ⊎ ((l ≡ m) ⊎ ListBefore m l)
+
+-- xs and ys agree up to a place, and there x and y stand
+pub record Differ {A : Type 0} (xs ys : List A) (x y : A) : Type 0 where
+  pub same : List A
+  pub left : List A
+  pub right : List A
+  pub first : xs ≡ same ++ (x ∷ left)
+  pub second : ys ≡ same ++ (y ∷ right)
+
+-- xs is the beginning of ys, which is longer
+pub record Begins {A : Type 0} (xs ys : List A) : Type 0 where
+  pub next : A
+  pub more : List A
+  pub is : ys ≡ xs ++ (next ∷ more)
+
+-- "The order compares lists event by event, tag first, then contents as bytes.", without recursion: the first place where two lists differ decides
+pub record OrderIs : Type 0 where
+  pub bytes-before : (c d : List ℕ) (x y : ℕ) → Differ c d x y → x < y → BytesBefore c d
+  pub bytes-after : (c d : List ℕ) (x y : ℕ) → Differ c d x y → BytesBefore c d → x ≤ y
+  pub events : (l m : List Event) (e f : Event) → Differ l m e f → Before e f → ListBefore l m
+  pub events-only : (l m : List Event) (e f : Event) → Differ l m e f → ListBefore l m → Before e f ⊎ (e ≡ f)
+  pub shorter : (l m : List Event) → Begins l m → ListBefore l m
 
 -- "n from 1 to 3 and a length from 0 to 7": the lists are fewer than 2 ^ 32
 pub record FewLists : Type 0 where
-  pub few : (n k : ℕ) → 1 ≤ n → n ≤ 3 → k ≤ 7 → length (listsFrom k (start n)) < 2 ^ 32
+  pub few : (n m : ℕ) → 1 ≤ n → n ≤ 3 → m ≤ 7 → length (listsFrom m (start n)) < 2 ^ 32
 
 -- l is the line `lists k`: the word, a space, digits that denote k, and the line's end
 pub record IsCount (k : ℕ) (l : List ℕ) : Type 0 where
@@ -46,13 +72,23 @@ pub record IsCount (k : ℕ) (l : List ℕ) : Type 0 where
   pub denotes : Denotes number k
   pub whole : l ≡ bytes "lists " ++ (number ++ bytes "\n")
 
--- "a last line `lists k` gives their count", for every n and length that is allowed
+-- the text of every input that is allowed
 pub record Counts : Type 0 where
-  -- all that is printed: the line of each list, in their order, and a last one
-  pub lines : (n k : ℕ) → 1 ≤ n → n ≤ 3 → k ≤ 7 → textOf (n ∷ k ∷ []) ≡ joined (each listLine (listsFrom k (start n))) ++ countLine (length (listsFrom k (start n)))
-  pub last : (n k : ℕ) → 1 ≤ n → n ≤ 3 → k ≤ 7 → IsCount (length (listsFrom k (start n))) (countLine (length (listsFrom k (start n))))
-  -- wherever there are fewer than 2 ^ 32 lists
+  -- the line of each list, in their order, and a last one
+  pub lines : (n m : ℕ) → 1 ≤ n → n ≤ 3 → m ≤ 7 → textOf (n ∷ m ∷ []) ≡ joined (each listLine (listsFrom m (start n))) ++ countLine (length (listsFrom m (start n)))
+  -- "a last line `lists k` gives their count"
+  pub last : (n m : ℕ) → 1 ≤ n → n ≤ 3 → m ≤ 7 → IsCount (length (listsFrom m (start n))) (countLine (length (listsFrom m (start n))))
+  -- and so wherever there are fewer than 2 ^ 32 lists, for any n and length: printed numbers have at most ten digits
   pub any : (ls : List (List Event)) → length ls < 2 ^ 32 → IsCount (length ls) (countLine (length ls))
+
+-- 16, "not exactly two bytes, or one outside its range": the text of every other input
+pub record Refuses : Type 0 where
+  pub not-two : (l : List ℕ) → (length l ≡ 2 → ⊥) → textOf l ≡ bytes "stopped 0 16\n"
+  pub no-nodes : (m : ℕ) → textOf (0 ∷ m ∷ []) ≡ bytes "stopped 0 16\n"
+  pub too-many : (n m : ℕ) → 3 < n → textOf (n ∷ m ∷ []) ≡ bytes "stopped 0 16\n"
+  pub too-long : (n m : ℕ) → 7 < m → textOf (n ∷ m ∷ []) ≡ bytes "stopped 0 16\n"
+  -- so it is enough to read three bytes of an input
+  pub first-three : (l : List ℕ) → textOf (take 3 l) ≡ textOf l
 
 -- an event whose nodes fit into one byte, and its task into two
 abbrev pub FitsBytes : Event → Type 0
@@ -66,15 +102,15 @@ FitsBytes (Finish i t) = (i < 256) × (t .number < 65536)
 FitsBytes (Deliver a b) = (a < 256) × (b < 256)
 FitsBytes (Lose a b) = (a < 256) × (b < 256)
 
--- "tag first, then contents as bytes": the tag and the contents that the order compares are those of the event's field in a list of 01
+-- "tag first, then contents as bytes": the tag and the contents that the order compares are those of the event's field in a list in 01's byte form
 pub record SameBytes : Type 0 where
-  -- what stands for an event has an event's tag and the length that goes with it, and is read as that event
+  -- the tag is an event's, the contents have the length that goes with it, and both are read as that event
   pub tagged : (e : Event) → eventTag (tag e) ≡ true
   pub long : (e : Event) → length (contents e) ≡ lengthOf (tag e)
   pub read : (e : Event) → eventOf (tag e) (contents e) ≡ e
-  -- and what is read as an event is what stands for that event
+  -- and bytes that are read as an event are that event's tag and contents
   pub only : (t : ℕ) (c : List ℕ) → eventTag t ≡ true → length c ≡ lengthOf t → All (λ b. b < 256) c → (tag (eventOf t c) ≡ t) × (contents (eventOf t c) ≡ c)
-  -- it is bytes where the event's numbers fit, as those of every accepted event do
+  -- they are bytes where the event's numbers fit, as those of every accepted event do
   pub are-bytes : (e : Event) → FitsBytes e → All (λ b. b < 256) (tag e ∷ contents e)
   pub accepted-fits : (s : State) (e : Event) → isAccepted (step s e) ≡ true → FitsBytes e
 
@@ -88,10 +124,11 @@ pub record ListLinesDetermine : Type 0 where
   pub one-line : (l : List Event) → All (λ b. b ≡ 10 → ⊥) (eventsText l)
   -- different lists have different lines
   pub line : (l m : List Event) → All SmallNumbers l → All SmallNumbers m → listLine l ≡ listLine m → l ≡ m
-  -- what the machine accepts has such numbers, from any table
-  pub legal-small : (k : ℕ) (s : State) (l : List Event) → Legal k s l → All SmallNumbers l
-  pub lists-small : (k : ℕ) (s : State) → All (All SmallNumbers) (listsFrom k s)
-  -- where one of the lines stands, it stands neither before nor behind
-  pub once : (k : ℕ) (s : State) (x : List ℕ) (before behind : List (List ℕ)) → each listLine (listsFrom k s) ≡ before ++ (x ∷ behind) → (Among x before → ⊥) × (Among x behind → ⊥)
-  -- different lists have different texts
+  -- what the machine accepts has such numbers, from any state
+  pub legal-small : (m : ℕ) (s : State) (l : List Event) → Legal m s l → All SmallNumbers l
+  -- so all lists have, by `AllLists.only`
+  pub lists-small : (m : ℕ) (s : State) → All (All SmallNumbers) (listsFrom m s)
+  -- a line that is at a place is at no earlier and at no later one
+  pub once : (m : ℕ) (s : State) (x : List ℕ) (before after : List (List ℕ)) → each listLine (listsFrom m s) ≡ before ++ (x ∷ after) → (Among x before → ⊥) × (Among x after → ⊥)
+  -- from the text the lists can be told
   pub text : (ls ms : List (List Event)) → All (All SmallNumbers) ls → All (All SmallNumbers) ms → joined (linesOf ls) ≡ joined (linesOf ms) → ls ≡ ms

@@ -1,4 +1,4 @@
--- "every list of exactly that many events that the machine accepts one after another from the starting table", and from any table
+-- T-01: "every list of exactly that many events that the machine accepts one after another from the starting table"; here from any table. A node is 01's cabinet.
 use Prim.Native.Nat.{ℕ, zero, suc}
 use mathlib.Core.Bool.{Bool, true, false}
 use mathlib.Core.Path.{_≡_}
@@ -11,7 +11,7 @@ use Rattle.model.specs.Step.{Result, refused, accepted, step, after}
 use Rattle.model.specs.declared.TaskNo.{TaskNo}
 use Rattle.model.specs.declared.Event.{Event}
 use Rattle.model.specs.declared.Event.the-variants.{Crash, Recover, Check, Timeout, Tick, Expire, Finish, Deliver, Lose}
-use Rattle.short_lists_text.specs.Rows.{All, each, rows}
+use Rattle.short_lists_text.specs.Rows.{All, each, concatMap}
 
 -- ── the events that may stand in a list ──
 
@@ -28,16 +28,16 @@ upFrom k (suc c) = k ∷ upFrom (suc k) c
 abbrev pub nodesOf : ℕ → List ℕ
 nodesOf n = upFrom 1 n
 
--- those of a row that are not i
+-- those that are not i
 unfoldable pub without : ℕ → List ℕ → List ℕ
 without i [] = []
 without i (j ∷ js) = pick (eqb j i) (without i js) (j ∷ without i js)
 
--- an event of two different nodes, for each such pair
+-- an event of two different nodes, for each such pair: (1,2), (1,3) and so on to (n,n-1)
 unfoldable pub pairsOf : (ℕ → ℕ → Event) → ℕ → List Event
-pairsOf f n = rows (λ a. each (f a) (without a (nodesOf n))) (nodesOf n)
+pairsOf f n = concatMap (λ a. each (f a) (without a (nodesOf n))) (nodesOf n)
 
--- the events of n nodes, "tag first, then contents as bytes"
+-- the alphabet: the events of which lists of n nodes are made, in the order "tag first, then contents as bytes"
 unfoldable pub alphabet : ℕ → List Event
 alphabet n =
     each Crash (nodesOf n)
@@ -52,21 +52,21 @@ alphabet n =
 
 -- ── all of them ──
 
--- an event before each of the lists that follow it, where it is accepted; else none
+-- e before each of the lists from the state after it, where it is accepted; else none
 abbrev pub continued : Event → Result → (State → List (List Event)) → List (List Event)
 continued e (refused r) later = []
-continued e (accepted u k) later = each (λ l. e ∷ l) (later u)
+continued e (accepted u mark) later = each (λ l. e ∷ l) (later u)
 
--- all lists of k events from s
+-- all lists of m events from s
 unfoldable pub listsFrom : ℕ → State → List (List Event)
 listsFrom zero s = [] ∷ []
-listsFrom (suc k) s = rows (λ e. continued e (step s e) (listsFrom k)) (alphabet (s .n))
+listsFrom (suc m) s = concatMap (λ e. continued e (step s e) (listsFrom m)) (alphabet (s .n))
 
 -- ── one of them, by 02's words ──
 
 abbrev pub isAccepted : Result → Bool
 isAccepted (refused r) = false
-isAccepted (accepted u k) = true
+isAccepted (accepted u mark) = true
 
 -- "that the machine accepts one after another"
 abbrev pub AcceptedFrom : State → List Event → Type 0
@@ -85,9 +85,9 @@ TaskFits (Finish i t) = t .number ≡ onlyTask
 TaskFits (Deliver a b) = Unit {0}
 TaskFits (Lose a b) = Unit {0}
 
--- a list of k events from s
-pub record Legal (k : ℕ) (s : State) (l : List Event) : Type 0 where
+-- l is a legal list of m events from s
+pub record Legal (m : ℕ) (s : State) (l : List Event) : Type 0 where
   -- "of exactly that many events"
-  pub long : length l ≡ k
+  pub long : length l ≡ m
   pub tasks : All TaskFits l
   pub taken : AcceptedFrom s l

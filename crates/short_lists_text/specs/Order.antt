@@ -31,18 +31,18 @@ contents (Finish i t) = i ∷ (t .number / 256) ∷ (t .number % 256) ∷ []
 contents (Deliver a b) = a ∷ b ∷ []
 contents (Lose a b) = a ∷ b ∷ []
 
--- bytes before bytes: the first that differs decides; what ends first comes first
-abbrev pub BytesBelow : List ℕ → List ℕ → Type 0
-BytesBelow xs [] = ⊥
-BytesBelow [] (y ∷ ys) = Unit {0}
-BytesBelow (x ∷ xs) (y ∷ ys) = (x < y) ⊎ ((x ≡ y) × BytesBelow xs ys)
+-- c comes before d: the first byte that differs decides. What ends first comes first: 02 does not say so, and among contents of one tag, which are of one length, it does not arise.
+abbrev pub BytesBefore : List ℕ → List ℕ → Type 0
+BytesBefore c [] = ⊥
+BytesBefore [] (y ∷ ys) = Unit {0}
+BytesBefore (x ∷ xs) (y ∷ ys) = (x < y) ⊎ ((x ≡ y) × BytesBefore xs ys)
 
 -- "tag first, then contents as bytes"
-abbrev pub Below : Event → Event → Type 0
-Below e f = (tag e < tag f) ⊎ ((tag e ≡ tag f) × BytesBelow (contents e) (contents f))
+abbrev pub Before : Event → Event → Type 0
+Before e f = (tag e < tag f) ⊎ ((tag e ≡ tag f) × BytesBefore (contents e) (contents f))
 
--- "event by event": the first event that differs decides
-abbrev pub ListBelow : List Event → List Event → Type 0
-ListBelow es [] = ⊥
-ListBelow [] (f ∷ fs) = Unit {0}
-ListBelow (e ∷ es) (f ∷ fs) = Below e f ⊎ ((e ≡ f) × ListBelow es fs)
+-- "The order compares lists event by event": the first event that differs decides. What ends first comes first: that does not arise either, among lists of one length.
+abbrev pub ListBefore : List Event → List Event → Type 0
+ListBefore l [] = ⊥
+ListBefore [] (f ∷ fs) = Unit {0}
+ListBefore (e ∷ es) (f ∷ fs) = Before e f ⊎ ((e ≡ f) × ListBefore es fs)

@@ -42,7 +42,7 @@ numbersOf (Finish i t) = i ∷ t .number ∷ []
 numbersOf (Deliver a b) = a ∷ b ∷ []
 numbersOf (Lose a b) = a ∷ b ∷ []
 
--- each number behind a space
+-- each number after a space
 unfoldable pub spaced : List ℕ → List ℕ
 spaced [] = []
 spaced (x ∷ xs) = bytes " " ++ (decimal x ++ spaced xs)
@@ -51,7 +51,7 @@ spaced (x ∷ xs) = bytes " " ++ (decimal x ++ spaced xs)
 unfoldable pub eventText : Event → List ℕ
 eventText e = nameOf e ++ spaced (numbersOf e)
 
--- the events behind a list's first, each behind "a comma and a space"
+-- the events after a list's first, each after "a comma and a space"
 unfoldable pub moreText : List Event → List ℕ
 moreText [] = []
 moreText (e ∷ es) = bytes ", " ++ (eventText e ++ moreText es)
@@ -75,14 +75,15 @@ countLine k = bytes "lists" ++ row (k ∷ [])
 abbrev pub linesOf : List (List Event) → List (List ℕ)
 linesOf ls = each listLine ls ++ (countLine (length ls) ∷ [])
 
--- "n from 1 to 3 and a length from 0 to 7, as two bytes": where 16 is not met, "not exactly two bytes, or one outside its range"
+-- "n from 1 to 3 and a length from 0 to 7, as two bytes", n first. Where it does not hold 16 is met: "not exactly two bytes, or one outside its range"
 unfoldable pub fits : List ℕ → Bool
 fits l = eqb (length l) 2 && leb 1 (getD l 0 0) && leb (getD l 0 0) 3 && leb (getD l 1 0) 7
 
--- "print every list of exactly that many events that the machine accepts one after another from the starting table": all that is printed for the input l
+-- "A refusal prints `stopped 0 16` alone."
+abbrev pub refusalText : List ℕ
+refusalText = stoppedLine 0 16
+
+-- all that is printed for the input l: "print every list of exactly that many events that the machine accepts one after another from the starting table"; 16 is
+-- looked at "before anything is printed"
 unfoldable pub textOf : List ℕ → List ℕ
-textOf l =
-    pick (fits l)
-    (joined (linesOf (listsFrom (getD l 1 0) (start (getD l 0 0)))))
-    -- "A refusal prints `stopped 0 16` alone."
-    (stoppedLine 0 16)
+textOf l = pick (fits l) (joined (linesOf (listsFrom (getD l 1 0) (start (getD l 0 0))))) refusalText
