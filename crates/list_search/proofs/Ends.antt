@@ -25,7 +25,7 @@ use Rattle.short_lists_text.specs.Text.{countLine, fits, textOf}
 use Rattle.short_lists_text.proofs.Few.{few-lists}
 use Rattle.list_search.specs.declared.Search.{Search}
 use Rattle.list_search.specs.declared.Piece.{Piece}
-use Rattle.list_search.specs.Stack.{Frame, frame, path, left, stackText}
+use Rattle.list_search.specs.Stack.{Frame, frame, path, listsLeft, stackText}
 use Rattle.list_search.specs.Line.{beginning}
 use Rattle.list_search.specs.Search.{noLevel, frameOf, framesOf, stackOf, missing, textLeft, SoundLevel, Going, Sound, First, Begun, Gave, Call, writtenBy, Calls, searchAfter, PiecesMakeText}
 use Rattle.list_search.proofs.Stack.{all-left, whole-text, left-given, left-none, text-given, text-over}
@@ -143,7 +143,7 @@ module _ (s : Search) (h : ℕ) (c : Going s h) (z : s .length ≡ 0) where
   none-missing : s .length - h ≡ 0
   none-missing = omega (arith, z)
 
-  one-left : left (s .length - h) (top ∷ framesOf (s .n) (s .levels) h) ≡ [] ∷ []
+  one-left : listsLeft (s .length - h) (top ∷ framesOf (s .n) (s .levels) h) ≡ [] ∷ []
   unfolding path
   one-left = rw (none-missing, frames-are) (left-given top [] ∙ ap (λ l. [] ∷ l) (left-none 1))
 

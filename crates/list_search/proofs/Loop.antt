@@ -27,10 +27,10 @@ use Rattle.packed.proofs.Turns.{Ready, refused-step, has-room, step-accepts, ac
 use Rattle.short_lists_text.specs.Text.{eventText, listLine, countLine}
 use Rattle.list_search.specs.declared.Level.{Level}
 use Rattle.list_search.specs.declared.Search.{Search}
-use Rattle.list_search.specs.Stack.{Frame, frame, sizeOf, eventAt, path, left, stackText, turnsLeft}
+use Rattle.list_search.specs.Stack.{Frame, frame, sizeOf, eventAt, path, listsLeft, stackText}
 use Rattle.list_search.specs.Line.{beginning}
 use Rattle.list_search.specs.Search.{noLevel, frameOf, framesOf, textLeft, SoundLevel, SoundBelow, Going, Gave}
-use Rattle.list_search.proofs.Stack.{text-same, text-over, text-given, left-none, gone, passed-by, gone-up, gave-one, path-passed}
+use Rattle.list_search.proofs.Stack.{turnsLeft, text-same, text-over, text-given, left-none, gone, passed-by, gone-up, gave-one, path-passed}
 use Rattle.list_search.proofs.Lines.{beginning-more, line-ends}
 
 -- ── the levels below one that is stored ──
@@ -65,7 +65,7 @@ pub record Kept (x o : List ℕ) (n len : ℕ) (ls : List Level) (h : ℕ) (t : 
   pub below : h < len
   pub beneath : SoundBelow n ls h
   pub top : SoundLevel n (path (framesOf n ls h)) t
-  pub count : g + length (left (len - h) (frameOf n t ∷ framesOf n ls h)) < 2 ^ 32
+  pub count : g + length (listsLeft (len - h) (frameOf n t ∷ framesOf n ls h)) < 2 ^ 32
   pub size : length o ≡ 65536
   pub space : at ≤ 65408
   pub text : x ≡ take at o ++ stackText g (len - h) (frameOf n t ∷ framesOf n ls h)
@@ -89,12 +89,12 @@ module _ {x o : List ℕ} {n len : ℕ} {ls : List Level} {g at : ℕ} where
   unfolding framesOf
   last-line {t} k q =
       let z : len - 0 ≡ suc (len - 1) = omega (arith, k .below) in
-      let none : left (len - 0) (frameOf n t ∷ []) ≡ [] = rw z (gone (len - 1) (frameOf n t) [] (le-leb _ _ q) .0 ∙ left-none _) in
+      let none : listsLeft (len - 0) (frameOf n t ∷ []) ≡ [] = rw z (gone (len - 1) (frameOf n t) [] (le-leb _ _ q) .0 ∙ left-none _) in
       k .text ∙ ap (λ y. take at o ++ y) (text-over g (len - 0) (frameOf n t ∷ []) none)
 
   -- on another: the search goes on with the one below
   module _ {h : ℕ} {t : Level} (k : Kept x o n len ls (suc h) t g at) (q : sizeOf n ≤ t .tried) where
-    same : left (len - suc h) (frameOf n t ∷ framesOf n ls (suc h)) ≡ left (len - h) (framesOf n ls (suc h))
+    same : listsLeft (len - suc h) (frameOf n t ∷ framesOf n ls (suc h)) ≡ listsLeft (len - h) (framesOf n ls (suc h))
     same =
         let z : len - suc h ≡ suc (len - suc (suc h)) = omega (arith, k .below) in
         let y : len - h ≡ suc (suc (len - suc (suc h))) = omega (arith, k .below) in
@@ -144,7 +144,7 @@ module _ {x o : List ℕ} {n len : ℕ} {ls : List Level} {g at : ℕ} where
 
     -- refused
     module _ (r : ℕ) (z : step s e ≡ refused r) where
-      same-lists : left (len - h) (frameOf n t ∷ fs) ≡ left (len - h) (frameOf n (onward t) ∷ fs)
+      same-lists : listsLeft (len - h) (frameOf n t ∷ fs) ≡ listsLeft (len - h) (frameOf n (onward t) ∷ fs)
       same-lists = rw missing-one (passed-by (len - suc h) (frameOf n t) fs (lt-leb _ _ q) r z .0)
 
       refused-kept : Kept x o n len ls h (onward t) g at
@@ -172,10 +172,10 @@ module _ {x o : List ℕ} {n len : ℕ} {ls : List Level} {g at : ℕ} where
         one : len - h ≡ 1
         one = omega (arith, last)
 
-        given-one : left (len - h) (frameOf n t ∷ fs) ≡ (path fs ++ (e ∷ [])) ∷ left (len - h) (frameOf n (onward t) ∷ fs)
+        given-one : listsLeft (len - h) (frameOf n t ∷ fs) ≡ (path fs ++ (e ∷ [])) ∷ listsLeft (len - h) (frameOf n (onward t) ∷ fs)
         given-one = rw one (gave-one (frameOf n t) fs (lt-leb _ _ q) u m z .0)
 
-        count-more : g + 1 + length (left (len - h) (frameOf n (onward t) ∷ fs)) < 2 ^ 32
+        count-more : g + 1 + length (listsLeft (len - h) (frameOf n (onward t) ∷ fs)) < 2 ^ 32
         count-more = let c = k .count in let y = ap length given-one in omega (arith, c, y)
 
         given-less : turnsOf n len ls h (onward t) < turnsOf n len ls h t
@@ -225,7 +225,7 @@ module _ {x o : List ℕ} {n len : ℕ} {ls : List Level} {g at : ℕ} where
         frame-up : frameOf n v ≡ frame u 0
         frame-up = rw (a, i)
 
-        up : left (len - h) (frameOf n t ∷ fs) ≡ left (len - suc h) (frameOf n v ∷ framesOf n below (suc h))
+        up : listsLeft (len - h) (frameOf n t ∷ fs) ≡ listsLeft (len - suc h) (frameOf n v ∷ framesOf n below (suc h))
         up = rw (frames-up, frame-up, missing-one) (gone-up (len - suc h) (frameOf n t) fs (lt-leb _ _ q) u m z .0)
 
         suc-less : turnsOf n len below (suc h) v < turnsOf n len ls h t
@@ -419,7 +419,7 @@ module _ {x o : List ℕ} {n len : ℕ} {ls : List Level} {g at h : ℕ} {t : Le
         taken : step (seen n (t .nodes) (t .words) (t .waiting)) (eventAt n (t .tried)) ≡ accepted (got .state) (got .mark)
         taken = same-step _ _ _ _ he (got .is)
 
-        pub count-one : g + 1 + length (left (len - h) (frameOf n (onward t) ∷ framesOf n ls h)) < 2 ^ 32
+        pub count-one : g + 1 + length (listsLeft (len - h) (frameOf n (onward t) ∷ framesOf n ls h)) < 2 ^ 32
         count-one = count-more k under _ _ taken last
 
         pub listed-less : turnsOf n len ls h (onward t) < turnsOf n len ls h t

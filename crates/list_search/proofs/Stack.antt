@@ -19,9 +19,35 @@ use Rattle.listing.specs.Printing.{joined}
 use Rattle.short_lists_text.specs.Rows.{each}
 use Rattle.short_lists_text.specs.Lists.{alphabet, listsFrom}
 use Rattle.short_lists_text.specs.Text.{listLine, countLine, fits, textOf}
-use Rattle.list_search.specs.Stack.{Frame, frame, passed, sizeOf, eventAt, path, onFrame, left, stackText, turnsFor, turnsFrom, turnsOn, turnsLeft}
+use Rattle.list_search.specs.Stack.{Frame, frame, sizeOf, eventAt, path, onFrame, listsLeft, stackText}
 
--- ── concatMap ──
+-- one more was tried
+abbrev pub passed : Frame → Frame
+passed f = frame (f .state) (f .tried + 1)
+
+-- ── how many turns are enough: the measure by which the search ends. A turn tries an event, gives a list or leaves a table ──
+
+-- on a table with these events still to try, where x turns are enough on each table above it
+unfoldable pub turnsFor : ℕ → List Event → ℕ
+turnsFor x [] = 1
+turnsFor x (e ∷ es) = suc (x + turnsFor x es)
+
+-- on a new table of n nodes, with r events missing
+unfoldable pub turnsFrom : ℕ → ℕ → ℕ
+turnsFrom n zero = 1
+turnsFrom n (suc r) = turnsFor (turnsFrom n r) (alphabet n)
+
+-- on a frame, with r events missing
+unfoldable pub turnsOn : ℕ → Frame → ℕ
+turnsOn zero f = 1
+turnsOn (suc r) f = turnsFor (turnsFrom (f .state .n) r) (drop (f .tried) (alphabet (f .state .n)))
+
+-- on a stack
+unfoldable pub turnsLeft : ℕ → List Frame → ℕ
+turnsLeft r [] = 1
+turnsLeft r (f ∷ fs) = turnsOn r f + turnsLeft (suc r) fs
+
+-- ── laws of lists ──
 
 each-append : {A B : Type 0} (f : A → B) (xs ys : List A) → each f (xs ++ ys) ≡ each f xs ++ each f ys
 each-append f [] ys = refl
@@ -61,13 +87,13 @@ fresh-frame (suc r) u = refl
 
 -- ── what is left after a turn ──
 
-left-over : (r : ℕ) (f : Frame) (fs : List Frame) → untried f ≡ [] → left (suc r) (f ∷ fs) ≡ left (suc (suc r)) fs
-unfolding left onFrame
+left-over : (r : ℕ) (f : Frame) (fs : List Frame) → untried f ≡ [] → listsLeft (suc r) (f ∷ fs) ≡ listsLeft (suc (suc r)) fs
+unfolding listsLeft onFrame
 left-over r f fs q = rw q
 
 module _ (r : ℕ) (f : Frame) (fs : List Frame) (e : Event) (q : untried f ≡ e ∷ untried (passed f)) where
-  left-refused : (x : ℕ) → step (f .state) e ≡ refused x → left (suc r) (f ∷ fs) ≡ left (suc r) (passed f ∷ fs)
-  unfolding left onFrame
+  left-refused : (x : ℕ) → step (f .state) e ≡ refused x → listsLeft (suc r) (f ∷ fs) ≡ listsLeft (suc r) (passed f ∷ fs)
+  unfolding listsLeft onFrame
   left-refused x h = rw (q, h)
 
   split : (u : State) (m : Mark) → step (f .state) e ≡ accepted u m → onFrame (suc r) f ≡ each (λ l. e ∷ l) (listsFrom r u) ++ onFrame (suc r) (passed f)
@@ -78,33 +104,33 @@ module _ (r : ℕ) (f : Frame) (fs : List Frame) (e : Event) (q : untried f ≡ 
   parted ls rest more =
       rw (each-append (λ l. path fs ++ l) (each (λ l. e ∷ l) ls) rest, each-behind (path fs) e ls) (append-assoc (each (λ l. (path fs ++ (e ∷ [])) ++ l) ls) (each (λ l. path fs ++ l) rest) more)
 
-  left-accepted : (u : State) (m : Mark) → step (f .state) e ≡ accepted u m → path (passed f ∷ fs) ≡ path fs ++ (e ∷ []) → left (suc r) (f ∷ fs) ≡ left r (frame u 0 ∷ passed f ∷ fs)
-  unfolding left
+  left-accepted : (u : State) (m : Mark) → step (f .state) e ≡ accepted u m → path (passed f ∷ fs) ≡ path fs ++ (e ∷ []) → listsLeft (suc r) (f ∷ fs) ≡ listsLeft r (frame u 0 ∷ passed f ∷ fs)
+  unfolding listsLeft
   left-accepted u m h p =
       rw (fresh-frame r u, p)
-      (ap (λ x. each (λ l. path fs ++ l) x ++ left (suc (suc r)) fs) (split u m h) ∙ parted (listsFrom r u) (onFrame (suc r) (passed f)) (left (suc (suc r)) fs))
+      (ap (λ x. each (λ l. path fs ++ l) x ++ listsLeft (suc (suc r)) fs) (split u m h) ∙ parted (listsFrom r u) (onFrame (suc r) (passed f)) (listsLeft (suc (suc r)) fs))
 
-pub left-none : (r : ℕ) → left r [] ≡ []
-unfolding left
+pub left-none : (r : ℕ) → listsLeft r [] ≡ []
+unfolding listsLeft
 left-none r = refl
 
-pub left-given : (f : Frame) (fs : List Frame) → left 0 (f ∷ fs) ≡ path fs ∷ left 1 fs
-unfolding left onFrame
+pub left-given : (f : Frame) (fs : List Frame) → listsLeft 0 (f ∷ fs) ≡ path fs ∷ listsLeft 1 fs
+unfolding listsLeft onFrame
 left-given f fs = rw (append-nil (path fs))
 
 -- ── the text ──
 
-pub text-same : (g r r′ : ℕ) (fs fs′ : List Frame) → left r fs ≡ left r′ fs′ → stackText g r fs ≡ stackText g r′ fs′
+pub text-same : (g r r′ : ℕ) (fs fs′ : List Frame) → listsLeft r fs ≡ listsLeft r′ fs′ → stackText g r fs ≡ stackText g r′ fs′
 unfolding stackText
 text-same g r r′ fs fs′ q = rw q
 
-pub text-over : (g r : ℕ) (fs : List Frame) → left r fs ≡ [] → stackText g r fs ≡ countLine g
+pub text-over : (g r : ℕ) (fs : List Frame) → listsLeft r fs ≡ [] → stackText g r fs ≡ countLine g
 unfolding stackText joined
 text-over g r fs q = let z : g + 0 ≡ g = omega arith in rw (q, append-nil, z)
 
-pub text-given : (g r r′ : ℕ) (fs fs′ : List Frame) (l : List Event) → left r fs ≡ l ∷ left r′ fs′ → stackText g r fs ≡ listLine l ++ stackText (g + 1) r′ fs′
+pub text-given : (g r r′ : ℕ) (fs fs′ : List Frame) (l : List Event) → listsLeft r fs ≡ l ∷ listsLeft r′ fs′ → stackText g r fs ≡ listLine l ++ stackText (g + 1) r′ fs′
 unfolding stackText joined
-text-given g r r′ fs fs′ l q = let z : g + suc (length (left r′ fs′)) ≡ g + 1 + length (left r′ fs′) = omega arith in rw (q, z)
+text-given g r r′ fs fs′ l q = let z : g + suc (length (listsLeft r′ fs′)) ≡ g + 1 + length (listsLeft r′ fs′) = omega arith in rw (q, z)
 
 -- ── how many turns are left ──
 
@@ -127,8 +153,8 @@ same-n s e u m q = ap (λ (x : State). x .n) (accepted-is s e u m q .state)
 
 -- ── the first stack ──
 
-pub all-left : (r : ℕ) (s : State) → left r (frame s 0 ∷ []) ≡ listsFrom r s
-unfolding left path
+pub all-left : (r : ℕ) (s : State) → listsLeft r (frame s 0 ∷ []) ≡ listsFrom r s
+unfolding listsLeft path
 all-left r s = rw (fresh-frame r s, append-nil) (each-same (listsFrom r s))
 
 pub whole-text : (l : List ℕ) → fits l ≡ true → textOf l ≡ stackText 0 (getD l 1 0) (frame (start (getD l 0 0)) 0 ∷ [])
@@ -142,7 +168,7 @@ whole-text l q =
 
 module _ (r : ℕ) (f : Frame) (fs : List Frame) where
   -- all events were tried
-  pub gone : leb (sizeOf (f .state .n)) (f .tried) ≡ true → (left (suc r) (f ∷ fs) ≡ left (suc (suc r)) fs) × (turnsLeft (suc (suc r)) fs < turnsLeft (suc r) (f ∷ fs))
+  pub gone : leb (sizeOf (f .state .n)) (f .tried) ≡ true → (listsLeft (suc r) (f ∷ fs) ≡ listsLeft (suc (suc r)) fs) × (turnsLeft (suc (suc r)) fs < turnsLeft (suc r) (f ∷ fs))
   unfolding turnsLeft
   gone q = (left-over r f fs (all-tried f q), omega (arith, turns-over r f (all-tried f q)))
 
@@ -151,13 +177,13 @@ module _ (r : ℕ) (f : Frame) (fs : List Frame) where
     e = eventAt (f .state .n) (f .tried)
 
     -- the next is refused
-    pub passed-by : (x : ℕ) → step (f .state) e ≡ refused x → (left (suc r) (f ∷ fs) ≡ left (suc r) (passed f ∷ fs)) × (turnsLeft (suc r) (passed f ∷ fs) < turnsLeft (suc r) (f ∷ fs))
+    pub passed-by : (x : ℕ) → step (f .state) e ≡ refused x → (listsLeft (suc r) (f ∷ fs) ≡ listsLeft (suc r) (passed f ∷ fs)) × (turnsLeft (suc r) (passed f ∷ fs) < turnsLeft (suc r) (f ∷ fs))
     unfolding turnsLeft
     passed-by x h = (left-refused r f fs e (one-tried f q) x h, omega (arith, turns-tried r f e (one-tried f q)))
 
     -- it is accepted: its table is put on top
     pub gone-up : (u : State) (m : Mark) → step (f .state) e ≡ accepted u m
-        → (left (suc r) (f ∷ fs) ≡ left r (frame u 0 ∷ passed f ∷ fs)) × (turnsLeft r (frame u 0 ∷ passed f ∷ fs) < turnsLeft (suc r) (f ∷ fs))
+        → (listsLeft (suc r) (f ∷ fs) ≡ listsLeft r (frame u 0 ∷ passed f ∷ fs)) × (turnsLeft r (frame u 0 ∷ passed f ∷ fs) < turnsLeft (suc r) (f ∷ fs))
     unfolding turnsLeft
     gone-up u m h =
         let z : turnsOn r (frame u 0) ≡ turnsFrom (f .state .n) r = fresh-turns r u ∙ ap (λ i. turnsFrom i r) (same-n (f .state) e u m h) in
@@ -165,8 +191,8 @@ module _ (r : ℕ) (f : Frame) (fs : List Frame) where
 
 -- the next is accepted, and the last of a list: that list is given
 pub gave-one : (f : Frame) (fs : List Frame) → leb (sizeOf (f .state .n)) (f .tried) ≡ false → (u : State) (m : Mark) → step (f .state) (eventAt (f .state .n) (f .tried)) ≡ accepted u m
-    → (left 1 (f ∷ fs) ≡ (path fs ++ (eventAt (f .state .n) (f .tried) ∷ [])) ∷ left 1 (passed f ∷ fs)) × (turnsLeft 1 (passed f ∷ fs) < turnsLeft 1 (f ∷ fs))
+    → (listsLeft 1 (f ∷ fs) ≡ (path fs ++ (eventAt (f .state .n) (f .tried) ∷ [])) ∷ listsLeft 1 (passed f ∷ fs)) × (turnsLeft 1 (passed f ∷ fs) < turnsLeft 1 (f ∷ fs))
 unfolding turnsLeft
 gave-one f fs q u m h =
     let e = eventAt (f .state .n) (f .tried) in
-    (gone-up 0 f fs q u m h .0 ∙ left-given (frame u 0) (passed f ∷ fs) ∙ ap (λ p. p ∷ left 1 (passed f ∷ fs)) (path-passed f fs), omega (arith, turns-tried 0 f e (one-tried f q)))
+    (gone-up 0 f fs q u m h .0 ∙ left-given (frame u 0) (passed f ∷ fs) ∙ ap (λ p. p ∷ listsLeft 1 (passed f ∷ fs)) (path-passed f fs), omega (arith, turns-tried 0 f e (one-tried f q)))

@@ -15,7 +15,7 @@ use Rattle.short_lists_text.specs.Text.{textOf}
 use Rattle.list_search.specs.declared.Level.{Level}
 use Rattle.list_search.specs.declared.Search.{Search}
 use Rattle.list_search.specs.declared.Piece.{Piece}
-use Rattle.list_search.specs.Stack.{Frame, frame, sizeOf, path, left, stackText}
+use Rattle.list_search.specs.Stack.{Frame, frame, sizeOf, path, listsLeft, stackText}
 use Rattle.list_search.specs.Line.{beginning}
 
 -- ── the stack of a search ──
@@ -74,7 +74,7 @@ pub record Going (s : Search) (h : ℕ) : Type 0 where
   pub beneath : SoundBelow (s .n) (s .levels) h
   pub top : SoundLevel (s .n) (path (framesOf (s .n) (s .levels) h)) (getD (s .levels) h noLevel)
   -- the count of all lists is a number of 32 bits
-  pub count : s .given + length (left (missing s) (stackOf s)) < 2 ^ 32
+  pub count : s .given + length (listsLeft (missing s) (stackOf s)) < 2 ^ 32
 
 abbrev pub Sound : Search → Type 0
 Sound s = (s .n ≡ 0) ⊎ Going s (s .height - 1)
