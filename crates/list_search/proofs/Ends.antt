@@ -27,10 +27,10 @@ use Rattle.list_search.specs.declared.Search.{Search}
 use Rattle.list_search.specs.declared.Piece.{Piece}
 use Rattle.list_search.specs.Stack.{Frame, frame, path, listsLeft, stackText}
 use Rattle.list_search.specs.Line.{beginning}
-use Rattle.list_search.specs.Search.{noLevel, frameOf, framesOf, stackOf, missing, textLeft, SoundLevel, Going, Sound, First, Begun, Gave, Call, writtenBy, Calls, searchAfter, PiecesMakeText}
+use Rattle.list_search.specs.Search.{noLevel, frameOf, framesOf, stackOf, missing, textLeft, SoundLevel, Going, Sound, First, Begun, Gave, Call, writtenBy, Calls, searchAfter, EndsLine, AllPieces}
 use Rattle.list_search.proofs.Stack.{all-left, whole-text, left-given, left-none, text-given, text-over}
 use Rattle.list_search.proofs.Lines.{line-empty}
-use Rattle.list_search.proofs.Loop.{text-of}
+use Rattle.list_search.proofs.Loop.{text-of, ends-after, count-ends}
 
 -- ── the first search ──
 
@@ -72,7 +72,7 @@ module _ (n k : ℕ) (s : Search) (f : First n k s) where
           words = w .words;
           range = rw (f .nodes) (ap inRange (w .state) ∙ stays-in-range .starts n low (omega (arith, high)));
           within = rw (w .tried) (omega arith);
-          room = w .room;
+          space = w .space;
           end = rw (w .end) (omega arith);
           line = rw (w .end);
         }
@@ -86,7 +86,7 @@ module _ (n k : ℕ) (s : Search) (f : First n k s) where
       some = rw (f .nodes) low;
       few = rw (f .nodes) high;
       long = rw (f .events) long;
-      room = f .room;
+      levels = f .levels;
       height = f .height;
       below = below-is (s .length) refl;
       beneath = tt;
@@ -123,6 +123,12 @@ stopped-bytes = refl
 pub refused-text : (s : Search) → s .n ≡ 0 → textLeft s ≡ bytes "stopped 0 16\n"
 unfolding textLeft
 refused-text s q = rw (q, pick-true) stopped-bytes
+
+pub refused-line : EndsLine (bytes "stopped 0 16\n")
+refused-line = record { before = bytes "stopped 0 16"; is = refl }
+
+pub empty-lines : (k : ℕ) → EndsLine (bytes "\n" ++ countLine k)
+empty-lines k = ends-after (bytes "\n") (countLine k) (count-ends k)
 
 -- the one list of no events, and then the last line
 module _ (s : Search) (h : ℕ) (c : Going s h) (z : s .length ≡ 0) where
@@ -162,11 +168,12 @@ module _ (s : Search) (h : ℕ) (c : Going s h) (z : s .length ≡ 0) where
       omega (arith, d, e)
 
 -- the whole text is one piece
-pub gave-whole : (s : Search) (o x o′ : List ℕ) (r : ℕ) → textLeft s ≡ x → Appended o 0 x o′ r → 1 ≤ length x → Gave s o′ (record { written = r; done = true; search = s })
-gave-whole s o x o′ r q w l = record {
+pub gave-whole : (s : Search) (o x o′ : List ℕ) (r : ℕ) → textLeft s ≡ x → Appended o 0 x o′ r → 1 ≤ length x → EndsLine x → Gave s o′ (record { written = r; done = true; search = s })
+gave-whole s o x o′ r q w l e = record {
   text = rw pick-true (q ∙ sym (w .text) ∙ sym (append-nil (take r o′)));
-  room = w .fits;
+  fits = w .fits;
   some = let n = w .next in omega (arith, n, l);
+  lines = subst EndsLine (sym (w .text)) e;
   sound = λ z. absurd (true≢false z);
 }
 
@@ -181,7 +188,7 @@ pub less-left : (s : Search) (o : List ℕ) (p : Piece) → Gave s o p → p .do
 less-left s o p g d =
     let e = ap length (rw (d, pick-false) at (g .text)) in
     let a = length-append (take (p .written) o) (textLeft (p .search)) in
-    let w : length (take (p .written) o) ≡ p .written = length-take-le (p .written) o (g .room) in
+    let w : length (take (p .written) o) ≡ p .written = length-take-le (p .written) o (g .fits) in
     let i = g .some in
     omega (arith, e, a, w, i)
 
@@ -203,11 +210,11 @@ each-writes : (s : Search) (cs : List Call) → Calls s cs → length cs ≤ len
 each-writes s [] a = omega arith
 each-writes s (c ∷ cs) a =
     let i = each-writes (c .piece .search) cs (a .2) in
-    let w : length (take (c .piece .written) (c .buffer)) ≡ c .piece .written = length-take-le (c .piece .written) (c .buffer) (a .0 .room) in
+    let w : length (take (c .piece .written) (c .buffer)) ≡ c .piece .written = length-take-le (c .piece .written) (c .buffer) (a .0 .fits) in
     let o = a .0 .some in
     simp length-append (omega (arith, i, w, o))
 
-pub pieces-make-text : (l : List ℕ) (s : Search) → Begun l s → PiecesMakeText l s
+pub pieces-make-text : AllPieces
 pieces-make-text l s b = record {
   whole = λ cs c a g d. written-more cs c ∙ ap (λ x. writtenBy cs ++ x) (sym (append-nil _) ∙ sym (rw (d, pick-true) at (g .text))) ∙ sym (part-of s cs a) ∙ b .text;
   part = λ cs a. sym (b .text) ∙ part-of s cs a;

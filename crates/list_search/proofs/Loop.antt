@@ -18,6 +18,8 @@ use Rattle.model.specs.declared.Mark.{Mark}
 use Rattle.model.specs.declared.Node.{Node}
 use Rattle.model.specs.declared.Event.{Event}
 use Rattle.listing.specs.Ascii.{bytes}
+use Rattle.listing.specs.Decimal.{decimal}
+use Rattle.listing.specs.Lines.{row}
 use Rattle.listing.specs.Printing.{Appended}
 use Rattle.packed.specs.Seen.{seen}
 use Rattle.machine.specs.Parts.{isAccepted, without, Room, leftOf}
@@ -29,7 +31,7 @@ use Rattle.list_search.specs.declared.Level.{Level}
 use Rattle.list_search.specs.declared.Search.{Search}
 use Rattle.list_search.specs.Stack.{Frame, frame, sizeOf, eventAt, path, listsLeft, stackText}
 use Rattle.list_search.specs.Line.{beginning}
-use Rattle.list_search.specs.Search.{noLevel, frameOf, framesOf, textLeft, SoundLevel, SoundBelow, Going, Gave}
+use Rattle.list_search.specs.Search.{noLevel, frameOf, framesOf, textLeft, SoundLevel, SoundBelow, Going, EndsLine, Gave}
 use Rattle.list_search.proofs.Stack.{turnsLeft, text-same, text-over, text-given, left-none, gone, passed-by, gone-up, gave-one, path-passed}
 use Rattle.list_search.proofs.Lines.{beginning-more, line-ends}
 
@@ -61,7 +63,7 @@ pub record Kept (x o : List ℕ) (n len : ℕ) (ls : List Level) (h : ℕ) (t : 
   pub some : 1 ≤ n
   pub few : n ≤ 3
   pub long : len ≤ 7
-  pub room : length ls ≡ 8
+  pub levels : length ls ≡ 7
   pub below : h < len
   pub beneath : SoundBelow n ls h
   pub top : SoundLevel n (path (framesOf n ls h)) t
@@ -106,7 +108,7 @@ module _ {x o : List ℕ} {n len : ℕ} {ls : List Level} {g at : ℕ} where
       some = k .some;
       few = k .few;
       long = k .long;
-      room = k .room;
+      levels = k .levels;
       below = omega (arith, k .below);
       beneath = k .beneath .2;
       top = k .beneath .0;
@@ -140,7 +142,7 @@ module _ {x o : List ℕ} {n len : ℕ} {ls : List Level} {g at : ℕ} where
     onward-sound : SoundLevel n (path fs) (onward t)
     onward-sound =
         let p = k .top in
-        record { nodes = p .nodes; words = p .words; range = p .range; within = omega (arith, q); room = p .room; end = p .end; line = p .line }
+        record { nodes = p .nodes; words = p .words; range = p .range; within = omega (arith, q); space = p .space; end = p .end; line = p .line }
 
     -- refused
     module _ (r : ℕ) (z : step s e ≡ refused r) where
@@ -152,7 +154,7 @@ module _ {x o : List ℕ} {n len : ℕ} {ls : List Level} {g at : ℕ} where
         some = k .some;
         few = k .few;
         long = k .long;
-        room = k .room;
+        levels = k .levels;
         below = k .below;
         beneath = k .beneath;
         top = onward-sound;
@@ -197,7 +199,7 @@ module _ {x o : List ℕ} {n len : ℕ} {ls : List Level} {g at : ℕ} where
             some = k .some;
             few = k .few;
             long = k .long;
-            room = k .room;
+            levels = k .levels;
             below = k .below;
             beneath = k .beneath;
             top = onward-sound;
@@ -216,7 +218,7 @@ module _ {x o : List ℕ} {n len : ℕ} {ls : List Level} {g at : ℕ} where
         frames-up : framesOf n below (suc h) ≡ frameOf n (onward t) ∷ fs
         unfolding framesOf
         frames-up =
-            let d : getD below h noLevel ≡ onward t = getD-set-same ls h (onward t) noLevel (omega (arith, k .room, k .below, k .long)) in
+            let d : getD below h noLevel ≡ onward t = getD-set-same ls h (onward t) noLevel (omega (arith, k .levels, k .below, k .long)) in
             rw (d, frames-below n ls h (onward t) h (omega arith))
 
         path-up : path (framesOf n below (suc h)) ≡ path fs ++ (e ∷ [])
@@ -237,14 +239,14 @@ module _ {x o : List ℕ} {n len : ℕ} {ls : List Level} {g at : ℕ} where
           words = rd .words;
           range = rd .range;
           within = omega (arith, i);
-          room = w .long ∙ k .top .room;
+          space = w .long ∙ k .top .space;
           end = let b = k .top .end in rw path-up (simp length-append (omega (arith, b, y)));
           line = w .text ∙ ap (λ l. l ++ (eventText e ++ bytes ", ")) (k .top .line) ∙ sym (beginning-more (path fs) e) ∙ ap beginning (sym path-up);
         }
 
         below-sound : SoundBelow n below (suc h)
         below-sound =
-            let d : getD below h noLevel ≡ onward t = getD-set-same ls h (onward t) noLevel (omega (arith, k .room, k .below, k .long)) in
+            let d : getD below h noLevel ≡ onward t = getD-set-same ls h (onward t) noLevel (omega (arith, k .levels, k .below, k .long)) in
             rw (d, frames-below n ls h (onward t) h (omega arith)) (onward-sound, omega arith, sound-below n ls h (onward t) h (omega arith) (k .beneath))
 
         pushed-suc : v .end ≤ t .end + 18 → Kept x o n len below (suc h) v g at
@@ -252,7 +254,7 @@ module _ {x o : List ℕ} {n len : ℕ} {ls : List Level} {g at : ℕ} where
           some = k .some;
           few = k .few;
           long = k .long;
-          room = simp length-set (k .room);
+          levels = simp length-set (k .levels);
           below = more;
           beneath = below-sound;
           top = top-sound y;
@@ -288,7 +290,7 @@ loop-starts s o h c l z =
       some = c .some;
       few = c .few;
       long = c .long;
-      room = c .room;
+      levels = c .levels;
       below = under (c .below);
       beneath = c .beneath;
       top = c .top;
@@ -302,12 +304,20 @@ loop-starts s o h c l z =
     under (inl q) = q
     under (inr q) = absurd (omega (arith, q .0, l))
 
+pub ends-after : (x y : List ℕ) → EndsLine y → EndsLine (x ++ y)
+ends-after x y e = record { before = x ++ e .before; is = ap (λ l. x ++ l) (e .is) ∙ sym (append-assoc x (e .before) (bytes "\n")) }
+
+pub count-ends : (k : ℕ) → EndsLine (countLine k)
+unfolding countLine row
+count-ends k = record { before = bytes "lists" ++ (bytes " " ++ decimal k); is = rw append-assoc }
+
 -- the last piece
 pub gave-last : (s : Search) (o : List ℕ) (g at : ℕ) (o′ : List ℕ) (r : ℕ) → textLeft s ≡ take at o ++ countLine g → Appended o at (countLine g) o′ r → at < r → Gave s o′ (record { written = r; done = true; search = s })
 gave-last s o g at o′ r x w l = record {
   text = rw pick-true (x ∙ sym (w .text) ∙ sym (append-nil (take r o′)));
-  room = w .fits;
+  fits = w .fits;
   some = omega (arith, l);
+  lines = subst EndsLine (sym (w .text)) (ends-after (take at o) (countLine g) (count-ends g));
   sound = λ q. absurd (true≢false q);
 }
 
@@ -318,7 +328,7 @@ module _ {x o : List ℕ} {n len : ℕ} {ls : List Level} {g at h : ℕ} {t : Le
   goes-on = record { n = n; length = len; given = g + 1; height = h + 1; levels = set ls h (onward t) }
 
   stored : getD (set ls h (onward t)) h noLevel ≡ onward t
-  stored = getD-set-same ls h (onward t) noLevel (omega (arith, k .room, k .below, k .long))
+  stored = getD-set-same ls h (onward t) noLevel (omega (arith, k .levels, k .below, k .long))
 
   stays : framesOf n (set ls h (onward t)) h ≡ framesOf n ls h
   stays = frames-below n ls h (onward t) h (omega arith)
@@ -332,7 +342,7 @@ module _ {x o : List ℕ} {n len : ℕ} {ls : List Level} {g at h : ℕ} {t : Le
         some = k .some;
         few = k .few;
         long = k .long;
-        room = simp length-set (k .room);
+        levels = simp length-set (k .levels);
         height = refl;
         below = inl (k .below);
         beneath = sound-below n ls h (onward t) h (omega arith) (k .beneath);
@@ -344,16 +354,17 @@ module _ {x o : List ℕ} {n len : ℕ} {ls : List Level} {g at h : ℕ} {t : Le
       → Gave s o′ (record { written = r; done = false; search = goes-on })
   gave-more o′ r w s c l = record {
     text = rw pick-false (sym c ∙ given-text k q u m z last w ∙ ap (λ y. take r o′ ++ y) (sym (text-of goes-on h going ∙ rw (stays, stored))));
-    room = w .fits;
+    fits = w .fits;
     some = omega (arith, l);
+    lines = subst EndsLine (sym (w .text)) (ends-after (take at o) _ (ends-after (take (t .end) (t .line)) _ (record { before = eventText (eventAt n (t .tried)); is = refl })));
     sound = λ _. let i : h + 1 - 1 ≡ h = omega arith in inr (subst (Going goes-on) (sym i) going);
   }
 
--- the topmost level is one of the eight
-pub top-place : (s : Search) (h : ℕ) → Going s h → h < 8
+-- the topmost level is one of the seven
+pub top-place : (s : Search) (h : ℕ) → Going s h → h < 7
 top-place s h c = by (c .below)
   where
-    by : (h < s .length) ⊎ ((s .length ≡ 0) × (h ≡ 0)) → h < 8
+    by : (h < s .length) ⊎ ((s .length ≡ 0) × (h ≡ 0)) → h < 7
     by (inl q) = omega (arith, q, c .long)
     by (inr q) = omega (arith, q .1)
 

@@ -41,6 +41,7 @@ eventBy n i =
     (pick (ltb (i - 7 * n) (pairCount n)) (Deliver (sender n (i - 7 * n)) (receiver n (i - 7 * n)))
     (Lose (sender n (i - 7 * n - pairCount n)) (receiver n (i - 7 * n - pairCount n))))
 
+-- for 1, 2 and 3 nodes this is the alphabet
 pub record ByPlace : Type 0 where
   pub size : (n : ℕ) → 1 ≤ n → n ≤ 3 → sizeOf n ≡ eventCount n
   pub event : (n i : ℕ) → 1 ≤ n → n ≤ 3 → i < eventCount n → eventAt n i ≡ eventBy n i

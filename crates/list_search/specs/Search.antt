@@ -10,8 +10,8 @@ use Rattle.model.specs.Pick.{pick}
 use Rattle.model.specs.State.{start, inRange}
 use Rattle.model.specs.declared.Event.{Event}
 use Rattle.packed.specs.Seen.{seen}
-use Rattle.listing.specs.Lines.{stoppedLine}
-use Rattle.short_lists_text.specs.Text.{textOf}
+use Rattle.listing.specs.Ascii.{bytes}
+use Rattle.short_lists_text.specs.Text.{refusalText, textOf}
 use Rattle.list_search.specs.declared.Level.{Level}
 use Rattle.list_search.specs.declared.Search.{Search}
 use Rattle.list_search.specs.declared.Piece.{Piece}
@@ -20,7 +20,7 @@ use Rattle.list_search.specs.Line.{beginning}
 
 -- ── the stack of a search ──
 
--- a level that is none
+-- what stands where there is no level
 abbrev pub noLevel : Level
 noLevel = record { nodes = []; words = []; waiting = 0; tried = 0; line = []; end = 0 }
 
@@ -42,7 +42,7 @@ missing s = s .length + 1 - s .height
 
 -- the text that a search still gives; 0 nodes stand for an input that is refused
 unfoldable pub textLeft : Search → List ℕ
-textLeft s = pick (eqb (s .n) 0) (stoppedLine 0 16) (stackText (s .given) (missing s) (stackOf s))
+textLeft s = pick (eqb (s .n) 0) refusalText (stackText (s .given) (missing s) (stackOf s))
 
 -- ── what is so of every search that is given ──
 
@@ -52,12 +52,12 @@ pub record SoundLevel (n : ℕ) (p : List Event) (l : Level) : Type 0 where
   pub words : length (l .words) ≡ 256
   pub range : inRange (seen n (l .nodes) (l .words) (l .waiting)) ≡ true
   pub within : l .tried ≤ sizeOf n
-  -- the beginning of the lines of all lists from there
-  pub room : length (l .line) ≡ 128
+  -- the beginning of the line of every list through it; an event, with a comma and a space, has at most 18 bytes, as in `finish 255 65535, `
+  pub space : length (l .line) ≡ 128
   pub end : l .end ≤ 18 * length p
   pub line : take (l .end) (l .line) ≡ beginning p
 
--- of the first h levels, above each of which another stands: an event was tried, the one that led there
+-- of the first h levels, above each of which another stands: an event was tried on it, the one that led there
 abbrev pub SoundBelow : ℕ → List Level → ℕ → Type 0
 SoundBelow n ls zero = Unit {0}
 SoundBelow n ls (suc h) = SoundLevel n (path (framesOf n ls h)) (getD ls h noLevel) × (1 ≤ getD ls h noLevel .tried) × SoundBelow n ls h
@@ -67,7 +67,7 @@ pub record Going (s : Search) (h : ℕ) : Type 0 where
   pub some : 1 ≤ s .n
   pub few : s .n ≤ 3
   pub long : s .length ≤ 7
-  pub room : length (s .levels) ≡ 8
+  pub levels : length (s .levels) ≡ 7
   pub height : s .height ≡ h + 1
   -- an event is missing behind the topmost table, or the empty list is asked for
   pub below : (h < s .length) ⊎ ((s .length ≡ 0) × (h ≡ 0))
@@ -76,6 +76,7 @@ pub record Going (s : Search) (h : ℕ) : Type 0 where
   -- the count of all lists is a number of 32 bits
   pub count : s .given + length (listsLeft (missing s) (stackOf s)) < 2 ^ 32
 
+-- of any: it is for an input that is refused, or it goes on
 abbrev pub Sound : Search → Type 0
 Sound s = (s .n ≡ 0) ⊎ Going s (s .height - 1)
 
@@ -87,7 +88,7 @@ pub record Lowest (n : ℕ) (l : Level) : Type 0 where
   pub nodes : length (l .nodes) ≡ 16
   pub words : length (l .words) ≡ 256
   pub tried : l .tried ≡ 0
-  pub room : length (l .line) ≡ 128
+  pub space : length (l .line) ≡ 128
   pub end : l .end ≡ 0
 
 -- the search for lists of k events among n nodes, before anything was given
@@ -96,7 +97,7 @@ pub record First (n k : ℕ) (s : Search) : Type 0 where
   pub events : s .length ≡ k
   pub given : s .given ≡ 0
   pub height : s .height ≡ 1
-  pub room : length (s .levels) ≡ 8
+  pub levels : length (s .levels) ≡ 7
   pub lowest : Lowest n (getD (s .levels) 0 noLevel)
 
 -- ── the promises ──
@@ -106,18 +107,26 @@ pub record Begun (l : List ℕ) (s : Search) : Type 0 where
   pub sound : Sound s
   pub text : textLeft s ≡ textOf l
 
--- the text that comes after a piece: none behind the last
+-- the text that comes after a piece: none after the last
 abbrev pub textAfter : Piece → List ℕ
 textAfter p = pick (p .done) [] (textLeft (p .search))
 
--- a piece of the text that s still gives, at the start of the buffer, which then holds o
+-- x ends with a line
+pub record EndsLine (x : List ℕ) : Type 0 where
+  pub before : List ℕ
+  pub is : x ≡ before ++ bytes "\n"
+
+-- A piece of the text that s still gives, at the start of the buffer, which then holds o. Free are: how many lines the piece has, at least one; what the buffer holds
+-- after it; and the search, where the piece is the last.
 pub record Gave (s : Search) (o : List ℕ) (p : Piece) : Type 0 where
   -- what was written, and then what comes after it, is the text that s still gave
   pub text : textLeft s ≡ take (p .written) o ++ textAfter p
-  pub room : p .written ≤ length o
+  pub fits : p .written ≤ length o
   -- something was written, so the pieces come to an end
   pub some : 1 ≤ p .written
-  -- and the search goes on
+  -- and no line is parted
+  pub lines : EndsLine (take (p .written) o)
+  -- the search can be called again
   pub sound : p .done ≡ false → Sound (p .search)
 
 -- ── calls one after another ──
@@ -142,13 +151,17 @@ abbrev pub searchAfter : Search → List Call → Search
 searchAfter s [] = s
 searchAfter s (c ∷ cs) = searchAfter (c .piece .search) cs
 
--- The pieces of an input's text. l is any input, and s the search that `begin` gives for it.
+-- The pieces of the text of the input l, from the search s on. Each call comes back: only functions that end are accepted by the check.
 pub record PiecesMakeText (l : List ℕ) (s : Search) : Type 0 where
   -- the calls up to the one that says that it is done have written the text, whole
   pub whole : (cs : List Call) (c : Call) → Calls s cs → Gave (searchAfter s cs) (c .buffer) (c .piece) → c .piece .done ≡ true → writtenBy (cs ++ (c ∷ [])) ≡ textOf l
   -- up to any other they have written a part of it, and what is left is what the search still gives
   pub part : (cs : List Call) → Calls s cs → textOf l ≡ writtenBy cs ++ textLeft (searchAfter s cs)
-  -- which can be called again
+  -- and the search can be called again
   pub again : (cs : List Call) → Calls s cs → Sound (searchAfter s cs)
-  -- and they come to an end: there are no more of them than the text has bytes
+  -- they come to an end: there are no more of them than the text has bytes
   pub ends : (cs : List Call) → Calls s cs → length cs ≤ length (textOf l)
+
+-- for any input, and the search that `begin` gives for it
+abbrev pub AllPieces : Type 0
+AllPieces = (l : List ℕ) (s : Search) → Begun l s → PiecesMakeText l s

@@ -12,14 +12,14 @@ use line::LINE;
 use model::Node;
 use packed::WORDS;
 
-// A list of 7 events goes through 8 tables; the last is never needed.
-const LEVELS: usize = 8;
+// A list of 7 events goes through 8 tables; the last of them is not needed.
+const LEVELS: usize = 7;
 
-// The bytes of a piece.
+// The room for a piece.
 pub const PIECE: usize = 65536;
 
-// A table on the way to lists, its messages as words; how many events of the alphabet were tried on it; and the beginning of the line of every list through it, of
-// which the first end bytes count.
+// A table on the way to lists, its messages as words; how many events of the alphabet were tried on it; and the beginning of the line of every list through it, which is
+// the first end bytes of line.
 struct Level {
     nodes: [Node; 16],
     words: [u32; WORDS],
@@ -34,12 +34,12 @@ pub struct Search {
     n: u8,
     length: usize,
     given: u32,
-    // how many levels of the stack count, the lowest first
+    // how many levels of the stack are used, the lowest first
     height: usize,
     levels: [Level; LEVELS],
 }
 
-// So many bytes were written: the last ones, or the search that goes on with the next.
+// So many bytes were written. Where that is not the last of the text, search goes on with the next; else it means nothing.
 pub struct Piece {
     pub written: usize,
     pub done: bool,
@@ -166,7 +166,7 @@ fn empty_list(s: Search, out: &mut [u8; PIECE]) -> Piece
     }
 }
 
-// The next whole lines of the text that s still gives, at the start of out: called with the search that the call before gave, until one says that it is done.
+// The next whole lines of the text that s still gives, at the start of out: to be called with the search that the call before gave, until one says that it is done.
 pub fn next_lines(s: Search, out: &mut [u8; PIECE]) -> Piece
     requires { ⌜ Sound s ⌝ }
     ensures { λ r. ⌜ Gave s (now (out .exit)) r ⌝ }

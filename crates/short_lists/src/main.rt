@@ -1,11 +1,13 @@
 // The program of T-01: reads two bytes, n and a length, from standard input, and writes the text of all lists of that length to standard output, piece by piece.
-// Where the input can't be read nothing is printed; where a piece can't be written nothing more is. Standard error says why.
+// Where the input can't be read nothing is printed; where a piece can't be written nothing more is written. Standard error says why.
+// What a program reads and writes no promise can say. To be seen in this file: all that was read, and no more, goes to `begin`; each piece is written once, its
+// first `written` bytes, before the next is made; and it stops only after the last or where a write fails.
 use list_search::PIECE;
 use standard_io::Input;
 ghost use mathlib.Core.Path.{_≡_};
 ghost use lib.ListN.{length};
 
-// One byte more than an input may have.
+// One byte more than an input may have. Of a longer one only so many are read, which is enough: `Refuses.first-three` in short_lists_text.
 const INPUT_SPACE: usize = 3;
 
 fn input_space() -> [u8; INPUT_SPACE]

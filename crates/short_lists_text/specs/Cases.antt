@@ -21,14 +21,14 @@ pub record TextCases : Type 0 where
   pub two-of-two : textOf (2 ∷ 2 ∷ [])
       ≡ bytes "recover 1, crash 1\nrecover 1, recover 2\nrecover 1, check 1\nrecover 1, timeout 1\nrecover 2, crash 2\nrecover 2, recover 1\nrecover 2, check 2\nrecover 2, timeout 2\nlists 8\n"
   -- long enough that the first event that differs is not the last or the one before it
-  pub four : textOf (1 ∷ 4 ∷ []) ≡ 
+  pub four : textOf (1 ∷ 4 ∷ []) ≡
       bytes "recover 1, crash 1, recover 1, crash 1\nrecover 1, crash 1, recover 1, check 1\nrecover 1, crash 1, recover 1, timeout 1\nrecover 1, check 1, crash 1, recover 1\n"
       ++ (bytes "recover 1, check 1, check 1, crash 1\nrecover 1, check 1, check 1, check 1\nrecover 1, check 1, check 1, timeout 1\nrecover 1, check 1, timeout 1, crash 1\n"
       ++ (bytes "recover 1, check 1, timeout 1, check 1\nrecover 1, check 1, timeout 1, timeout 1\nrecover 1, timeout 1, crash 1, recover 1\nrecover 1, timeout 1, check 1, crash 1\n"
       ++ (bytes "recover 1, timeout 1, check 1, check 1\nrecover 1, timeout 1, check 1, timeout 1\nrecover 1, timeout 1, timeout 1, crash 1\nrecover 1, timeout 1, timeout 1, check 1\n"
       ++ bytes "recover 1, timeout 1, timeout 1, timeout 1\nlists 17\n")))
   -- each event's name and numbers, and their order, for three nodes
-  pub events : joined (each (λ e. listLine (e ∷ [])) (alphabet 3)) ≡ 
+  pub events : joined (each (λ e. listLine (e ∷ [])) (alphabet 3)) ≡
       bytes "crash 1\ncrash 2\ncrash 3\nrecover 1\nrecover 2\nrecover 3\ncheck 1\ncheck 2\n"
       ++ (bytes "check 3\ntimeout 1\ntimeout 2\ntimeout 3\ntick 1\ntick 2\ntick 3\nexpire 1\n"
       ++ (bytes "expire 2\nexpire 3\nfinish 1 100\nfinish 2 100\nfinish 3 100\ndeliver 1 2\ndeliver 1 3\ndeliver 2 1\n"
@@ -38,7 +38,7 @@ pub record TextCases : Type 0 where
   pub words : listLine (Crash 1 ∷ Recover 2 ∷ Check 3 ∷ Timeout 1 ∷ Tick 2 ∷ Expire 3 ∷ Finish 1 (record { number = onlyTask }) ∷ Deliver 1 2 ∷ Lose 2 3 ∷ [])
       ≡ bytes "crash 1, recover 2, check 3, timeout 1, tick 2, expire 3, finish 1 100, deliver 1 2, lose 2 3\n"
   -- where a message waits for each pair of three nodes
-  pub pairs : joined (linesOf (listsFrom 1 (run 3 (Recover 1 ∷ Recover 2 ∷ Recover 3 ∷ Check 1 ∷ Expire 1 ∷ Check 2 ∷ Expire 2 ∷ Check 3 ∷ Expire 3 ∷ [])))) ≡ 
+  pub pairs : joined (linesOf (listsFrom 1 (run 3 (Recover 1 ∷ Recover 2 ∷ Recover 3 ∷ Check 1 ∷ Expire 1 ∷ Check 2 ∷ Expire 2 ∷ Check 3 ∷ Expire 3 ∷ [])))) ≡
       bytes "crash 1\ncrash 2\ncrash 3\nexpire 1\nexpire 2\nexpire 3\ndeliver 1 2\ndeliver 1 3\ndeliver 2 1\ndeliver 2 3\n"
       ++ bytes "deliver 3 1\ndeliver 3 2\nlose 1 2\nlose 1 3\nlose 2 1\nlose 2 3\nlose 3 1\nlose 3 2\nlists 18\n"
   -- where a node collects, and where one waits

@@ -15,7 +15,7 @@ returns c =
       nodes = ap (λ (t : Table). length (t .nodes)) (s .exact);
       words = c .before .none .ensures;
       tried = refl;
-      room = c .blank-line .ensures;
+      space = c .blank-line .ensures;
       end = refl;
     }
 

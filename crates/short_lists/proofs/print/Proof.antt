@@ -21,10 +21,10 @@ next-lines-requires : tie.Need-next-lines-requires Inv-loop μ-loop
 next-lines-requires c κs = c .before .loop .inv
 
 array-share-prefix-out : tie.Need-array-share-prefix-out Inv-loop μ-loop
-array-share-prefix-out c = c .next-lines .ensures .room
+array-share-prefix-out c = c .next-lines .ensures .fits
 
 slice-aggregate-write-all : tie.Need-slice-aggregate-write-all Inv-loop μ-loop
-slice-aggregate-write-all c = sym (length-take-le _ _ (c .before .next-lines .ensures .room))
+slice-aggregate-write-all c = sym (length-take-le _ _ (c .before .next-lines .ensures .fits))
 
 loop-less : tie.Need-loop-less Inv-loop μ-loop
 loop-less c = less-left _ _ _ (c .before .before .before .before .before .next-lines .ensures) (c .before .if2 .left)
