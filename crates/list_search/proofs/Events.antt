@@ -2,8 +2,12 @@
 use Prim.Native.Nat.{ℕ, zero, suc, _+_, _≤_, _<_}
 use native.Mathlib.Omega.{arith}
 use mathlib.Core.Path.{_≡_, refl, _∙_, ap}
-use mathlib.Core.List.{[]}
-use lib.ListN.{getD}
+use mathlib.Core.Bool.{Bool, true, false}
+use mathlib.Core.List.{List, []}
+use lib.Dec.{eqb}
+use lib.ListN.{length, getD, set}
+use lib.Seq.{getD-set-same, getD-set-other}
+use borrow.Author.Tests.{eqb-true, eqb-false}
 use Rattle.model.specs.Pick.{pick}
 use Rattle.model.specs.declared.Event.{Event}
 use Rattle.model.specs.declared.Event.the-variants.{Crash}
@@ -51,3 +55,16 @@ by-place = record {
   size = sizes;
   event = λ n i a b. of-three (λ m. i < eventCount m → eventAt m i ≡ eventBy m i) (at-place 1 7 i one-node) (at-place 2 18 i two-nodes) (at-place 3 33 i three-nodes) n a b;
 }
+
+-- ── the events in an array ──
+
+-- those before i stand there
+abbrev pub Filled : ℕ → List Event → ℕ → Type 0
+Filled n es i = (j : ℕ) → j < i → getD es j (Crash 0) ≡ eventAt n j
+
+pub one-filled : (n : ℕ) (es : List Event) (i : ℕ) (e : Event) → i < length es → e ≡ eventAt n i → Filled n es i → Filled n (set es i e) (i + 1)
+one-filled n es i e h q f j l = by (eqb j i) refl
+  where
+    by : (b : Bool) → eqb j i ≡ b → getD (set es i e) j (Crash 0) ≡ eventAt n j
+    by true z = let y = eqb-true j i z in rw y (getD-set-same es i e (Crash 0) h ∙ q)
+    by false z = let y = eqb-false j i z in getD-set-other es i j e (Crash 0) y ∙ f j (omega (arith, l, y))

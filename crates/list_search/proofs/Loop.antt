@@ -397,7 +397,7 @@ module _ {x o : List ℕ} {n len : ℕ} {ls : List Level} {g at h : ℕ} {t : Le
     down-less = subst (λ i. turnsOf n len ls (h - 1) (getD ls (h - 1) noLevel) < turnsOf n len ls i t) (sym up-one) (popped-less above (all q))
 
   -- e is tried: i is its node's place, and r what is ruled
-  module _ (d : t .tried ≡ c → ⊥) {e : Event} (he : e ≡ eventAt n (t .tried)) {i : ℕ} (hi : i ≡ (actor e + 15) % 16) (b : Node) {r : Ruling}
+  module _ (d : t .tried ≡ c → ⊥) {e : Event} (he : t .tried < sizeOf n → e ≡ eventAt n (t .tried)) {i : ℕ} (hi : i ≡ (actor e + 15) % 16) (b : Node) {r : Ruling}
       (j : Ruled (t .words) n (t .waiting) (getD (t .nodes) i b) e r) where
     under : t .tried < sizeOf n
     under = let w = k .top .within in omega (arith, w, hc, d)
@@ -407,7 +407,7 @@ module _ {x o : List ℕ} {n len : ℕ} {ls : List Level} {g at h : ℕ} {t : Le
 
     module _ (no : isAccepted (r .verdict .answer) ≡ false) where
       refusal : step (seen n (t .nodes) (t .words) (t .waiting)) (eventAt n (t .tried)) ≡ refused (answerNumber (r .verdict .answer))
-      refusal = same-step _ _ _ _ he (refused-step _ _ _ _ rd e i hi b r j no)
+      refusal = same-step _ _ _ _ (he under) (refused-step _ _ _ _ rd e i hi b r j no)
 
       pub turned-down : Kept x o n len ls h (onward t) g at
       turned-down = refused-kept k under _ refusal
@@ -428,7 +428,7 @@ module _ {x o : List ℕ} {n len : ℕ} {ls : List Level} {g at h : ℕ} {t : Le
         got = step-accepts _ _ _ _ rd e i hi b r j yes
 
         taken : step (seen n (t .nodes) (t .words) (t .waiting)) (eventAt n (t .tried)) ≡ accepted (got .state) (got .mark)
-        taken = same-step _ _ _ _ he (got .is)
+        taken = same-step _ _ _ _ (he under) (got .is)
 
         pub count-one : g + 1 + length (listsLeft (len - h) (frameOf n (onward t) ∷ framesOf n ls h)) < 2 ^ 32
         count-one = count-more k under _ _ taken last
@@ -438,7 +438,7 @@ module _ {x o : List ℕ} {n len : ℕ} {ls : List Level} {g at h : ℕ} {t : Le
 
         module _ {o′ : List ℕ} {p : ℕ} (w : Appended o at (take (t .end) (t .line) ++ (eventText e ++ bytes "\n")) o′ p) where
           line-of : Appended o at (take (t .end) (t .line) ++ (eventText (eventAt n (t .tried)) ++ bytes "\n")) o′ p
-          line-of = rw he at w
+          line-of = rw (he under) at w
 
           pub listed : p ≤ 65408 → Kept x o′ n len ls h (onward t) (g + 1) p
           listed q = given-kept k under _ _ taken last line-of q
@@ -459,10 +459,10 @@ module _ {x o : List ℕ} {n len : ℕ} {ls : List Level} {g at h : ℕ} {t : Le
         went = accepted-step _ _ _ _ rd e i hi b r j yes us w q
 
         longer : Appended (t .line) (t .end) (eventText (eventAt n (t .tried)) ++ bytes ", ") line end
-        longer = rw he at a
+        longer = rw (he under) at a
 
         pub raised : end ≤ t .end + 18 → Kept x o n len (set ls h (onward t)) (h + 1) v g at
-        raised y = pushed k under _ _ (same-step _ _ _ _ he (went .1)) more v refl refl (ready-again _ _ _ _ rd e i hi b r j yes us w q z) longer y
+        raised y = pushed k under _ _ (same-step _ _ _ _ (he under) (went .1)) more v refl refl (ready-again _ _ _ _ rd e i hi b r j yes us w q z) longer y
 
         pub raised-less : turnsOf n len (set ls h (onward t)) (h + 1) v < turnsOf n len ls h t
-        raised-less = pushed-less k under _ _ (same-step _ _ _ _ he (went .1)) more v refl refl (ready-again _ _ _ _ rd e i hi b r j yes us w q z) longer
+        raised-less = pushed-less k under _ _ (same-step _ _ _ _ (he under) (went .1)) more v refl refl (ready-again _ _ _ _ rd e i hi b r j yes us w q z) longer

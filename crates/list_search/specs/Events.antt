@@ -2,6 +2,8 @@
 use Prim.Native.Nat.{ℕ, _+_, _-_, _*_, _/_, _%_, _≤_, _<_}
 use mathlib.Core.Path.{_≡_}
 use lib.Dec.{eqb, ltb}
+use lib.ListN.{length, getD}
+use mathlib.Core.List.{List}
 use Rattle.model.specs.Pick.{pick}
 use Rattle.model.specs.declared.TaskNo.{TaskNo}
 use Rattle.model.specs.declared.Event.{Event}
@@ -45,3 +47,8 @@ eventBy n i =
 pub record ByPlace : Type 0 where
   pub size : (n : ℕ) → 1 ≤ n → n ≤ 3 → sizeOf n ≡ eventCount n
   pub event : (n i : ℕ) → 1 ≤ n → n ≤ 3 → i < eventCount n → eventAt n i ≡ eventBy n i
+
+-- es has the events of n nodes at its start, in order
+pub record Holds (n : ℕ) (es : List Event) : Type 0 where
+  pub long : length es ≡ 33
+  pub each : (i : ℕ) → i < sizeOf n → getD es i (Crash 0) ≡ eventAt n i

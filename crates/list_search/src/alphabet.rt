@@ -3,8 +3,12 @@ ghost use mathlib.Core.Path.{_≡_};
 ghost use Prim.Native.Nat.{_≤_, _<_};
 ghost use Rattle.list_search.specs.Stack as stack;
 ghost use Rattle.list_search.specs.Events as spec;
+ghost use lib.ListN.{length};
 use model::Event;
 use model::TaskNo;
+
+// Three nodes have so many events, and fewer nodes have fewer.
+pub const MOST: usize = 33;
 
 // How many pairs of two different nodes there are.
 fn pair_count(n: u8) -> u8
@@ -62,7 +66,7 @@ fn receiver(n: u8, p: u8) -> u8
 }
 
 // Event i, from 0 on.
-pub fn event_at(n: u8, i: u8) -> Event
+fn event_at(n: u8, i: u8) -> Event
     requires { ⌜ (1 ≤ n) × (n ≤ 3) × (i < stack.sizeOf n) ⌝ }
     ensures { λ r. ⌜ r ≡ stack.eventAt n i ⌝ }
 {
@@ -77,4 +81,26 @@ pub fn event_at(n: u8, i: u8) -> Event
     }
     let q = p - pairs;
     Event::Lose(sender(n, q), receiver(n, q))
+}
+
+// What stands where there is no event.
+fn no_events() -> [Event; MOST]
+    ensures { λ r. ⌜ length r ≡ 33 ⌝ }
+{
+    [Event::Crash(0); MOST]
+}
+
+// All of them, in order.
+pub fn events(n: u8) -> [Event; MOST]
+    requires { ⌜ (1 ≤ n) × (n ≤ 3) ⌝ }
+    ensures { λ r. ⌜ spec.Holds n r ⌝ }
+{
+    let count = event_count(n);
+    let mut es = no_events();
+    let mut i: u8 = 0;
+    while i < count {
+        es[i as usize] = event_at(n, i);
+        i += 1;
+    }
+    es
 }

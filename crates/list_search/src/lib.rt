@@ -55,6 +55,7 @@ fn lines_on(s: Search, out: &mut [u8]) -> Piece
     let n = s.n;
     let length = s.length;
     let count = alphabet::event_count(n);
+    let events = alphabet::events(n);
     let mut levels = s.levels;
     // how many levels stand below the topmost
     let mut height = s.height - 1;
@@ -86,7 +87,7 @@ fn lines_on(s: Search, out: &mut [u8]) -> Piece
             end = below.end;
             continue;
         }
-        let e = alphabet::event_at(n, tried);
+        let e = events[tried as usize];
         tried += 1;
         let i = packed::seat(e);
         let c = nodes[i];
