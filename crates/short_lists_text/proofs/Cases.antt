@@ -23,6 +23,7 @@ text-cases =
       one = refl;
       two = refl;
       two-of-two = refl;
+      three-of-two = refl;
       four = refl;
       events = refl;
       words = refl;

@@ -9,3 +9,4 @@ pub mod Lines
 pub mod Cases
 pub mod Refuses
 pub mod Decides
+pub mod Legal

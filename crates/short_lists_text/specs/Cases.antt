@@ -1,4 +1,4 @@
--- A few texts in full, single inputs that are refused, and the lists from tables that no short list reaches.
+-- A few texts in full, single inputs that are refused, and the lists of one event from tables that five, six and nine events lead to.
 use mathlib.Core.Bool.{true}
 use mathlib.Core.Path.{_≡_}
 use mathlib.Core.List.{[], _∷_, _++_}
@@ -20,6 +20,17 @@ pub record TextCases : Type 0 where
   pub two : textOf (1 ∷ 2 ∷ []) ≡ bytes "recover 1, crash 1\nrecover 1, check 1\nrecover 1, timeout 1\nlists 3\n"
   pub two-of-two : textOf (2 ∷ 2 ∷ [])
       ≡ bytes "recover 1, crash 1\nrecover 1, recover 2\nrecover 1, check 1\nrecover 1, timeout 1\nrecover 2, crash 2\nrecover 2, recover 1\nrecover 2, check 2\nrecover 2, timeout 2\nlists 8\n"
+  -- with a message: check 1 sends one to node 2, which can be lost
+  pub three-of-two : textOf (2 ∷ 3 ∷ []) ≡
+      bytes "recover 1, crash 1, recover 1\nrecover 1, crash 1, recover 2\nrecover 1, recover 2, crash 1\nrecover 1, recover 2, crash 2\n"
+      ++ (bytes "recover 1, recover 2, check 1\nrecover 1, recover 2, check 2\nrecover 1, recover 2, timeout 1\nrecover 1, recover 2, timeout 2\n"
+      ++ (bytes "recover 1, check 1, crash 1\nrecover 1, check 1, recover 2\nrecover 1, check 1, expire 1\nrecover 1, check 1, lose 1 2\n"
+      ++ (bytes "recover 1, timeout 1, crash 1\nrecover 1, timeout 1, recover 2\nrecover 1, timeout 1, check 1\nrecover 1, timeout 1, timeout 1\n"
+      ++ (bytes "recover 2, crash 2, recover 1\nrecover 2, crash 2, recover 2\nrecover 2, recover 1, crash 1\nrecover 2, recover 1, crash 2\n"
+      ++ (bytes "recover 2, recover 1, check 1\nrecover 2, recover 1, check 2\nrecover 2, recover 1, timeout 1\nrecover 2, recover 1, timeout 2\n"
+      ++ (bytes "recover 2, check 2, crash 2\nrecover 2, check 2, recover 1\nrecover 2, check 2, expire 2\nrecover 2, check 2, lose 2 1\n"
+      ++ (bytes "recover 2, timeout 2, crash 2\nrecover 2, timeout 2, recover 1\nrecover 2, timeout 2, check 2\nrecover 2, timeout 2, timeout 2\n"
+      ++ bytes "lists 32\n")))))))
   -- long enough that the first event that differs is not the last or the one before it
   pub four : textOf (1 ∷ 4 ∷ []) ≡
       bytes "recover 1, crash 1, recover 1, crash 1\nrecover 1, crash 1, recover 1, check 1\nrecover 1, crash 1, recover 1, timeout 1\nrecover 1, check 1, crash 1, recover 1\n"

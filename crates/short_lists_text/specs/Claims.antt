@@ -6,7 +6,8 @@ use mathlib.Core.Logic.{_⊎_}
 use mathlib.Core.List.{List, [], _∷_, _++_}
 use lib.ListN.{length, take}
 use Rattle.model.specs.State.{State, start}
-use Rattle.model.specs.Step.{step}
+use Rattle.model.specs.Step.{step, runFrom}
+use Rattle.model.specs.Claims.{Accepts}
 use Rattle.model.specs.declared.TaskNo.{TaskNo}
 use Rattle.model.specs.declared.Event.{Event}
 use Rattle.model.specs.declared.Event.the-variants.{Crash, Recover, Check, Timeout, Tick, Expire, Finish, Deliver, Lose}
@@ -17,7 +18,7 @@ use Rattle.listing.specs.Printing.{joined}
 use Rattle.short_lists_text.specs.Rows.{Among, All, Ascending, each}
 use Rattle.short_lists_text.specs.Order.{tag, contents, BytesBefore, Before, ListBefore}
 use Rattle.short_lists_text.specs.Lists.{listsFrom, isAccepted, Legal}
-use Rattle.short_lists_text.specs.Text.{numbersOf, eventsText, listLine, countLine, linesOf, textOf}
+use Rattle.short_lists_text.specs.Text.{numbersOf, eventText, eventsText, listLine, countLine, linesOf, textOf}
 
 -- the lists of m events from s
 pub record AllLists (m : ℕ) (s : State) : Type 0 where
@@ -34,14 +35,27 @@ pub record AllLists (m : ℕ) (s : State) : Type 0 where
 abbrev pub EveryList : Type 0
 EveryList = (m : ℕ) (s : State) → AllLists m s
 
--- 02's order is a strict total order: no list is before itself, what is before one is before all that this is before, and of two lists one is before the other.
+-- l by 01's own words for a run, without recursion: a legal list of m events from s
+pub record LegalByRun (m : ℕ) (s : State) (l : List Event) : Type 0 where
+  pub long : length l ≡ m
+  -- "that the machine accepts one after another": each event is accepted in the state that those before it lead to
+  pub accepts : (before : List Event) (e : Event) (after : List Event) → l ≡ before ++ (e ∷ after) → Accepts (runFrom s before) e
+  -- "Finish uses task 100 only."
+  pub tasks : (before : List Event) (i : ℕ) (t : TaskNo) (after : List Event) → l ≡ before ++ (Finish i t ∷ after) → t .number ≡ 100
+
+pub record LegalIs : Type 0 where
+  pub by-run : (m : ℕ) (s : State) (l : List Event) → Legal m s l → LegalByRun m s l
+  pub from-run : (m : ℕ) (s : State) (l : List Event) → LegalByRun m s l → Legal m s l
+
+-- 02's order is a strict total order: no list is before itself; what is before a list is before all lists that come after that one; and of two different lists one is
+-- before the other.
 pub record StrictOrder : Type 0 where
   pub never-itself : (l : List Event) → ListBefore l l → ⊥
   pub passes-on : (l m r : List Event) → ListBefore l m → ListBefore m r → ListBefore l r
   pub compares : (l m : List Event) → ListBefore l m ⊎ ((l ≡ m) ⊎ ListBefore m l)
 
--- xs and ys agree up to a place, and there x and y stand
-pub record Differ {A : Type 0} (xs ys : List A) (x y : A) : Type 0 where
+-- xs and ys agree up to a place, where x and y stand, which may be equal
+pub record Part {A : Type 0} (xs ys : List A) (x y : A) : Type 0 where
   pub same : List A
   pub left : List A
   pub right : List A
@@ -54,13 +68,22 @@ pub record Begins {A : Type 0} (xs ys : List A) : Type 0 where
   pub more : List A
   pub is : ys ≡ xs ++ (next ∷ more)
 
--- "The order compares lists event by event, tag first, then contents as bytes.", without recursion: the first place where two lists differ decides
+-- "The order compares lists event by event, tag first, then contents as bytes.", without recursion
 pub record OrderIs : Type 0 where
-  pub bytes-before : (c d : List ℕ) (x y : ℕ) → Differ c d x y → x < y → BytesBefore c d
-  pub bytes-after : (c d : List ℕ) (x y : ℕ) → Differ c d x y → BytesBefore c d → x ≤ y
-  pub events : (l m : List Event) (e f : Event) → Differ l m e f → Before e f → ListBefore l m
-  pub events-only : (l m : List Event) (e f : Event) → Differ l m e f → ListBefore l m → Before e f ⊎ (e ≡ f)
+  -- "event by event": the first event that differs decides
+  pub events : (l m : List Event) (e f : Event) → Part l m e f → Before e f → ListBefore l m
+  pub events-only : (l m : List Event) (e f : Event) → Part l m e f → ListBefore l m → Before e f ⊎ (e ≡ f)
   pub shorter : (l m : List Event) → Begins l m → ListBefore l m
+  -- "tag first"
+  pub tag-first : (e f : Event) → tag e < tag f → Before e f
+  pub tag-only : (e f : Event) → Before e f → tag e ≤ tag f
+  -- "then contents"
+  pub contents-next : (e f : Event) → tag e ≡ tag f → BytesBefore (contents e) (contents f) → Before e f
+  pub contents-only : (e f : Event) → tag e ≡ tag f → Before e f → BytesBefore (contents e) (contents f)
+  -- "as bytes": the first byte that differs decides
+  pub bytes-first : (c d : List ℕ) (x y : ℕ) → Part c d x y → x < y → BytesBefore c d
+  pub bytes-only : (c d : List ℕ) (x y : ℕ) → Part c d x y → BytesBefore c d → x ≤ y
+  pub bytes-shorter : (c d : List ℕ) → Begins c d → BytesBefore c d
 
 -- "n from 1 to 3 and a length from 0 to 7": the lists are fewer than 2 ^ 32
 pub record FewLists : Type 0 where
@@ -78,7 +101,7 @@ pub record Counts : Type 0 where
   pub lines : (n m : ℕ) → 1 ≤ n → n ≤ 3 → m ≤ 7 → textOf (n ∷ m ∷ []) ≡ joined (each listLine (listsFrom m (start n))) ++ countLine (length (listsFrom m (start n)))
   -- "a last line `lists k` gives their count"
   pub last : (n m : ℕ) → 1 ≤ n → n ≤ 3 → m ≤ 7 → IsCount (length (listsFrom m (start n))) (countLine (length (listsFrom m (start n))))
-  -- and so wherever there are fewer than 2 ^ 32 lists, for any n and length: printed numbers have at most ten digits
+  -- the same of any lists, where they are fewer than 2 ^ 32: a printed number has at most ten digits
   pub any : (ls : List (List Event)) → length ls < 2 ^ 32 → IsCount (length ls) (countLine (length ls))
 
 -- 16, "not exactly two bytes, or one outside its range": the text of every other input
@@ -118,11 +141,18 @@ pub record SameBytes : Type 0 where
 abbrev pub SmallNumbers : Event → Type 0
 SmallNumbers e = All (λ x. x < 2 ^ 32) (numbersOf e)
 
+-- "A list is one line": the events one after another, parted by a comma and a space, and the line's end
+pub record LineIs : Type 0 where
+  pub none : eventsText [] ≡ []
+  pub one : (e : Event) → eventsText (e ∷ []) ≡ eventText e
+  pub more : (e f : Event) (l : List Event) → eventsText (e ∷ f ∷ l) ≡ eventText e ++ (bytes ", " ++ eventsText (f ∷ l))
+  pub end : (l : List Event) → listLine l ≡ eventsText l ++ bytes "\n"
+
 -- "Each list appears once", of the printed lines too: from a line its list can be told, and from the bytes of the text all its lists
 pub record ListLinesDetermine : Type 0 where
   -- "A list is one line": before the 0x0A at its end there is no other
   pub one-line : (l : List Event) → All (λ b. b ≡ 10 → ⊥) (eventsText l)
-  -- different lists have different lines
+  -- different lists whose numbers are below 2 ^ 32 have different lines
   pub line : (l m : List Event) → All SmallNumbers l → All SmallNumbers m → listLine l ≡ listLine m → l ≡ m
   -- what the machine accepts has such numbers, from any state
   pub legal-small : (m : ℕ) (s : State) (l : List Event) → Legal m s l → All SmallNumbers l
