@@ -1,7 +1,7 @@
 -- The first search, a search of the empty list, a refused one; and the pieces put together.
 use Prim.Native.Nat.{ℕ, zero, suc, _+_, _-_, _^_, _≤_, _<_}
 use native.Mathlib.Omega.{arith}
-use mathlib.Core.Bool.{true, false, true≢false, _&&_}
+use mathlib.Core.Bool.{true, false, _&&_}
 use mathlib.Core.Logic.{_⊎_, inl, inr}
 use mathlib.Core.Path.{_≡_, refl, sym, _∙_, ap, subst}
 use mathlib.Core.List.{List, [], _∷_, _++_, append-assoc, append-nil}
@@ -168,13 +168,13 @@ module _ (s : Search) (h : ℕ) (c : Going s h) (z : s .length ≡ 0) where
       omega (arith, d, e)
 
 -- the whole text is one piece
-pub gave-whole : (s : Search) (o x o′ : List ℕ) (r : ℕ) → textLeft s ≡ x → Appended o 0 x o′ r → 1 ≤ length x → EndsLine x → Gave s o′ (record { written = r; done = true; search = s })
-gave-whole s o x o′ r q w l e = record {
+pub gave-whole : (s : Search) → Sound s → (o x o′ : List ℕ) (r : ℕ) → textLeft s ≡ x → Appended o 0 x o′ r → 1 ≤ length x → EndsLine x → Gave s o′ (record { written = r; done = true; search = s })
+gave-whole s h o x o′ r q w l e = record {
   text = rw pick-true (q ∙ sym (w .text) ∙ sym (append-nil (take r o′)));
   fits = w .fits;
   some = let n = w .next in omega (arith, n, l);
   lines = subst EndsLine (sym (w .text)) e;
-  sound = λ z. absurd (true≢false z);
+  sound = h;
 }
 
 pub not-refused : (s : Search) → Sound s → (s .n ≡ 0 → ⊥) → Going s (s .height - 1)
@@ -194,7 +194,7 @@ less-left s o p g d =
 
 sound-again : (s : Search) (cs : List Call) → Sound s → Calls s cs → Sound (searchAfter s cs)
 sound-again s [] h a = h
-sound-again s (c ∷ cs) h a = sound-again (c .piece .search) cs (a .0 .sound (a .1)) (a .2)
+sound-again s (c ∷ cs) h a = sound-again (c .piece .search) cs (a .0 .sound) (a .2)
 
 part-of : (s : Search) (cs : List Call) → Calls s cs → textLeft s ≡ writtenBy cs ++ textLeft (searchAfter s cs)
 part-of s [] a = refl

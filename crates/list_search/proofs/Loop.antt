@@ -1,7 +1,7 @@
 -- What the search's loop keeps, turn by turn. The topmost level stands in its locals: t.
 use Prim.Native.Nat.{ℕ, zero, suc, _+_, _-_, _%_, _^_, _≤_, _<_}
 use native.Mathlib.Omega.{arith}
-use mathlib.Core.Bool.{true, false, true≢false}
+use mathlib.Core.Bool.{true, false}
 use mathlib.Core.Logic.{_⊎_, inl, inr}
 use mathlib.Core.Path.{_≡_, refl, sym, _∙_, ap, subst}
 use mathlib.Core.List.{List, [], _∷_, _++_, append-assoc, append-nil}
@@ -31,7 +31,7 @@ use Rattle.list_search.specs.declared.Level.{Level}
 use Rattle.list_search.specs.declared.Search.{Search}
 use Rattle.list_search.specs.Stack.{Frame, frame, sizeOf, eventAt, path, listsLeft, stackText}
 use Rattle.list_search.specs.Line.{beginning}
-use Rattle.list_search.specs.Search.{noLevel, frameOf, framesOf, textLeft, SoundLevel, SoundBelow, Going, EndsLine, Gave}
+use Rattle.list_search.specs.Search.{noLevel, frameOf, framesOf, textLeft, SoundLevel, SoundBelow, Going, Sound, EndsLine, Gave}
 use Rattle.list_search.proofs.Stack.{turnsLeft, text-same, text-over, text-given, left-none, gone, passed-by, gone-up, gave-one, path-passed}
 use Rattle.list_search.proofs.Lines.{beginning-more, line-ends}
 
@@ -312,13 +312,13 @@ unfolding countLine row
 count-ends k = record { before = bytes "lists" ++ (bytes " " ++ decimal k); is = rw append-assoc }
 
 -- the last piece
-pub gave-last : (s : Search) (o : List ℕ) (g at : ℕ) (o′ : List ℕ) (r : ℕ) → textLeft s ≡ take at o ++ countLine g → Appended o at (countLine g) o′ r → at < r → Gave s o′ (record { written = r; done = true; search = s })
-gave-last s o g at o′ r x w l = record {
+pub gave-last : (s : Search) → Sound s → (o : List ℕ) (g at : ℕ) (o′ : List ℕ) (r : ℕ) → textLeft s ≡ take at o ++ countLine g → Appended o at (countLine g) o′ r → at < r → Gave s o′ (record { written = r; done = true; search = s })
+gave-last s h o g at o′ r x w l = record {
   text = rw pick-true (x ∙ sym (w .text) ∙ sym (append-nil (take r o′)));
   fits = w .fits;
   some = omega (arith, l);
   lines = subst EndsLine (sym (w .text)) (ends-after (take at o) (countLine g) (count-ends g));
-  sound = λ q. absurd (true≢false q);
+  sound = h;
 }
 
 -- a piece behind which more comes: the topmost level is stored, and the search goes on with it
@@ -357,7 +357,7 @@ module _ {x o : List ℕ} {n len : ℕ} {ls : List Level} {g at h : ℕ} {t : Le
     fits = w .fits;
     some = omega (arith, l);
     lines = subst EndsLine (sym (w .text)) (ends-after (take at o) _ (ends-after (take (t .end) (t .line)) _ (record { before = eventText (eventAt n (t .tried)); is = refl })));
-    sound = λ _. let i : h + 1 - 1 ≡ h = omega arith in inr (subst (Going goes-on) (sym i) going);
+    sound = let i : h + 1 - 1 ≡ h = omega arith in inr (subst (Going goes-on) (sym i) going);
   }
 
 -- the topmost level is one of the seven

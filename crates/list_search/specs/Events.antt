@@ -11,7 +11,7 @@ use Rattle.model.specs.declared.Event.the-variants.{Crash, Recover, Check, Time
 use Rattle.short_lists_text.specs.Lists.{onlyTask}
 use Rattle.list_search.specs.Stack.{sizeOf, eventAt}
 
--- the event of one node with tag 0x10 + k
+-- the event of one node with tag 0x10 + k, for k up to 6
 unfoldable pub single : ℕ → ℕ → Event
 single k i =
     pick (eqb k 0) (Crash i)

@@ -44,7 +44,7 @@ missing s = s .length + 1 - s .height
 unfoldable pub textLeft : Search → List ℕ
 textLeft s = pick (eqb (s .n) 0) refusalText (stackText (s .given) (missing s) (stackOf s))
 
--- ── what is so of every search that is given ──
+-- ── what is so of every search that `begin` or `next_lines` gives ──
 
 -- of a level that the events p led to
 pub record SoundLevel (n : ℕ) (p : List Event) (l : Level) : Type 0 where
@@ -57,7 +57,7 @@ pub record SoundLevel (n : ℕ) (p : List Event) (l : Level) : Type 0 where
   pub end : l .end ≤ 18 * length p
   pub line : take (l .end) (l .line) ≡ beginning p
 
--- of the first h levels, above each of which another stands: an event was tried on it, the one that led there
+-- of the first h levels, above each of which another stands: at least one event was tried on it
 abbrev pub SoundBelow : ℕ → List Level → ℕ → Type 0
 SoundBelow n ls zero = Unit {0}
 SoundBelow n ls (suc h) = SoundLevel n (path (framesOf n ls h)) (getD ls h noLevel) × (1 ≤ getD ls h noLevel .tried) × SoundBelow n ls h
@@ -111,23 +111,23 @@ pub record Begun (l : List ℕ) (s : Search) : Type 0 where
 abbrev pub textAfter : Piece → List ℕ
 textAfter p = pick (p .done) [] (textLeft (p .search))
 
--- x ends with a line
+-- the last byte of x ends a line
 pub record EndsLine (x : List ℕ) : Type 0 where
   pub before : List ℕ
   pub is : x ≡ before ++ bytes "\n"
 
 -- A piece of the text that s still gives, at the start of the buffer, which then holds o. Free are: how many lines the piece has, at least one; what the buffer holds
--- after it; and the search, where the piece is the last.
+-- after it; and of the search beside it all but the text that it still gives and that it is sound.
 pub record Gave (s : Search) (o : List ℕ) (p : Piece) : Type 0 where
   -- what was written, and then what comes after it, is the text that s still gave
   pub text : textLeft s ≡ take (p .written) o ++ textAfter p
   pub fits : p .written ≤ length o
   -- something was written, so the pieces come to an end
   pub some : 1 ≤ p .written
-  -- and no line is parted
+  -- and no line is parted: a line of the text has no 0x0A but its last byte
   pub lines : EndsLine (take (p .written) o)
   -- the search can be called again
-  pub sound : p .done ≡ false → Sound (p .search)
+  pub sound : Sound (p .search)
 
 -- ── calls one after another ──
 

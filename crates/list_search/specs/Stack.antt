@@ -30,14 +30,14 @@ sizeOf n = length (alphabet n)
 unfoldable pub eventAt : ℕ → ℕ → Event
 eventAt n i = getD (alphabet n) i (Crash 0)
 
--- the events that led from frame to frame, the topmost frame first
+-- the event last tried on each frame, from the lowest frame up; the frames are given topmost first
 unfoldable pub path : List Frame → List Event
 path [] = []
 path (f ∷ fs) = path fs ++ (eventAt (f .state .n) (f .tried - 1) ∷ [])
 
 -- ── what is left ──
 
--- lists of r events from a frame: those whose first event was not tried yet
+-- lists of r events from a frame: those whose first event was not tried yet; of no events, the empty list
 unfoldable pub onFrame : ℕ → Frame → List (List Event)
 onFrame zero f = [] ∷ []
 onFrame (suc r) f = concatMap (λ e. continued e (step (f .state) e) (listsFrom r)) (drop (f .tried) (alphabet (f .state .n)))

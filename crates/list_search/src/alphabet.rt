@@ -30,7 +30,7 @@ pub fn event_count(n: u8) -> u8
     7 * n + 2 * pair_count(n)
 }
 
-// The event of one node with tag 0x10 + k.
+// The event of one node with tag 0x10 + k, for k up to 6.
 fn single(k: u8, i: u8) -> Event
     ensures { λ r. ⌜ r ≡ spec.single k i ⌝ }
 {

@@ -39,7 +39,7 @@ pub struct Search {
     levels: [Level; LEVELS],
 }
 
-// So many bytes were written. Where that is not the last of the text, search goes on with the next; else it means nothing.
+// So many bytes were written. Where they are not the last of the text, search goes on with the next.
 pub struct Piece {
     pub written: usize,
     pub done: bool,
@@ -47,7 +47,8 @@ pub struct Piece {
 }
 
 // The next lines of a search in which an event is missing behind the topmost table. That table stands in this function's own locals, and the functions that it
-// calls take a node, a message and numbers: a table is copied only where an event is accepted that is not a list's last.
+// calls take a node, a message and numbers: a table is copied only where an event is accepted that is not a list's last, where the search goes back to the table
+// below, and with the search at both ends of a piece.
 fn lines_on(s: Search, out: &mut [u8]) -> Piece
     requires { ⌜ Going s (s .height - 1) × (1 ≤ s .length) × (length (now out) ≡ 65536) ⌝ }
     ensures { λ r. ⌜ Gave s (now (out .exit)) r ⌝ }

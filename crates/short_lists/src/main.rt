@@ -1,6 +1,6 @@
-// The program of T-01: reads two bytes, n and a length, from standard input, and writes the text of all lists of that length to standard output, piece by piece.
-// Where the input can't be read nothing is printed; where a piece can't be written nothing more is written. Standard error says why.
-// What a program reads and writes no promise can say. To be seen in this file: all that was read, and no more, goes to `begin`; each piece is written once, its
+// The program of T-01: reads its input, two bytes n and length, from standard input, and writes the text of all lists of that length to standard output, piece by piece.
+// Where the input can't be read nothing is printed; where a piece can't be written nothing more is written. `standard_io` says on standard error why.
+// No promise can say what a program reads and writes. To be seen in this file: all that was read, and no more, goes to `begin`; each piece is written once, its
 // first `written` bytes, before the next is made; and it stops only after the last or where a write fails.
 use list_search::PIECE;
 use standard_io::Input;

@@ -37,7 +37,7 @@ without i (j ∷ js) = pick (eqb j i) (without i js) (j ∷ without i js)
 unfoldable pub pairsOf : (ℕ → ℕ → Event) → ℕ → List Event
 pairsOf f n = concatMap (λ a. each (f a) (without a (nodesOf n))) (nodesOf n)
 
--- the alphabet: the events of which lists of n nodes are made, in the order "tag first, then contents as bytes"
+-- the alphabet: the events of which lists for n nodes are made, in the order "tag first, then contents as bytes"
 unfoldable pub alphabet : ℕ → List Event
 alphabet n =
     each Crash (nodesOf n)

@@ -2,6 +2,7 @@
 use borrow.Author.Needs.{needs}
 use borrow.Author.Tests.{not-true, not-false}
 use native.Mathlib.Omega.{arith}
+use mathlib.Core.Logic.{inr}
 use mathlib.Core.Path.{_≡_, refl, sym, _∙_}
 use Rattle.model.specs.declared.Event.the-variants.{Crash}
 use Rattle.packed.proofs.Turns.{few, rulable}
@@ -38,7 +39,7 @@ returns : tie.Need-returns Inv-loop μ-loop
 returns c =
     let l = c .before .before .before .before .before .before .loop in
     let p = c .before .before .put-count .ensures in
-    gave-last _ (l .out) (l .given) (l .at) _ _ (ends (l .inv .0) _ (l .inv .1) (c .before .before .before .before .before .if1 .taken) (c .before .before .before .before .if2 .taken)) (p .0) (p .1)
+    gave-last _ (inr (c .before .before .before .before .before .before .before .before .before .before .before .before .before .before .before .before .pre .0)) (l .out) (l .given) (l .at) _ _ (ends (l .inv .0) _ (l .inv .1) (c .before .before .before .before .before .if1 .taken) (c .before .before .before .before .if2 .taken)) (p .0) (p .1)
 
 loop-less : tie.Need-loop-less Inv-loop μ-loop
 loop-less c =

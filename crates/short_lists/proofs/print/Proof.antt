@@ -30,7 +30,7 @@ loop-less : tie.Need-loop-less Inv-loop μ-loop
 loop-less c = less-left _ _ _ (c .before .before .before .before .before .next-lines .ensures) (c .before .if2 .left)
 
 loop-again : tie.Need-loop-again Inv-loop μ-loop
-loop-again c = c .before .before .before .before .before .next-lines .ensures .sound (c .before .if2 .left)
+loop-again c = c .before .before .before .before .before .next-lines .ensures .sound
 
 pub print-spec : {M : Type 1} → statement M
 print-spec =
