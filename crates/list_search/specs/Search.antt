@@ -91,10 +91,10 @@ pub record Lowest (n : ℕ) (l : Level) : Type 0 where
   pub space : length (l .line) ≡ 128
   pub end : l .end ≡ 0
 
--- the search for lists of k events among n nodes, before anything was given
-pub record First (n k : ℕ) (s : Search) : Type 0 where
+-- the search for lists of m events among n nodes, before anything was given
+pub record First (n m : ℕ) (s : Search) : Type 0 where
   pub nodes : s .n ≡ n
-  pub events : s .length ≡ k
+  pub events : s .length ≡ m
   pub given : s .given ≡ 0
   pub height : s .height ≡ 1
   pub levels : length (s .levels) ≡ 7
