@@ -3,7 +3,7 @@ use Prim.Native.Nat.{ℕ, zero, suc, _+_, _≤_, _<_}
 use native.Mathlib.Omega.{arith}
 use mathlib.Core.Path.{_≡_, refl, _∙_, ap}
 use mathlib.Core.Bool.{Bool, true, false}
-use mathlib.Core.List.{List, []}
+use mathlib.Core.List.{List, [], map}
 use lib.Dec.{eqb}
 use lib.ListN.{length, getD, set}
 use lib.Seq.{getD-set-same, getD-set-other}
@@ -11,32 +11,31 @@ use borrow.Author.Tests.{eqb-true, eqb-false}
 use Rattle.model.specs.Pick.{pick}
 use Rattle.model.specs.declared.Event.{Event}
 use Rattle.model.specs.declared.Event.the-variants.{Crash}
-use Rattle.short_lists_text.specs.Rows.{each}
 use Rattle.short_lists_text.specs.Lists.{upFrom, without, pairsOf, alphabet}
 use Rattle.list_search.specs.Stack.{sizeOf, eventAt}
 use Rattle.list_search.specs.Events.{single, receiver, eventCount, eventBy, ByPlace}
 
-each-at : (f : ℕ → Event) (k c i : ℕ) (d : Event) → i < c → getD (each f (upFrom k c)) i d ≡ f (k + i)
+map-at : (f : ℕ → Event) (k c i : ℕ) (d : Event) → i < c → getD (map f (upFrom k c)) i d ≡ f (k + i)
 unfolding upFrom
-each-at f k zero i d h = absurd (omega arith)
-each-at f k (suc c) zero d h = let z : k ≡ k + 0 = omega arith in ap f z
-each-at f k (suc c) (suc i) d h = let z : suc k + i ≡ k + suc i = omega arith in each-at f (suc k) c i d (omega arith) ∙ ap f z
+map-at f k zero i d h = absurd (omega arith)
+map-at f k (suc c) zero d h = let z : k ≡ k + 0 = omega arith in ap f z
+map-at f k (suc c) (suc i) d h = let z : suc k + i ≡ k + suc i = omega arith in map-at f (suc k) c i d (omega arith) ∙ ap f z
 
-one-node : alphabet 1 ≡ each (eventBy 1) (upFrom 0 7)
+one-node : alphabet 1 ≡ map (eventBy 1) (upFrom 0 7)
 unfolding pick single receiver eventBy upFrom without pairsOf alphabet
 one-node = refl
 
-two-nodes : alphabet 2 ≡ each (eventBy 2) (upFrom 0 18)
+two-nodes : alphabet 2 ≡ map (eventBy 2) (upFrom 0 18)
 unfolding pick single receiver eventBy upFrom without pairsOf alphabet
 two-nodes = refl
 
-three-nodes : alphabet 3 ≡ each (eventBy 3) (upFrom 0 33)
+three-nodes : alphabet 3 ≡ map (eventBy 3) (upFrom 0 33)
 unfolding pick single receiver eventBy upFrom without pairsOf alphabet
 three-nodes = refl
 
-at-place : (n c i : ℕ) → alphabet n ≡ each (eventBy n) (upFrom 0 c) → i < c → eventAt n i ≡ eventBy n i
+at-place : (n c i : ℕ) → alphabet n ≡ map (eventBy n) (upFrom 0 c) → i < c → eventAt n i ≡ eventBy n i
 unfolding eventAt
-at-place n c i q h = let z : 0 + i ≡ i = omega arith in ap (λ l. getD l i (Crash 0)) q ∙ (each-at (eventBy n) 0 c i (Crash 0) h ∙ ap (eventBy n) z)
+at-place n c i q h = let z : 0 + i ≡ i = omega arith in ap (λ l. getD l i (Crash 0)) q ∙ (map-at (eventBy n) 0 c i (Crash 0) h ∙ ap (eventBy n) z)
 
 -- what holds of 1, 2 and 3
 pub of-three : (P : ℕ → Type 0) → P 1 → P 2 → P 3 → (n : ℕ) → 1 ≤ n → n ≤ 3 → P n

@@ -3,7 +3,7 @@ use Prim.Native.Nat.{ℕ, zero, suc, _+_, _-_, _<_}
 use native.Mathlib.Omega.{arith}
 use mathlib.Core.Bool.{true, false}
 use mathlib.Core.Path.{_≡_, refl, _∙_, ap}
-use mathlib.Core.List.{List, [], _∷_, _++_, append-assoc, append-nil}
+use mathlib.Core.List.{List, [], _∷_, _++_, append-assoc, append-nil, map}
 use lib.Dec.{leb}
 use lib.ListN.{length, getD, drop, drop-of-length-le}
 use lib.Seq.{drop-cons}
@@ -16,7 +16,6 @@ use Rattle.model.specs.declared.Event.{Event}
 use Rattle.model.specs.declared.Event.the-variants.{Crash}
 use Rattle.model.proofs.Judged.{accepted-is}
 use Rattle.listing.specs.Printing.{joined}
-use Rattle.short_lists_text.specs.Rows.{each}
 use Rattle.short_lists_text.specs.Lists.{alphabet, listsFrom}
 use Rattle.short_lists_text.specs.Text.{listLine, countLine, fits, textOf}
 use Rattle.list_search.specs.Stack.{Frame, frame, sizeOf, eventAt, path, onFrame, listsLeft, stackText}
@@ -49,18 +48,18 @@ turnsLeft r (f ∷ fs) = turnsOn r f + turnsLeft (suc r) fs
 
 -- ── laws of lists ──
 
-each-append : {A B : Type 0} (f : A → B) (xs ys : List A) → each f (xs ++ ys) ≡ each f xs ++ each f ys
-each-append f [] ys = refl
-each-append f (x ∷ xs) ys = ap (λ l. f x ∷ l) (each-append f xs ys)
+map-append : {A B : Type 0} (f : A → B) (xs ys : List A) → map f (xs ++ ys) ≡ map f xs ++ map f ys
+map-append f [] ys = refl
+map-append f (x ∷ xs) ys = ap (λ l. f x ∷ l) (map-append f xs ys)
 
 -- a path, an event and a list behind it
-each-behind : (p : List Event) (e : Event) (ls : List (List Event)) → each (λ l. p ++ l) (each (λ l. e ∷ l) ls) ≡ each (λ l. (p ++ (e ∷ [])) ++ l) ls
-each-behind p e [] = refl
-each-behind p e (l ∷ ls) = rw (append-assoc p (e ∷ []) l) (ap (λ x. (p ++ (e ∷ l)) ∷ x) (each-behind p e ls))
+map-behind : (p : List Event) (e : Event) (ls : List (List Event)) → map (λ l. p ++ l) (map (λ l. e ∷ l) ls) ≡ map (λ l. (p ++ (e ∷ [])) ++ l) ls
+map-behind p e [] = refl
+map-behind p e (l ∷ ls) = rw (append-assoc p (e ∷ []) l) (ap (λ x. (p ++ (e ∷ l)) ∷ x) (map-behind p e ls))
 
-each-same : (ls : List (List Event)) → each (λ l. [] ++ l) ls ≡ ls
-each-same [] = refl
-each-same (l ∷ ls) = ap (λ x. l ∷ x) (each-same ls)
+map-same : (ls : List (List Event)) → map (λ l. [] ++ l) ls ≡ ls
+map-same [] = refl
+map-same (l ∷ ls) = ap (λ x. l ∷ x) (map-same ls)
 
 -- ── the events of a frame ──
 
@@ -96,19 +95,19 @@ module _ (r : ℕ) (f : Frame) (fs : List Frame) (e : Event) (q : untried f ≡ 
   unfolding listsLeft onFrame
   left-refused x h = rw (q, h)
 
-  split : (u : State) (m : Mark) → step (f .state) e ≡ accepted u m → onFrame (suc r) f ≡ each (λ l. e ∷ l) (listsFrom r u) ++ onFrame (suc r) (passed f)
+  split : (u : State) (m : Mark) → step (f .state) e ≡ accepted u m → onFrame (suc r) f ≡ map (λ l. e ∷ l) (listsFrom r u) ++ onFrame (suc r) (passed f)
   unfolding onFrame
   split u m h = rw (q, h)
 
-  parted : (ls rest more : List (List Event)) → each (λ l. path fs ++ l) (each (λ l. e ∷ l) ls ++ rest) ++ more ≡ each (λ l. (path fs ++ (e ∷ [])) ++ l) ls ++ (each (λ l. path fs ++ l) rest ++ more)
+  parted : (ls rest more : List (List Event)) → map (λ l. path fs ++ l) (map (λ l. e ∷ l) ls ++ rest) ++ more ≡ map (λ l. (path fs ++ (e ∷ [])) ++ l) ls ++ (map (λ l. path fs ++ l) rest ++ more)
   parted ls rest more =
-      rw (each-append (λ l. path fs ++ l) (each (λ l. e ∷ l) ls) rest, each-behind (path fs) e ls) (append-assoc (each (λ l. (path fs ++ (e ∷ [])) ++ l) ls) (each (λ l. path fs ++ l) rest) more)
+      rw (map-append (λ l. path fs ++ l) (map (λ l. e ∷ l) ls) rest, map-behind (path fs) e ls) (append-assoc (map (λ l. (path fs ++ (e ∷ [])) ++ l) ls) (map (λ l. path fs ++ l) rest) more)
 
   left-accepted : (u : State) (m : Mark) → step (f .state) e ≡ accepted u m → path (passed f ∷ fs) ≡ path fs ++ (e ∷ []) → listsLeft (suc r) (f ∷ fs) ≡ listsLeft r (frame u 0 ∷ passed f ∷ fs)
   unfolding listsLeft
   left-accepted u m h p =
       rw (fresh-frame r u, p)
-      (ap (λ x. each (λ l. path fs ++ l) x ++ listsLeft (suc (suc r)) fs) (split u m h) ∙ parted (listsFrom r u) (onFrame (suc r) (passed f)) (listsLeft (suc (suc r)) fs))
+      (ap (λ x. map (λ l. path fs ++ l) x ++ listsLeft (suc (suc r)) fs) (split u m h) ∙ parted (listsFrom r u) (onFrame (suc r) (passed f)) (listsLeft (suc (suc r)) fs))
 
 pub left-none : (r : ℕ) → listsLeft r [] ≡ []
 unfolding listsLeft
@@ -155,7 +154,7 @@ same-n s e u m q = ap (λ (x : State). x .n) (accepted-is s e u m q .state)
 
 pub all-left : (r : ℕ) (s : State) → listsLeft r (frame s 0 ∷ []) ≡ listsFrom r s
 unfolding listsLeft path
-all-left r s = rw (fresh-frame r s, append-nil) (each-same (listsFrom r s))
+all-left r s = rw (fresh-frame r s, append-nil) (map-same (listsFrom r s))
 
 pub whole-text : (l : List ℕ) → fits l ≡ true → textOf l ≡ stackText 0 (getD l 1 0) (frame (start (getD l 0 0)) 0 ∷ [])
 unfolding textOf stackText

@@ -1,13 +1,13 @@
 -- What a stack of tables means: the lists that are still to come from it, and their text.
 use Prim.Native.Nat.{ℕ, zero, suc, _+_, _-_}
-use mathlib.Core.List.{List, [], _∷_, _++_}
+use mathlib.Core.List.{List, [], _∷_, _++_, map}
 use lib.ListN.{length, getD, drop}
 use Rattle.model.specs.State.{State}
 use Rattle.model.specs.Step.{step}
 use Rattle.model.specs.declared.Event.{Event}
 use Rattle.model.specs.declared.Event.the-variants.{Crash}
 use Rattle.listing.specs.Printing.{joined}
-use Rattle.short_lists_text.specs.Rows.{each, concatMap}
+use Rattle.short_lists_text.specs.Rows.{concatMap}
 use Rattle.short_lists_text.specs.Lists.{alphabet, continued, listsFrom}
 use Rattle.short_lists_text.specs.Text.{listLine, countLine}
 
@@ -45,8 +45,8 @@ onFrame (suc r) f = concatMap (λ e. continued e (step (f .state) e) (listsFrom 
 -- the lists that a stack still gives, where r events are missing behind its top
 unfoldable pub listsLeft : ℕ → List Frame → List (List Event)
 listsLeft r [] = []
-listsLeft r (f ∷ fs) = each (λ l. path fs ++ l) (onFrame r f) ++ listsLeft (suc r) fs
+listsLeft r (f ∷ fs) = map (λ l. path fs ++ l) (onFrame r f) ++ listsLeft (suc r) fs
 
 -- the text that it still gives, where g lists were given before
 unfoldable pub stackText : ℕ → ℕ → List Frame → List ℕ
-stackText g r fs = joined (each listLine (listsLeft r fs) ++ (countLine (g + length (listsLeft r fs)) ∷ []))
+stackText g r fs = joined (map listLine (listsLeft r fs) ++ (countLine (g + length (listsLeft r fs)) ∷ []))

@@ -1,7 +1,7 @@
 -- The last line is the count of the lists.
 use Prim.Native.Nat.{ℕ, _^_, _≤_, _<_}
 use mathlib.Core.Path.{_≡_, refl, sym, _∙_, ap}
-use mathlib.Core.List.{List, [], _∷_, _++_, append-nil, append-assoc}
+use mathlib.Core.List.{List, [], _∷_, _++_, append-nil, append-assoc, map}
 use lib.ListN.{length}
 use borrow.Author.Tests.{le-leb}
 use Rattle.model.specs.Pick.{pick-true}
@@ -10,7 +10,6 @@ use Rattle.listing.specs.Decimal.{decimal}
 use Rattle.listing.specs.Lines.{row}
 use Rattle.listing.specs.Printing.{joined}
 use Rattle.listing.proofs.Decimal.{decimal-denotes}
-use Rattle.short_lists_text.specs.Rows.{each}
 use Rattle.short_lists_text.specs.Lists.{listsFrom}
 use Rattle.short_lists_text.specs.Text.{listLine, countLine, fits, textOf}
 use Rattle.short_lists_text.specs.Claims.{IsCount, Counts}
@@ -25,9 +24,9 @@ unfolding joined
 joined-last [] x = append-nil x
 joined-last (y ∷ xs) x = ap (λ (l : List ℕ). y ++ l) (joined-last xs x) ∙ sym (append-assoc y (joined xs) x)
 
-text-lines : (n k : ℕ) → 1 ≤ n → n ≤ 3 → k ≤ 7 → textOf (n ∷ k ∷ []) ≡ joined (each listLine (listsFrom k (start n))) ++ countLine (length (listsFrom k (start n)))
+text-lines : (n k : ℕ) → 1 ≤ n → n ≤ 3 → k ≤ 7 → textOf (n ∷ k ∷ []) ≡ joined (map listLine (listsFrom k (start n))) ++ countLine (length (listsFrom k (start n)))
 unfolding textOf fits
-text-lines n k p q h = rw (le-leb 1 n p, le-leb n 3 q, le-leb k 7 h, pick-true) (joined-last (each listLine (listsFrom k (start n))) (countLine (length (listsFrom k (start n)))))
+text-lines n k p q h = rw (le-leb 1 n p, le-leb n 3 q, le-leb k 7 h, pick-true) (joined-last (map listLine (listsFrom k (start n))) (countLine (length (listsFrom k (start n)))))
 
 pub counts : Counts
 counts = record { lines = text-lines; last = λ n k p q h. is-count (length (listsFrom k (start n))) (few-lists .few n k p q h); any = λ ls h. is-count (length ls) h }

@@ -3,9 +3,9 @@ use Prim.Native.Nat.{ℕ, zero, suc, _*_, _^_, _≤_, _<_}
 use native.Mathlib.Nat.{pow-succ', pow-le-pow-right, mul-le-mul-right}
 use native.Mathlib.Omega.{arith}
 use mathlib.Core.Path.{_≡_, refl, ap}
-use mathlib.Core.List.{List, [], _∷_}
+use mathlib.Core.List.{List, [], _∷_, map}
 use lib.Count.{onesIn, ones, leadingZeros, trailingZeros}
-use lib.ListN.{length, length-append}
+use lib.ListN.{length, length-append, length-map}
 use Rattle.model.specs.Pick.{pick}
 use Rattle.model.specs.Procedures.{inviteNext, merges, handNext, finishes, forwardNext, askedAll, askAt, askAfter}
 use Rattle.model.specs.React.{checked, timedOut, ticked, expired, resumed, onAreYouCoordinator, onAreYouThere, onInvitation, onAccept, onReady, onReply, received, react}
@@ -16,15 +16,11 @@ use Rattle.model.specs.declared.Mark.{Mark}
 use Rattle.model.specs.declared.Event.{Event}
 use Rattle.model.specs.declared.Event.the-variants.{Recover}
 use Rattle.model.proofs.Judged.{accepted-is}
-use Rattle.short_lists_text.specs.Rows.{each, concatMap}
+use Rattle.short_lists_text.specs.Rows.{concatMap}
 use Rattle.short_lists_text.specs.Lists.{upFrom, nodesOf, without, pairsOf, alphabet, continued, listsFrom}
 use Rattle.short_lists_text.specs.Claims.{FewLists}
 
 -- ── lengths ──
-
-pub each-long : {A B : Type 0} (f : A → B) (xs : List A) → length (each f xs) ≡ length xs
-each-long f [] = refl
-each-long f (x ∷ xs) = ap suc (each-long f xs)
 
 rows-long : {A B : Type 0} (f : A → List B) (b : ℕ) → ((x : A) → length (f x) ≤ b) → (xs : List A) → length (concatMap f xs) ≤ length xs * b
 rows-long f b h [] = omega arith
@@ -55,14 +51,14 @@ lists-within (suc k) s a b =
   where
     by : ((u : State) → 1 ≤ u .n → u .n ≤ 3 → length (listsFrom k u) ≤ 33 ^ k) → (e : Event) (r : Result) → step s e ≡ r → length (continued e r (listsFrom k)) ≤ 33 ^ k
     by f e (refused x) q = omega arith
-    by f e (accepted u m) q = let z = same-n s e u m q in let h = f u (omega arith) (omega arith) in rw (each-long (λ l. e ∷ l) (listsFrom k u)) h
+    by f e (accepted u m) q = let z = same-n s e u m q in let h = f u (omega arith) (omega arith) in rw (length-map (listsFrom k u) (λ l. e ∷ l)) h
 
 -- ── from the starting table ──
 
 -- one event is accepted for each node, its recovery
 module _ (later : State → List (List Event)) where
   abbrev recovered : ℕ → ℕ → List (List Event)
-  recovered n i = each (λ l. Recover i ∷ l) (later (effect (start n) (Recover i)))
+  recovered n i = map (λ l. Recover i ∷ l) (later (effect (start n) (Recover i)))
 
   first-events : (n : ℕ) → 1 ≤ n → n ≤ 3 → concatMap (λ e. continued e (step (start n) e) later) (alphabet n) ≡ concatMap (recovered n) (nodesOf n)
   unfolding pick onesIn ones leadingZeros trailingZeros inviteNext merges handNext finishes forwardNext askedAll askAt askAfter checked timedOut ticked expired resumed onAreYouCoordinator onAreYouThere onInvitation onAccept onReady onReply received react activityInRange nodeInRange messageInRange waits oldest withoutOldest every inRange reactionTo remaining effect grounds judged step upFrom without pairsOf alphabet
@@ -83,7 +79,7 @@ few n zero p q h = omega arith
 few n (suc k) p q h =
     let r =
     rows-long (recovered (listsFrom k) n) (33 ^ k)
-    (λ i. rw (each-long (λ l. Recover i ∷ l) (listsFrom k (effect (start n) (Recover i)))) (lists-within k (effect (start n) (Recover i)) p q)) (nodesOf n)
+    (λ i. rw (length-map (listsFrom k (effect (start n) (Recover i))) (λ l. Recover i ∷ l)) (lists-within k (effect (start n) (Recover i)) p q)) (nodesOf n)
     in
     let m : 33 ^ k ≤ 33 ^ 6 = pow-le-pow-right {n = 33} (omega arith) {i = k} {j = 6} (omega arith) in
     let t : length (nodesOf n) * 33 ^ k ≤ 3 * 33 ^ k = mul-le-mul-right (33 ^ k) (omega (arith, nodes-long 1 n)) in

@@ -3,7 +3,7 @@ use Prim.Native.Nat.{ℕ, _^_, _≤_, _<_}
 use native.Mathlib.Omega.{arith}
 use mathlib.Core.Path.{_≡_, refl, sym, _∙_, ap, subst}
 use mathlib.Core.Logic.{inl, inr}
-use mathlib.Core.List.{List, [], _∷_, _++_, append-assoc, head-eq-of-cons-eq, tail-eq-of-cons-eq}
+use mathlib.Core.List.{List, [], _∷_, _++_, append-assoc, head-eq-of-cons-eq, tail-eq-of-cons-eq, map}
 use lib.Dec.{eqb}
 use lib.ListN.{length, getD, length-append}
 use Rattle.model.specs.Pick.{pick}
@@ -18,7 +18,7 @@ use Rattle.listing.specs.Lines.{row}
 use Rattle.listing.proofs.Decimal.{decimal-each}
 use Rattle.listing.proofs.Parted.{Each, Stops, each-append, each-map, each-at, parted, Inside, IsLine, joined-same}
 use Rattle.listing.proofs.Claims.{decimal-same}
-use Rattle.short_lists_text.specs.Rows.{Among, All, Ascending, each}
+use Rattle.short_lists_text.specs.Rows.{Among, All, Ascending}
 use Rattle.short_lists_text.specs.Order.{ListBefore}
 use Rattle.short_lists_text.specs.Lists.{listsFrom, AcceptedFrom}
 use Rattle.short_lists_text.specs.Text.{nameOf, numbersOf, spaced, eventText, moreText, eventsText, listLine, countLine, linesOf}
@@ -211,12 +211,12 @@ line-never x b =
     let q = line-same (b .lower) (b .upper) (b .lower-small) (b .upper-small) (sym (b .lower-line) ∙ b .upper-line) in
     strict-order .never-itself (b .upper) (subst (λ l. ListBefore l (b .upper)) q (b .below))
 
-lines-above : (l : List Event) (ms : List (List Event)) → All SmallNumbers l → All (All SmallNumbers) ms → All (ListBefore l) ms → All (LineBelow (listLine l)) (each listLine ms)
+lines-above : (l : List Event) (ms : List (List Event)) → All SmallNumbers l → All (All SmallNumbers) ms → All (ListBefore l) ms → All (LineBelow (listLine l)) (map listLine ms)
 lines-above l [] a b c = tt
 lines-above l (m ∷ ms) a b c =
     (record { lower = l; upper = m; lower-small = a; upper-small = b .0; lower-line = refl; upper-line = refl; below = c .0 }, lines-above l ms a (b .1) (c .1))
 
-lines-ascend : (ls : List (List Event)) → All (All SmallNumbers) ls → Ascending ListBefore ls → Ascending LineBelow (each listLine ls)
+lines-ascend : (ls : List (List Event)) → All (All SmallNumbers) ls → Ascending ListBefore ls → Ascending LineBelow (map listLine ls)
 lines-ascend [] a b = tt
 lines-ascend (l ∷ ls) a b = (lines-above l ls (a .0) (a .1) (b .0), lines-ascend ls (a .1) (b .1))
 
@@ -252,12 +252,12 @@ count-line k =
     let d = each-map Digit Inside (λ b w q. omega arith) (decimal k) (decimal-digits k) in
     record { body = bytes "lists " ++ decimal k; ends = sym (append-assoc (bytes "lists ") (decimal k) end); inside = each-append Inside (bytes "lists ") (decimal k) (omega arith) d }
 
-lines-are : (ls : List (List Event)) (k : ℕ) → Each IsLine (each listLine ls ++ (countLine k ∷ []))
+lines-are : (ls : List (List Event)) (k : ℕ) → Each IsLine (map listLine ls ++ (countLine k ∷ []))
 lines-are [] k = (count-line k, tt)
 lines-are (l ∷ ls) k = (list-line l, lines-are ls k)
 
 -- all but the last line are those of the lists
-lists-same : (ls ms : List (List Event)) (x y : List ℕ) → All (All SmallNumbers) ls → All (All SmallNumbers) ms → each listLine ls ++ (x ∷ []) ≡ each listLine ms ++ (y ∷ []) → ls ≡ ms
+lists-same : (ls ms : List (List Event)) (x y : List ℕ) → All (All SmallNumbers) ls → All (All SmallNumbers) ms → map listLine ls ++ (x ∷ []) ≡ map listLine ms ++ (y ∷ []) → ls ≡ ms
 lists-same [] [] x y a b q = refl
 lists-same [] (m ∷ ms) x y a b q = let z = simp length-append at (ap length q) in absurd (omega arith)
 lists-same (l ∷ ls) [] x y a b q = let z = simp length-append at (ap length q) in absurd (omega arith)

@@ -4,7 +4,7 @@ use native.Mathlib.Omega.{arith}
 use mathlib.Core.Bool.{Bool, true, false, not, _&&_}
 use mathlib.Core.Path.{_≡_, refl, sym, ap, subst}
 use mathlib.Core.Logic.{_⊎_, inl, inr}
-use mathlib.Core.List.{List, [], _∷_, _++_}
+use mathlib.Core.List.{List, [], _∷_, _++_, map}
 use lib.Dec.{eqb}
 use borrow.Author.Tests.{not-true, not-false, eqb-true, eqb-false}
 use Rattle.model.specs.Pick.{pick, pick-true, pick-false}
@@ -15,9 +15,9 @@ use Rattle.model.specs.declared.Event.{Event}
 use Rattle.model.specs.declared.Event.the-variants.{Crash, Recover, Check, Timeout, Tick, Expire, Finish, Deliver, Lose}
 use Rattle.model.proofs.Local.{both-left, both-right}
 use Rattle.model.proofs.Numbers.{is-node}
-use Rattle.short_lists_text.specs.Rows.{Among, All, each}
+use Rattle.short_lists_text.specs.Rows.{Among, All}
 use Rattle.short_lists_text.specs.Lists.{onlyTask, upFrom, nodesOf, without, pairsOf, alphabet, TaskFits}
-use Rattle.short_lists_text.proofs.Rows.{all-append, each-by, rows-by, among-left, among-right, among-each, among-rows}
+use Rattle.short_lists_text.proofs.Rows.{all-append, map-by, rows-by, among-left, among-right, among-map, among-rows}
 
 -- ── numbers ──
 
@@ -48,8 +48,8 @@ among-pairs f n a b q =
     let h : isNode n a && isOther n a b ≡ true = not-false _ q in
     let o : isOther n a b ≡ true = both-right (isNode n a) _ h in
     let d : eqb b a ≡ false = not-true _ (both-right (isNode n b) _ o) in
-    among-rows (λ x. each (f x) (without x (nodesOf n))) a (f a b) (nodesOf n) (among-nodes n a (both-left _ _ h))
-    (among-each (f a) b (without a (nodesOf n)) (among-others a b (nodesOf n) d (among-nodes n b (both-left _ _ o))))
+    among-rows (λ x. map (f x) (without x (nodesOf n))) a (f a b) (nodesOf n) (among-nodes n a (both-left _ _ h))
+    (among-map (f a) b (without a (nodesOf n)) (among-others a b (nodesOf n) d (among-nodes n b (both-left _ _ o))))
 
 -- ── every event with numbers of n nodes and a task that fits ──
 
@@ -58,31 +58,31 @@ module _ (n : ℕ) where
   lasts = pairsOf Deliver n ++ pairsOf Lose n
 
   abbrev finishes : List Event
-  finishes = each (λ i. Finish i (record { number = onlyTask })) (nodesOf n) ++ lasts
+  finishes = map (λ i. Finish i (record { number = onlyTask })) (nodesOf n) ++ lasts
 
   abbrev expires : List Event
-  expires = each Expire (nodesOf n) ++ finishes
+  expires = map Expire (nodesOf n) ++ finishes
 
   abbrev ticks : List Event
-  ticks = each Tick (nodesOf n) ++ expires
+  ticks = map Tick (nodesOf n) ++ expires
 
   abbrev timeouts : List Event
-  timeouts = each Timeout (nodesOf n) ++ ticks
+  timeouts = map Timeout (nodesOf n) ++ ticks
 
   abbrev checks : List Event
-  checks = each Check (nodesOf n) ++ timeouts
+  checks = map Check (nodesOf n) ++ timeouts
 
   abbrev recovers : List Event
-  recovers = each Recover (nodesOf n) ++ checks
+  recovers = map Recover (nodesOf n) ++ checks
 
   abbrev crashes : List Event
-  crashes = each Crash (nodesOf n) ++ recovers
+  crashes = map Crash (nodesOf n) ++ recovers
 
-  one-of : (f : ℕ → Event) (i : ℕ) (fs : List Event) → not (isNode n i) ≡ false → Among (f i) (each f (nodesOf n) ++ fs)
-  one-of f i fs q = among-left (f i) (each f (nodesOf n)) fs (among-each f i (nodesOf n) (among-nodes n i (not-false _ q)))
+  one-of : (f : ℕ → Event) (i : ℕ) (fs : List Event) → not (isNode n i) ≡ false → Among (f i) (map f (nodesOf n) ++ fs)
+  one-of f i fs q = among-left (f i) (map f (nodesOf n)) fs (among-map f i (nodesOf n) (among-nodes n i (not-false _ q)))
 
-  behind : (f : ℕ → Event) (e : Event) (fs : List Event) → Among e fs → Among e (each f (nodesOf n) ++ fs)
-  behind f e fs m = among-right e (each f (nodesOf n)) fs m
+  behind : (f : ℕ → Event) (e : Event) (fs : List Event) → Among e fs → Among e (map f (nodesOf n) ++ fs)
+  behind f e fs m = among-right e (map f (nodesOf n)) fs m
 
   from-recovers : (e : Event) → Among e recovers → Among e crashes
   from-recovers e m = behind Crash e _ m
@@ -121,10 +121,10 @@ module _ (n : ℕ) where
 
   pairs-fit : (f : ℕ → ℕ → Event) → ((a b : ℕ) → TaskFits (f a b)) → All TaskFits (pairsOf f n)
   unfolding pairsOf
-  pairs-fit f h = rows-by TaskFits (λ a. each (f a) (without a (nodesOf n))) (nodesOf n) (λ a. each-by TaskFits (f a) (without a (nodesOf n)) (h a))
+  pairs-fit f h = rows-by TaskFits (λ a. map (f a) (without a (nodesOf n))) (nodesOf n) (λ a. map-by TaskFits (f a) (without a (nodesOf n)) (h a))
 
-  fit : (f : ℕ → Event) (fs : List Event) → ((i : ℕ) → TaskFits (f i)) → All TaskFits fs → All TaskFits (each f (nodesOf n) ++ fs)
-  fit f fs h a = all-append TaskFits (each f (nodesOf n)) fs (each-by TaskFits f (nodesOf n) h) a
+  fit : (f : ℕ → Event) (fs : List Event) → ((i : ℕ) → TaskFits (f i)) → All TaskFits fs → All TaskFits (map f (nodesOf n) ++ fs)
+  fit f fs h a = all-append TaskFits (map f (nodesOf n)) fs (map-by TaskFits f (nodesOf n) h) a
 
   pub alphabet-fits : All TaskFits (alphabet n)
   unfolding alphabet

@@ -4,7 +4,7 @@ use native.Mathlib.Omega.{arith}
 use mathlib.Core.Bool.{Bool, true, false}
 use mathlib.Core.Path.{_≡_, refl, sym, _∙_, ap, subst}
 use mathlib.Core.Logic.{_⊎_, inl, inr}
-use mathlib.Core.List.{List, [], _∷_, _++_}
+use mathlib.Core.List.{List, [], _∷_, _++_, map}
 use lib.Dec.{eqb, ltb}
 use borrow.Author.Tests.{ltb-true, ltb-false, eqb-true, eqb-false}
 use Rattle.model.specs.Pick.{pick, by-test}
@@ -12,11 +12,11 @@ use Rattle.model.specs.declared.TaskNo.{TaskNo}
 use Rattle.model.specs.declared.Event.{Event}
 use Rattle.model.specs.declared.Event.the-variants.{Crash, Recover, Check, Timeout, Tick, Expire, Finish, Deliver, Lose}
 use Rattle.event_list.specs.Format.{eventOf}
-use Rattle.short_lists_text.specs.Rows.{All, Ascending, each}
+use Rattle.short_lists_text.specs.Rows.{All, Ascending}
 use Rattle.short_lists_text.specs.Order.{tag, contents, BytesBefore, Before, ListBefore}
 use Rattle.short_lists_text.specs.Lists.{onlyTask, upFrom, nodesOf, without, pairsOf, alphabet}
 use Rattle.short_lists_text.specs.Claims.{StrictOrder}
-use Rattle.short_lists_text.proofs.Rows.{all-weaken, all-append, each-by, rows-by, ascending-append, ascending-each, ascending-rows}
+use Rattle.short_lists_text.proofs.Rows.{all-weaken, all-append, map-by, rows-by, ascending-append, ascending-map, ascending-rows}
 
 -- ── strict ──
 
@@ -143,22 +143,22 @@ pub record Block (t : ℕ) (es : List Event) : Type 0 where
   pub ascends : Ascending Before es
   pub tags : All (λ e. tag e ≡ t) es
 
-single : (t n : ℕ) (f : ℕ → Event) → ((i j : ℕ) → i < j → Before (f i) (f j)) → ((i : ℕ) → tag (f i) ≡ t) → Block t (each f (nodesOf n))
+single : (t n : ℕ) (f : ℕ → Event) → ((i j : ℕ) → i < j → Before (f i) (f j)) → ((i : ℕ) → tag (f i) ≡ t) → Block t (map f (nodesOf n))
 single t n f g h = record {
-  ascends = ascending-each _<_ Before f (nodesOf n) g (numbers-ascend 1 n);
-  tags = each-by (λ e. tag e ≡ t) f (nodesOf n) h;
+  ascends = ascending-map _<_ Before f (nodesOf n) g (numbers-ascend 1 n);
+  tags = map-by (λ e. tag e ≡ t) f (nodesOf n) h;
 }
 
 double : (t n : ℕ) (f : ℕ → ℕ → Event) → ((a b i j : ℕ) → a < b → Before (f a i) (f b j)) → ((a i j : ℕ) → i < j → Before (f a i) (f a j))
     → ((i j : ℕ) → tag (f i j) ≡ t) → Block t (pairsOf f n)
 unfolding pairsOf
 double t n f g h k = record {
-  ascends = ascending-rows _<_ Before (λ a. each (f a) (without a (nodesOf n)))
-      (λ a. ascending-each _<_ Before (f a) (without a (nodesOf n)) (h a) (without-ascends a (nodesOf n) (numbers-ascend 1 n)))
-      (λ a b r. each-by (λ u. All (Before u) (each (f b) (without b (nodesOf n)))) (f a) (without a (nodesOf n))
-      (λ i. each-by (Before (f a i)) (f b) (without b (nodesOf n)) (λ j. g a b i j r)))
+  ascends = ascending-rows _<_ Before (λ a. map (f a) (without a (nodesOf n)))
+      (λ a. ascending-map _<_ Before (f a) (without a (nodesOf n)) (h a) (without-ascends a (nodesOf n) (numbers-ascend 1 n)))
+      (λ a b r. map-by (λ u. All (Before u) (map (f b) (without b (nodesOf n)))) (f a) (without a (nodesOf n))
+      (λ i. map-by (Before (f a i)) (f b) (without b (nodesOf n)) (λ j. g a b i j r)))
       (nodesOf n) (numbers-ascend 1 n);
-  tags = rows-by (λ e. tag e ≡ t) (λ a. each (f a) (without a (nodesOf n))) (nodesOf n) (λ a. each-by (λ e. tag e ≡ t) (f a) (without a (nodesOf n)) (k a));
+  tags = rows-by (λ e. tag e ≡ t) (λ a. map (f a) (without a (nodesOf n))) (nodesOf n) (λ a. map-by (λ e. tag e ≡ t) (f a) (without a (nodesOf n)) (k a));
 }
 
 -- ── blocks one behind the other ──

@@ -1,8 +1,8 @@
 -- Laws of concatMap.
 use mathlib.Core.Path.{_≡_, refl, sym, ap, subst}
 use mathlib.Core.Logic.{inl, inr}
-use mathlib.Core.List.{List, [], _∷_, _++_}
-use Rattle.short_lists_text.specs.Rows.{Among, All, Ascending, each, concatMap}
+use mathlib.Core.List.{List, [], _∷_, _++_, map}
+use Rattle.short_lists_text.specs.Rows.{Among, All, Ascending, concatMap}
 
 -- ── what holds of all ──
 
@@ -19,18 +19,18 @@ all-append P [] ys a b = b
 all-append P (x ∷ xs) ys a b = (a .0, all-append P xs ys (a .1) b)
 
 -- P of f of each, where Q of each gives it
-pub all-each : {A B : Type 0} (Q : A → Type 0) (P : B → Type 0) (f : A → B) (xs : List A) → ((x : A) → Q x → P (f x)) → All Q xs → All P (each f xs)
-all-each Q P f [] g a = tt
-all-each Q P f (x ∷ xs) g a = (g x (a .0), all-each Q P f xs g (a .1))
+pub all-map : {A B : Type 0} (Q : A → Type 0) (P : B → Type 0) (f : A → B) (xs : List A) → ((x : A) → Q x → P (f x)) → All Q xs → All P (map f xs)
+all-map Q P f [] g a = tt
+all-map Q P f (x ∷ xs) g a = (g x (a .0), all-map Q P f xs g (a .1))
 
 pub all-rows : {A B : Type 0} (Q : A → Type 0) (P : B → Type 0) (f : A → List B) (xs : List A) → ((x : A) → Q x → All P (f x)) → All Q xs → All P (concatMap f xs)
 all-rows Q P f [] g a = tt
 all-rows Q P f (x ∷ xs) g a = all-append P (f x) (concatMap f xs) (g x (a .0)) (all-rows Q P f xs g (a .1))
 
 -- the same of f of anything
-pub each-by : {A B : Type 0} (P : B → Type 0) (f : A → B) (xs : List A) → ((x : A) → P (f x)) → All P (each f xs)
-each-by P f [] g = tt
-each-by P f (x ∷ xs) g = (g x, each-by P f xs g)
+pub map-by : {A B : Type 0} (P : B → Type 0) (f : A → B) (xs : List A) → ((x : A) → P (f x)) → All P (map f xs)
+map-by P f [] g = tt
+map-by P f (x ∷ xs) g = (g x, map-by P f xs g)
 
 pub rows-by : {A B : Type 0} (P : B → Type 0) (f : A → List B) (xs : List A) → ((x : A) → All P (f x)) → All P (concatMap f xs)
 rows-by P f [] g = tt
@@ -46,9 +46,9 @@ pub among-right : {A : Type 0} (x : A) (xs ys : List A) → Among x ys → Among
 among-right x [] ys m = m
 among-right x (y ∷ xs) ys m = inr (among-right x xs ys m)
 
-pub among-each : {A B : Type 0} (f : A → B) (x : A) (xs : List A) → Among x xs → Among (f x) (each f xs)
-among-each f x (y ∷ ys) (inl e) = inl (ap f e)
-among-each f x (y ∷ ys) (inr m) = inr (among-each f x ys m)
+pub among-map : {A B : Type 0} (f : A → B) (x : A) (xs : List A) → Among x xs → Among (f x) (map f xs)
+among-map f x (y ∷ ys) (inl e) = inl (ap f e)
+among-map f x (y ∷ ys) (inr m) = inr (among-map f x ys m)
 
 pub among-rows : {A B : Type 0} (f : A → List B) (x : A) (y : B) (xs : List A) → Among x xs → Among y (f x) → Among y (concatMap f xs)
 among-rows f x y (z ∷ zs) (inl e) m = among-left y (f z) (concatMap f zs) (subst (λ w. Among y (f w)) e m)
@@ -60,9 +60,9 @@ pub ascending-append : {A : Type 0} (R : A → A → Type 0) (xs ys : List A) �
 ascending-append R [] ys a b c = b
 ascending-append R (x ∷ xs) ys a b c = (all-append (R x) xs ys (a .0) (c .0), ascending-append R xs ys (a .1) b (c .1))
 
-pub ascending-each : {A B : Type 0} (R : A → A → Type 0) (S : B → B → Type 0) (f : A → B) (xs : List A) → ((x y : A) → R x y → S (f x) (f y)) → Ascending R xs → Ascending S (each f xs)
-ascending-each R S f [] g a = tt
-ascending-each R S f (x ∷ xs) g a = (all-each (R x) (S (f x)) f xs (g x) (a .0), ascending-each R S f xs g (a .1))
+pub ascending-map : {A B : Type 0} (R : A → A → Type 0) (S : B → B → Type 0) (f : A → B) (xs : List A) → ((x y : A) → R x y → S (f x) (f y)) → Ascending R xs → Ascending S (map f xs)
+ascending-map R S f [] g a = tt
+ascending-map R S f (x ∷ xs) g a = (all-map (R x) (S (f x)) f xs (g x) (a .0), ascending-map R S f xs g (a .1))
 
 -- concatMap one behind the other ascend, where each does and a row is below those of what is above
 module _ {A B : Type 0} (R : A → A → Type 0) (S : B → B → Type 0) (f : A → List B) (g : (x : A) → Ascending S (f x)) (h : (x y : A) → R x y → All (λ u. All (S u) (f y)) (f x)) where

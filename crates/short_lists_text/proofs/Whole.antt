@@ -15,7 +15,7 @@ use Rattle.short_lists_text.specs.Rows.{Among, All, Ascending}
 use Rattle.short_lists_text.specs.Order.{Before, ListBefore}
 use Rattle.short_lists_text.specs.Lists.{alphabet, continued, listsFrom, isAccepted, AcceptedFrom, TaskFits, Legal}
 use Rattle.short_lists_text.specs.Claims.{AllLists, EveryList}
-use Rattle.short_lists_text.proofs.Rows.{all-of, all-each, each-by, all-rows, among-each, among-rows, ascending-each, ascending-rows, alone}
+use Rattle.short_lists_text.proofs.Rows.{all-of, all-map, map-by, all-rows, among-map, among-rows, ascending-map, ascending-rows, alone}
 use Rattle.short_lists_text.proofs.Order.{strict-order, alphabet-ascends}
 use Rattle.short_lists_text.proofs.Members.{among-alphabet, alphabet-fits}
 
@@ -35,14 +35,14 @@ all-legal (suc k) s = all-rows TaskFits (Legal (suc k) s) (λ e. continued e (st
   where
     by : ((u : State) → All (Legal k u) (listsFrom k u)) → (e : Event) → TaskFits e → (r : Result) → step s e ≡ r → All (Legal (suc k) s) (continued e r (listsFrom k))
     by f e t (refused x) q = tt
-    by f e t (accepted u m) q = all-each (Legal k u) (Legal (suc k) s) (λ l. e ∷ l) (listsFrom k u) (λ l x. one-more k s u m e l q t x) (f u)
+    by f e t (accepted u m) q = all-map (Legal k u) (Legal (suc k) s) (λ l. e ∷ l) (listsFrom k u) (λ l x. one-more k s u m e l q t x) (f u)
 
 -- ── every legal list ──
 
 module _ (k : ℕ) (s : State) (e : Event) (l : List Event) (h : (u : State) → AcceptedFrom u l → Among l (listsFrom k u)) where
   there : (r : Result) → step s e ≡ r → isAccepted r ≡ true → AcceptedFrom (kept s r) l → Among (e ∷ l) (continued e r (listsFrom k))
   there (refused x) q b a = absurd (true≢false (sym b))
-  there (accepted u m) q b a = among-each (λ l. e ∷ l) l (listsFrom k u) (h u a)
+  there (accepted u m) q b a = among-map (λ l. e ∷ l) l (listsFrom k u) (h u a)
 
   in-alphabet : (r : Result) → step s e ≡ r → isAccepted r ≡ true → TaskFits e → Among e (alphabet (s .n))
   in-alphabet (refused x) q b t = absurd (true≢false (sym b))
@@ -67,15 +67,15 @@ all-ascend (suc k) s = ascending-rows Before ListBefore (λ e. continued e (step
   where
     inside : ((u : State) → Ascending ListBefore (listsFrom k u)) → (e : Event) (r : Result) → Ascending ListBefore (continued e r (listsFrom k))
     inside g e (refused x) = tt
-    inside g e (accepted u m) = ascending-each ListBefore ListBefore (λ l. e ∷ l) (listsFrom k u) (λ l r b. inr (refl, b)) (g u)
+    inside g e (accepted u m) = ascending-map ListBefore ListBefore (λ l. e ∷ l) (listsFrom k u) (λ l r b. inr (refl, b)) (g u)
 
     above : (e f : Event) → Before e f → (l : List Event) (r : Result) → All (ListBefore (e ∷ l)) (continued f r (listsFrom k))
     above e f b l (refused x) = tt
-    above e f b l (accepted u m) = each-by (ListBefore (e ∷ l)) (λ r. f ∷ r) (listsFrom k u) (λ r. inl b)
+    above e f b l (accepted u m) = map-by (ListBefore (e ∷ l)) (λ r. f ∷ r) (listsFrom k u) (λ r. inl b)
 
     across : (e f : Event) → Before e f → (r q : Result) → All (λ l. All (ListBefore l) (continued f q (listsFrom k))) (continued e r (listsFrom k))
     across e f b (refused x) q = tt
-    across e f b (accepted u m) q = each-by (λ l. All (ListBefore l) (continued f q (listsFrom k))) (λ l. e ∷ l) (listsFrom k u) (λ l. above e f b l q)
+    across e f b (accepted u m) q = map-by (λ l. All (ListBefore l) (continued f q (listsFrom k))) (λ l. e ∷ l) (listsFrom k u) (λ l. above e f b l q)
 
 pub all-lists : EveryList
 all-lists k s = record {

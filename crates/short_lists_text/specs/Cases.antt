@@ -1,12 +1,11 @@
 -- A few texts in full, single inputs that are refused, and the lists of one event from tables that five, six and nine events lead to.
 use mathlib.Core.Bool.{true}
 use mathlib.Core.Path.{_≡_}
-use mathlib.Core.List.{[], _∷_, _++_}
+use mathlib.Core.List.{[], _∷_, _++_, map}
 use Rattle.model.specs.Step.{run}
 use Rattle.model.specs.declared.Event.the-variants.{Crash, Recover, Check, Timeout, Tick, Expire, Finish, Deliver, Lose}
 use Rattle.listing.specs.Ascii.{bytes}
 use Rattle.listing.specs.Printing.{joined}
-use Rattle.short_lists_text.specs.Rows.{each}
 use Rattle.short_lists_text.specs.Lists.{onlyTask, alphabet, listsFrom}
 use Rattle.short_lists_text.specs.Text.{listLine, linesOf, fits, textOf}
 
@@ -39,7 +38,7 @@ pub record TextCases : Type 0 where
       ++ (bytes "recover 1, timeout 1, check 1, check 1\nrecover 1, timeout 1, check 1, timeout 1\nrecover 1, timeout 1, timeout 1, crash 1\nrecover 1, timeout 1, timeout 1, check 1\n"
       ++ bytes "recover 1, timeout 1, timeout 1, timeout 1\nlists 17\n")))
   -- each event's name and numbers, and their order, for three nodes
-  pub events : joined (each (λ e. listLine (e ∷ [])) (alphabet 3)) ≡
+  pub events : joined (map (λ e. listLine (e ∷ [])) (alphabet 3)) ≡
       bytes "crash 1\ncrash 2\ncrash 3\nrecover 1\nrecover 2\nrecover 3\ncheck 1\ncheck 2\n"
       ++ (bytes "check 3\ntimeout 1\ntimeout 2\ntimeout 3\ntick 1\ntick 2\ntick 3\nexpire 1\n"
       ++ (bytes "expire 2\nexpire 3\nfinish 1 100\nfinish 2 100\nfinish 3 100\ndeliver 1 2\ndeliver 1 3\ndeliver 2 1\n"

@@ -3,7 +3,7 @@ use Prim.Native.Nat.{ℕ, _^_, _≤_, _<_}
 use mathlib.Core.Bool.{true}
 use mathlib.Core.Path.{_≡_}
 use mathlib.Core.Logic.{_⊎_}
-use mathlib.Core.List.{List, [], _∷_, _++_}
+use mathlib.Core.List.{List, [], _∷_, _++_, map}
 use lib.ListN.{length, take}
 use Rattle.model.specs.State.{State, start}
 use Rattle.model.specs.Step.{step, runFrom}
@@ -15,7 +15,7 @@ use Rattle.event_list.specs.Format.{eventTag, lengthOf, eventOf}
 use Rattle.listing.specs.Ascii.{bytes}
 use Rattle.listing.specs.Decimal.{Denotes}
 use Rattle.listing.specs.Printing.{joined}
-use Rattle.short_lists_text.specs.Rows.{Among, All, Ascending, each}
+use Rattle.short_lists_text.specs.Rows.{Among, All, Ascending}
 use Rattle.short_lists_text.specs.Order.{tag, contents, BytesBefore, Before, ListBefore}
 use Rattle.short_lists_text.specs.Lists.{listsFrom, isAccepted, Legal}
 use Rattle.short_lists_text.specs.Text.{numbersOf, eventText, eventsText, listLine, countLine, linesOf, textOf}
@@ -98,7 +98,7 @@ pub record IsCount (k : ℕ) (l : List ℕ) : Type 0 where
 -- the text of every input that is allowed
 pub record Counts : Type 0 where
   -- the line of each list, in their order, and a last one
-  pub lines : (n m : ℕ) → 1 ≤ n → n ≤ 3 → m ≤ 7 → textOf (n ∷ m ∷ []) ≡ joined (each listLine (listsFrom m (start n))) ++ countLine (length (listsFrom m (start n)))
+  pub lines : (n m : ℕ) → 1 ≤ n → n ≤ 3 → m ≤ 7 → textOf (n ∷ m ∷ []) ≡ joined (map listLine (listsFrom m (start n))) ++ countLine (length (listsFrom m (start n)))
   -- "a last line `lists k` gives their count"
   pub last : (n m : ℕ) → 1 ≤ n → n ≤ 3 → m ≤ 7 → IsCount (length (listsFrom m (start n))) (countLine (length (listsFrom m (start n))))
   -- the same of any lists, where they are fewer than 2 ^ 32: a printed number has at most ten digits
@@ -159,6 +159,6 @@ pub record ListLinesDetermine : Type 0 where
   -- so all lists have, by `AllLists.only`
   pub lists-small : (m : ℕ) (s : State) → All (All SmallNumbers) (listsFrom m s)
   -- a line that is at a place is at no earlier and at no later one
-  pub once : (m : ℕ) (s : State) (x : List ℕ) (before after : List (List ℕ)) → each listLine (listsFrom m s) ≡ before ++ (x ∷ after) → (Among x before → ⊥) × (Among x after → ⊥)
+  pub once : (m : ℕ) (s : State) (x : List ℕ) (before after : List (List ℕ)) → map listLine (listsFrom m s) ≡ before ++ (x ∷ after) → (Among x before → ⊥) × (Among x after → ⊥)
   -- from the text the lists can be told
   pub text : (ls ms : List (List Event)) → All (All SmallNumbers) ls → All (All SmallNumbers) ms → joined (linesOf ls) ≡ joined (linesOf ms) → ls ≡ ms

@@ -2,7 +2,7 @@
 use Prim.Native.Nat.{ℕ, zero, suc}
 use mathlib.Core.Bool.{Bool, true, false}
 use mathlib.Core.Path.{_≡_}
-use mathlib.Core.List.{List, [], _∷_, _++_}
+use mathlib.Core.List.{List, [], _∷_, _++_, map}
 use lib.Dec.{eqb}
 use lib.ListN.{length}
 use Rattle.model.specs.Pick.{pick}
@@ -11,7 +11,7 @@ use Rattle.model.specs.Step.{Result, refused, accepted, step, after}
 use Rattle.model.specs.declared.TaskNo.{TaskNo}
 use Rattle.model.specs.declared.Event.{Event}
 use Rattle.model.specs.declared.Event.the-variants.{Crash, Recover, Check, Timeout, Tick, Expire, Finish, Deliver, Lose}
-use Rattle.short_lists_text.specs.Rows.{All, each, concatMap}
+use Rattle.short_lists_text.specs.Rows.{All, concatMap}
 
 -- ── the events that may stand in a list ──
 
@@ -35,18 +35,18 @@ without i (j ∷ js) = pick (eqb j i) (without i js) (j ∷ without i js)
 
 -- an event of two different nodes, for each such pair: (1,2), (1,3) and so on to (n,n-1)
 unfoldable pub pairsOf : (ℕ → ℕ → Event) → ℕ → List Event
-pairsOf f n = concatMap (λ a. each (f a) (without a (nodesOf n))) (nodesOf n)
+pairsOf f n = concatMap (λ a. map (f a) (without a (nodesOf n))) (nodesOf n)
 
 -- the alphabet: the events of which lists for n nodes are made, in the order "tag first, then contents as bytes"
 unfoldable pub alphabet : ℕ → List Event
 alphabet n =
-    each Crash (nodesOf n)
-    ++ (each Recover (nodesOf n)
-    ++ (each Check (nodesOf n)
-    ++ (each Timeout (nodesOf n)
-    ++ (each Tick (nodesOf n)
-    ++ (each Expire (nodesOf n)
-    ++ (each (λ i. Finish i (record { number = onlyTask })) (nodesOf n)
+    map Crash (nodesOf n)
+    ++ (map Recover (nodesOf n)
+    ++ (map Check (nodesOf n)
+    ++ (map Timeout (nodesOf n)
+    ++ (map Tick (nodesOf n)
+    ++ (map Expire (nodesOf n)
+    ++ (map (λ i. Finish i (record { number = onlyTask })) (nodesOf n)
     ++ (pairsOf Deliver n
     ++ pairsOf Lose n)))))))
 
@@ -55,7 +55,7 @@ alphabet n =
 -- e before each of the lists from the state after it, where it is accepted; else none
 abbrev pub continued : Event → Result → (State → List (List Event)) → List (List Event)
 continued e (refused r) later = []
-continued e (accepted u mark) later = each (λ l. e ∷ l) (later u)
+continued e (accepted u mark) later = map (λ l. e ∷ l) (later u)
 
 -- all lists of m events from s
 unfoldable pub listsFrom : ℕ → State → List (List Event)

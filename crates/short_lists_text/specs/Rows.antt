@@ -1,4 +1,4 @@
--- Lists of any things: what is among them, what holds of all of them, what it means that they ascend, and a function of each of them.
+-- Lists of any things: what is among them, what holds of all of them, what it means that they ascend, and the lists that a function gives for each.
 use mathlib.Core.Path.{_≡_}
 use mathlib.Core.Logic.{_⊎_}
 use mathlib.Core.List.{List, [], _∷_, _++_}
@@ -17,11 +17,6 @@ All P (x ∷ xs) = P x × All P xs
 abbrev pub Ascending : {A : Type 0} → (A → A → Type 0) → List A → Type 0
 Ascending R [] = Unit {0}
 Ascending R (x ∷ xs) = All (R x) xs × Ascending R xs
-
--- f of each
-abbrev pub each : {A B : Type 0} → (A → B) → List A → List B
-each f [] = []
-each f (x ∷ xs) = f x ∷ each f xs
 
 -- the lists that f gives for each, one after another
 abbrev pub concatMap : {A B : Type 0} → (A → List B) → List A → List B

@@ -1,7 +1,7 @@
 -- The text of T-01: one definition from input bytes to printed bytes.
 use Prim.Native.Nat.{ℕ}
 use mathlib.Core.Bool.{Bool, _&&_}
-use mathlib.Core.List.{List, [], _∷_, _++_}
+use mathlib.Core.List.{List, [], _∷_, _++_, map}
 use lib.ListN.{length, getD}
 use lib.Dec.{eqb, leb}
 use Rattle.model.specs.Pick.{pick}
@@ -13,7 +13,6 @@ use Rattle.listing.specs.Ascii.{bytes}
 use Rattle.listing.specs.Decimal.{decimal}
 use Rattle.listing.specs.Lines.{row, stoppedLine}
 use Rattle.listing.specs.Printing.{joined}
-use Rattle.short_lists_text.specs.Rows.{each}
 use Rattle.short_lists_text.specs.Lists.{listsFrom}
 
 -- ── a line ──
@@ -73,7 +72,7 @@ countLine k = bytes "lists" ++ row (k ∷ [])
 
 -- the lines of these lists, and the last one
 abbrev pub linesOf : List (List Event) → List (List ℕ)
-linesOf ls = each listLine ls ++ (countLine (length ls) ∷ [])
+linesOf ls = map listLine ls ++ (countLine (length ls) ∷ [])
 
 -- "n from 1 to 3 and a length from 0 to 7, as two bytes", n first. Where it does not hold 16 is met: "not exactly two bytes, or one outside its range"
 unfoldable pub fits : List ℕ → Bool
