@@ -5,13 +5,14 @@ use mathlib.Core.Bool.{Bool, true, false, _||_, true≢false}
 use mathlib.Core.Path.{_≡_, refl, sym, _∙_, ap}
 use lib.Dec.{eqb}
 use borrow.Author.Tests.{not-false, eqb-true, eqb-false}
-use Rattle.node_set.specs.NodeSet.{has, within, without, lowest}
-use Rattle.node_set.proofs.Laws.{empty-lacks, lowest-in, without-others}
+use Rattle.node_set.specs.NodeSet.{has, within, without}
+use Rattle.node_set.proofs.Laws.{empty-lacks, without-others}
 use Rattle.model.specs.Pick.{by-test}
-use Rattle.model.specs.Procedures.{reaction, inviteNext, merges, handNext, finishes, forwardNext, askedAll, askAt, askAfter}
+use Rattle.model.specs.Procedures.{reaction, next, inviteNext, merges, handNext, finishes, forwardNext, askedAll, askAt, askAfter}
 use Rattle.model.specs.React.{checked, timedOut, ticked, expired, resumed, onAreYouCoordinator, onAreYouThere, onInvitation, onAccept, onReady, onReply, received, react}
 use Rattle.model.specs.State.{State, nodeAt, oldest}
 use Rattle.model.specs.Step.{actor, reactionTo}
+use Rattle.model.proofs.Next.{next-in}
 use Rattle.model.proofs.Judged.{Clear}
 use Rattle.model.proofs.Numbers.{actor-in}
 use Rattle.model.proofs.Fields.{in-range-size, in-range-node, node-facts}
@@ -54,27 +55,27 @@ module _ (n o j : ℕ) (small : n ≤ 16) (inside : within n o ≡ true) (low : 
   some : o ≡ 0 → ⊥
   some e = true≢false (sym member ∙ ap (λ (s : ℕ). has s j) e ∙ empty-lacks j)
 
-  -- it is the lowest, or among those left
-  lowest-or-left : (eqb (lowest o) j || has 0 j || has (without o (lowest o)) j) ≡ true
-  lowest-or-left = by (eqb (lowest o) j) refl
+  -- it is next, or among those left
+  next-or-left : (eqb (next o) j || has 0 j || has (without o (next o)) j) ≡ true
+  next-or-left = by (eqb (next o) j) refl
     where
-      l : (1 ≤ lowest o) × (lowest o ≤ n)
-      l = lowest-in n o small inside (omega (arith, some))
+      l : (1 ≤ next o) × (next o ≤ n)
+      l = next-in n o small inside (omega (arith, some))
 
-      by : (b : Bool) → eqb (lowest o) j ≡ b → (b || has 0 j || has (without o (lowest o)) j) ≡ true
-      by true e = or-first (has 0 j) (has (without o (lowest o)) j)
+      by : (b : Bool) → eqb (next o) j ≡ b → (b || has 0 j || has (without o (next o)) j) ≡ true
+      by true e = or-first (has 0 j) (has (without o (next o)) j)
         where
           or-first : (x y : Bool) → (true || x || y) ≡ true
           or-first true y = refl
           or-first false y = refl
       by false e =
-          or-right false (has 0 j) _ (without-others n o (lowest o) j small inside (l .0) (l .1) low (λ z. eqb-false (lowest o) j e (sym z)) ∙ member)
+          or-right false (has 0 j) _ (without-others n o (next o) j small inside (l .0) (l .1) low (λ z. eqb-false (next o) j e (sym z)) ∙ member)
 
   invite-old : (i : ℕ) (c : Node) (k : Mark) (found : ℕ) → invites (inviteNext i c k found o .node .activity) j ≡ true
   unfolding inviteNext
   invite-old i c k found =
-      by-test P (λ _. or-right (eqb (lowest found) j) (has (without found (lowest found)) j) (has o j) member)
-      (λ _. by-test P (λ _. lowest-or-left) (λ q. absurd (some (eqb-true o 0 (not-false _ q)))))
+      by-test P (λ _. or-right (eqb (next found) j) (has (without found (next found)) j) (has o j) member)
+      (λ _. by-test P (λ _. next-or-left) (λ q. absurd (some (eqb-true o 0 (not-false _ q)))))
     where
       P : Reaction → Type 0
       P r = invites (r .node .activity) j ≡ true

@@ -3,8 +3,9 @@ use Prim.Native.Nat.{ℕ, zero, suc, _+_, _-_, _≤_}
 use native.Mathlib.Omega.{arith}
 use mathlib.Core.Bool.{Bool, true, false, _&&_, true≢false}
 use mathlib.Core.Path.{_≡_, refl, sym, _∙_, ap, subst}
+use mathlib.Core.Logic.{_⊎_, ⊎-elim}
 use mathlib.Core.List.{List, [], _∷_, _++_, append-nil}
-use lib.Count.{onesIn, ones, leadingZeros, trailingZeros}
+use lib.Count.{onesIn, ones, leadingZeros}
 use lib.Bits.{bitAnd, bitOr}
 use lib.Dec.{eqb}
 use lib.ListN.{length, getD, set}
@@ -20,11 +21,12 @@ use Rattle.model.specs.Range.{activityInRange, nodeInRange, messageInRange}
 use Rattle.model.specs.State.{State, startingNode, start, nodeAt, waits, oldest, withoutOldest, every, inRange, firstOf, view, tableOf}
 use Rattle.model.specs.Step.{actor, reactionTo, remaining, sent, effect, forms, isCalling, isSending, grounds, judged, Result, refused, accepted, step, kept, after, runFrom}
 use Rattle.model.specs.Answers.{answerNumber, resultNumber}
-use Rattle.model.specs.Claims.{isActive, Lacks}
+use Rattle.model.specs.Claims.{isActive, Lacks, whomNow, whomStill, Below}
 use Rattle.model.proofs.Judged.{by-step, accepted-is}
 use Rattle.model.proofs.Local.{both-right}
-use Rattle.model.proofs.Fields.{in-range-size}
+use Rattle.model.proofs.Fields.{in-range-size, own-record}
 use Rattle.model.proofs.InRange.{delivery-never-full, stays-in-range}
+use Rattle.model.proofs.Highest.{highest-first}
 use Rattle.model.specs.declared.Status.the-variants.{Election}
 use Rattle.model.specs.declared.Activity.{Activity}
 use Rattle.model.specs.declared.Activity.the-variants.{Idle, Asking, Waiting, Inviting, Collecting, Handing, Contacting, Forwarding, Accepting}
@@ -39,10 +41,10 @@ use Rattle.model.specs.declared.Event.the-variants.{Crash, Recover, Check, Time
 use Rattle.model.specs.declared.Outcome.{Outcome}
 use Rattle.model.specs.declared.Answer.the-variants.{Accepted}
 use Rattle.machine.specs.Stepped.{Stepped, startingTable}
-use Rattle.machine.specs.Mutants.{mergingTable, handingTable, invitedTable, askingTable, invites, recoversAtExpire, Moves, NoMutant, NoWrongTurning}
+use Rattle.machine.specs.Mutants.{mergingTable, handingTable, invitedTable, askingTable, invites, recoversAtExpire, Moves, NoMutant, NoWrongTurning, NoLowerFirst}
 use Rattle.machine.proofs.Laws.{start-is}
 use Rattle.machine.proofs.Runs.{run-nodes, start-node, accepted-alike, code-runs, code-fixes, folded-reached}
-use Rattle.machine.proofs.Still.{own-record, accepted-differs, reply-taken}
+use Rattle.machine.proofs.Still.{accepted-differs, reply-taken}
 use Rattle.machine.proofs.Invites.{event-invites}
 
 -- ── on concrete tables, by computation ──
@@ -62,7 +64,7 @@ record Computed : Type 0 where
   second : nodeAt (after (view (startingTable 2)) (Recover 1)) 2 ≡ startingNode
 
 computed : Computed
-unfolding pick onesIn ones leadingZeros trailingZeros bitAnd bitOr inviteNext merges handNext finishes forwardNext askedAll askAt askAfter checked timedOut ticked expired resumed onAreYouCoordinator onAreYouThere onInvitation onAccept onReady onReply received react activityInRange nodeInRange messageInRange waits oldest withoutOldest every inRange reactionTo remaining effect grounds judged step runFrom firstOf
+unfolding pick onesIn ones leadingZeros bitAnd bitOr inviteNext merges handNext finishes forwardNext askedAll askAt askAfter checked timedOut ticked expired resumed onAreYouCoordinator onAreYouThere onInvitation onAccept onReady onReply received react activityInRange nodeInRange messageInRange waits oldest withoutOldest every inRange reactionTo remaining effect grounds judged step runFrom firstOf
 computed = record { again = refl; members = refl; task = refl; status = refl; handed = refl; older = refl; other = refl; away = refl; ranged = refl; two = refl; second = refl }
 
 asked-apart : Asking 3 2 ≡ Asking 2 0 → ⊥
@@ -326,4 +328,16 @@ no-mutant =
           true≢false (sym (not-false _ (accepted-is (view t) (Deliver a b) _ _ (accepted-alike .model-accepts x h) .clear .waiting)) ∙ w);
       delivery-full = λ t a b {r} x h. full (view t) a b (step (view t) (Deliver a b)) refl (sym (x .answer) ∙ ap answerNumber h);
       no-cry = λ n e {r} x h. first-small n e (rw (x .answer ∙ ap (λ (s : State). resultNumber (step s e)) (start-is n)) at h);
+    }
+
+-- ── higher numbers first ──
+
+pub no-lower-first : NoLowerFirst
+no-lower-first =
+    record {
+      lower-first = λ t e j {r} x y d h l. ⊎-elim d (λ f. omega (arith, f j h, l)) (highest-first .steps (view t) e _ _ (accepted-alike .model-accepts x y));
+      lower-former = λ t e j former was found rest now {r} x y d p q h l.
+          ⊎-elim d (λ f. omega (arith, f j h, l)) (highest-first .steps-former (view t) e _ _ (accepted-alike .model-accepts x y) former was found rest now p q);
+      lower-later = λ n {es} {t} c i j h l.
+          omega (arith, subst (λ (s : State). Below (whomStill (nodeAt s i .activity)) (whomNow (nodeAt s i .activity))) (sym (code-runs .from-start n es t c)) (highest-first .runs n es i) j h, l);
     }

@@ -7,20 +7,19 @@ use mathlib.Core.Logic.{_⊎_, inl, inr}
 use mathlib.Core.List.{List, [], _∷_, _++_, append-assoc, append-cancel-left}
 use lib.Dec.{eqb, ltb}
 use lib.ListN.{length, length-append}
-use lib.Seq.{getD-set-same}
 use borrow.Author.Tests.{not-false, not-true, eqb-true, eqb-false, eq-eqb, le-leb, ltb-true}
 use Rattle.model.specs.Pick.{pick, by-test}
 use Rattle.model.specs.Node.{isDown, isNormal, isWaiting, isCollecting, hasOpenCall, ownerOf, merged, invited}
 use Rattle.model.specs.Procedures.{inviteNext, merges, handNext, finishes, forwardNext, askedAll, askAt, askAfter}
 use Rattle.model.specs.React.{leads, checked, timedOut, ticked, expired, resumed, onAreYouCoordinator, onAreYouThere, onInvitation, onAccept, onReady, onReply, received, react}
 use Rattle.model.specs.Range.{isNode, isOther}
-use Rattle.model.specs.State.{State, startingNode, nodeAt, oldest, withoutOldest}
+use Rattle.model.specs.State.{State, nodeAt, oldest, withoutOldest}
 use Rattle.model.specs.Step.{actor, reactionTo, remaining, sent, effect, accepted, step}
 use Rattle.model.specs.Claims.{WithoutOldest}
 use Rattle.model.proofs.Judged.{Clear, accepted-is}
 use Rattle.model.proofs.Numbers.{actor-in}
 use Rattle.model.proofs.Local.{both-left, both-right}
-use Rattle.model.proofs.Fields.{Busy, in-range-size, in-range-node, node-facts}
+use Rattle.model.proofs.Fields.{Busy, in-range-node, node-facts, own-record}
 use Rattle.model.proofs.Locality.{taken-out}
 use Rattle.model.specs.declared.Activity.{Activity}
 use Rattle.model.specs.declared.Activity.the-variants.{Idle, Asking, Waiting, Inviting, Collecting, Handing, Contacting, Forwarding, Accepting}
@@ -226,15 +225,8 @@ queue-differs a b q r o w d h e = by o h (append-cancel-left (w .before) _ _ (sy
 -- ── the claim ──
 
 module _ (s : State) where
-  -- the event's node has its new record
-  pub own-record : (e : Event) → Clear s e → nodeAt (effect s e) (actor e) ≡ reactionTo s e .node
-  unfolding effect
-  own-record e c =
-      let k = actor-in (s .n) e (c .number) in
-      getD-set-same (s .nodes) (actor e - 1) (reactionTo s e .node) startingNode (omega (arith, k .0, k .1, in-range-size s (c .in-range) .2))
-
   own : (e : Event) → Clear s e → effect s e ≡ s → reactionTo s e .node ≡ nodeAt s (actor e)
-  own e c h = sym (own-record e c) ∙ ap (λ (u : State). nodeAt u (actor e)) h
+  own e c h = sym (own-record s e c) ∙ ap (λ (u : State). nodeAt u (actor e)) h
 
   others : (a b : ℕ) → not (isNode (s .n) a && isOther (s .n) a b) ≡ false → b ≡ a → ⊥
   others a b q =

@@ -1,4 +1,4 @@
--- "Try these impostors", and "Wrong turnings in this protocol": what no machine does that meets `Stepped` (mutant: 01's impostor). A machine is here whatever
+-- "Try these impostors", "Wrong turnings in this protocol" and 02's T-02: what no machine does that meets `Stepped` (mutant: 01's impostor). A machine is here whatever
 -- answers an event e on a table t with an outcome r, as a function f from tables and events does with f t e; nothing is asked of how it comes to r, so it may also
 -- remember. Each field takes as little of the mutant's behaviour as shuts it out: one event, and one thing that is wrong then. The proofs are in proofs/Mutants.
 use Prim.Native.Nat.{ℕ, _-_, _≤_}
@@ -13,7 +13,7 @@ use Rattle.model.specs.React.{leads}
 use Rattle.model.specs.State.{State, nodeAt, waits, oldest, inRange, view, tableOf}
 use Rattle.model.specs.Step.{actor, reactionTo}
 use Rattle.model.specs.Answers.{answerNumber}
-use Rattle.model.specs.Claims.{isActive, Lacks}
+use Rattle.model.specs.Claims.{isActive, Lacks, whomNow, whomStill}
 use Rattle.model.specs.Cases.{setOf, none}
 use Rattle.model.specs.declared.Mark.the-variants.{Merges}
 use Rattle.model.specs.declared.Status.{Status}
@@ -54,13 +54,13 @@ mergingTable = record {
   queue = [];
 }
 
--- node 3 hands Ready to node 1, and node 2 is still to get it
+-- node 3 hands Ready to node 2, and node 1 is still to get it
 abbrev pub handingTable : State
 handingTable = record {
   n = 3;
   nodes = node Reorganization 1 50 3 1 none 2 Idle
       ∷ node Reorganization 1 50 3 2 none 2 Idle
-      ∷ node Reorganization 3 50 3 100 (setOf (1 ∷ 2 ∷ [])) 5 (Handing (setOf (2 ∷ [])) 1)
+      ∷ node Reorganization 3 50 3 100 (setOf (1 ∷ 2 ∷ [])) 5 (Handing (setOf (1 ∷ [])) 2)
       ∷ [];
   queue = [];
 }
@@ -219,3 +219,20 @@ pub record NoWrongTurning : Type 0 where
   -- for one: node 3's reply to the call on which node 2 is asked
   pub other-one : {r : Outcome} → Stepped (tableOf (askingTable (replies 3 1 (record { number = 5 }) true ∷ []))) (Deliver 3 1) r
       → nodeAt (view (r .table)) 1 .activity ≡ Asking 2 none → ⊥
+
+-- ── 02, T-02: higher numbers first ──
+
+pub record NoLowerFirst : Type 0 where
+  -- "Whoever picks the next cabinet from a set shall now pick the highest, in inviting, forwarding and handing.": after no accepted event on any table does a node
+  -- call one while a higher one, j, of the same set is still to be called; where an event leaves the activity as it was, nobody is picked
+  pub lower-first : (t : Table) (e : Event) (j : ℕ) {r : Outcome} → Stepped t e r → r .answer ≡ Accepted
+      → (nodeAt (view (r .table)) (actor e) .activity ≡ nodeAt (view t) (actor e) .activity → ⊥)
+      → has (whomStill (nodeAt (view (r .table)) (actor e) .activity)) j ≡ true → whomNow (nodeAt (view (r .table)) (actor e) .activity) ≤ j → ⊥
+  -- so with those set aside, where none of those found was left
+  pub lower-former : (t : Table) (e : Event) (j former was found rest now : ℕ) {r : Outcome} → Stepped t e r → r .answer ≡ Accepted
+      → (nodeAt (view (r .table)) (actor e) .activity ≡ nodeAt (view t) (actor e) .activity → ⊥)
+      → nodeAt (view t) (actor e) .activity ≡ Inviting none former was → nodeAt (view (r .table)) (actor e) .activity ≡ Inviting found rest now
+      → has rest j ≡ true → now ≤ j → ⊥
+  -- and so in every table that the code reached from the starting one
+  pub lower-later : (n : ℕ) {es : List Event} {t : Table} → Reached Folded n es t → (i j : ℕ)
+      → has (whomStill (nodeAt (view t) i .activity)) j ≡ true → whomNow (nodeAt (view t) i .activity) ≤ j → ⊥

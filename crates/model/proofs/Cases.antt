@@ -1,6 +1,6 @@
 -- The named cases, the wrong turnings, the further cases and the ends of what is in range, computed over the definitions.
 use mathlib.Core.Path.{_≡_, refl}
-use lib.Count.{onesIn, ones, leadingZeros, trailingZeros}
+use lib.Count.{onesIn, ones, leadingZeros}
 use lib.Bits.{bitAnd, bitOr}
 use Rattle.model.specs.Pick.{pick}
 use Rattle.model.specs.Procedures.{inviteNext, merges, handNext, finishes, forwardNext, askedAll, askAt, askAfter}
@@ -12,7 +12,7 @@ use Rattle.model.specs.History.{updated, historyFrom}
 use Rattle.model.specs.Cases.{NamedCases, WrongTurnings, FurtherCases, RangeCases}
 
 pub named-cases : NamedCases
-unfolding pick onesIn ones leadingZeros trailingZeros bitAnd bitOr inviteNext merges handNext finishes forwardNext askedAll askAt askAfter checked timedOut ticked expired resumed onAreYouCoordinator onAreYouThere onInvitation onAccept onReady onReply received react activityInRange nodeInRange messageInRange waits oldest withoutOldest every inRange reactionTo remaining effect wrongNumber wrongTask wrongStatus wrongActivity noneWaits grounds judged step runFrom updated historyFrom
+unfolding pick onesIn ones leadingZeros bitAnd bitOr inviteNext merges handNext finishes forwardNext askedAll askAt askAfter checked timedOut ticked expired resumed onAreYouCoordinator onAreYouThere onInvitation onAccept onReady onReply received react activityInRange nodeInRange messageInRange waits oldest withoutOldest every inRange reactionTo remaining effect wrongNumber wrongTask wrongStatus wrongActivity noneWaits grounds judged step runFrom updated historyFrom
 named-cases =
     record {
       k1-low = refl;
@@ -74,7 +74,7 @@ named-cases =
     }
 
 pub wrong-turnings : WrongTurnings
-unfolding pick onesIn ones leadingZeros trailingZeros bitAnd bitOr inviteNext merges handNext finishes forwardNext askedAll askAt askAfter checked timedOut ticked expired resumed onAreYouCoordinator onAreYouThere onInvitation onAccept onReady onReply received react activityInRange nodeInRange messageInRange waits oldest withoutOldest every inRange reactionTo remaining effect wrongNumber wrongTask wrongStatus wrongActivity noneWaits grounds judged step runFrom updated historyFrom
+unfolding pick onesIn ones leadingZeros bitAnd bitOr inviteNext merges handNext finishes forwardNext askedAll askAt askAfter checked timedOut ticked expired resumed onAreYouCoordinator onAreYouThere onInvitation onAccept onReady onReply received react activityInRange nodeInRange messageInRange waits oldest withoutOldest every inRange reactionTo remaining effect wrongNumber wrongTask wrongStatus wrongActivity noneWaits grounds judged step runFrom updated historyFrom
 wrong-turnings =
     record {
       members-aside = refl;
@@ -88,7 +88,7 @@ wrong-turnings =
     }
 
 pub further-cases : FurtherCases
-unfolding pick onesIn ones leadingZeros trailingZeros bitAnd bitOr inviteNext merges handNext finishes forwardNext askedAll askAt askAfter checked timedOut ticked expired resumed onAreYouCoordinator onAreYouThere onInvitation onAccept onReady onReply received react activityInRange nodeInRange messageInRange waits oldest withoutOldest every inRange reactionTo remaining effect wrongNumber wrongTask wrongStatus wrongActivity noneWaits grounds judged step runFrom updated historyFrom
+unfolding pick onesIn ones leadingZeros bitAnd bitOr inviteNext merges handNext finishes forwardNext askedAll askAt askAfter checked timedOut ticked expired resumed onAreYouCoordinator onAreYouThere onInvitation onAccept onReady onReply received react activityInRange nodeInRange messageInRange waits oldest withoutOldest every inRange reactionTo remaining effect wrongNumber wrongTask wrongStatus wrongActivity noneWaits grounds judged step runFrom updated historyFrom
 further-cases =
     record {
       highest-found = refl;
@@ -121,11 +121,13 @@ further-cases =
       accepted-replies = refl;
       forwarded-accepts = refl;
       accepting-expires = refl;
-      forwards-lowest = refl;
+      invites-highest = refl;
+      forwards-highest = refl;
       forwarding-expires = refl;
       forwarding-ends = refl;
-      hands-lowest = refl;
+      hands-highest = refl;
       hands-last = refl;
+      asks-up = refl;
       invite-no = refl;
       hand-no = refl;
       forward-no = refl;

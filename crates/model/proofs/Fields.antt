@@ -6,7 +6,8 @@ use mathlib.Core.Logic.{_⊎_, inl, inr, ⊎-elim}
 use mathlib.Core.Path.{_≡_, refl, sym, ap, subst}
 use mathlib.Core.List.{List, [], _∷_}
 use lib.Dec.{eqb, leb}
-use lib.ListN.{length, getD}
+use lib.ListN.{length, getD, set}
+use lib.Seq.{getD-set-same}
 use borrow.Author.Tests.{eqb-true, eqb-false, leb-true, not-true}
 use Rattle.node_set.specs.NodeSet.{has, within}
 use Rattle.model.specs.Pick.{by-test}
@@ -14,12 +15,16 @@ use Rattle.model.specs.Limits.{nodeLimit, queueLimit, counterEnd, callEn
 use Rattle.model.specs.Node.{isDown, isIdle, ownerOf, counterOf}
 use Rattle.model.specs.Range.{isNode, isOther, isSetOfOthers, isGroup, isGivenTask, isCall, isGroupOrNone, isLed, carriesGroup, activityInRange, nodeInRange, messageInRange}
 use Rattle.model.specs.State.{State, startingNode, nodeAt, goes, waits, oldest, every, inRange}
+use Rattle.model.specs.Step.{actor, reactionTo, effect}
 use Rattle.model.proofs.Local.{both-left, both-right}
+use Rattle.model.proofs.Judged.{Clear}
+use Rattle.model.proofs.Numbers.{actor-in}
 use Rattle.model.proofs.Locality.{taken-out}
 use Rattle.model.specs.declared.Activity.{Activity}
 use Rattle.model.specs.declared.Activity.the-variants.{Idle, Asking, Waiting, Inviting, Collecting, Handing, Contacting, Forwarding, Accepting}
 use Rattle.model.specs.declared.Node.{Node}
 use Rattle.model.specs.declared.Message.{Message}
+use Rattle.model.specs.declared.Event.{Event}
 
 -- ── tests of several parts ──
 pub either : (x y : Bool) → (x || y) ≡ true → (x ≡ true) ⊎ (y ≡ true)
@@ -275,3 +280,10 @@ oldest-goes a b q w = let x = taken-out a b q w in rw (x .oldest-is) (x .goes-th
 
 pub in-range-oldest : (s : State) (a b : ℕ) → inRange s ≡ true → waits a b (s .queue) ≡ true → messageInRange (s .n) (oldest a b (s .queue)) ≡ true
 in-range-oldest s a b e w = every-oldest (messageInRange (s .n)) a b 1 (s .queue) (in-range-queue s e) w
+
+-- an accepted event's node has its new record
+pub own-record : (s : State) (e : Event) → Clear s e → nodeAt (effect s e) (actor e) ≡ reactionTo s e .node
+unfolding effect
+own-record s e c =
+    let k = actor-in (s .n) e (c .number) in
+    getD-set-same (s .nodes) (actor e - 1) (reactionTo s e .node) startingNode (omega (arith, k .0, k .1, in-range-size s (c .in-range) .2))

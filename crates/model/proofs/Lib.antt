@@ -2,6 +2,7 @@ pub mod Judged
 pub mod Invariant
 pub mod Local
 pub mod Numbers
+pub mod Next
 pub mod Origin
 pub mod Whole
 pub mod Fixed
@@ -11,3 +12,4 @@ pub mod Fields
 pub mod Range
 pub mod InRange
 pub mod Refusals
+pub mod Highest

@@ -6,16 +6,17 @@ use mathlib.Core.Logic.{_⊎_, inl, inr}
 use mathlib.Core.Path.{_≡_, refl, sym, _∙_, ap}
 use lib.Dec.{eqb}
 use borrow.Author.Tests.{eqb-true, eqb-false, eq-eqb, ne-eqb, le-leb, leb-true, ltb-true, lt-ltb, not-true}
-use Rattle.node_set.specs.NodeSet.{with, without, lowest, highest}
-use Rattle.node_set.proofs.Laws.{within-word, empty-within, empty-lacks, lowest-in, lowest-other, highest-in, with-within, with-lacks, without-within, without-lacks}
+use Rattle.node_set.specs.NodeSet.{with, without, highest}
+use Rattle.node_set.proofs.Laws.{within-word, empty-within, empty-lacks, highest-in, with-within, with-lacks, without-within, without-lacks}
 use Rattle.model.specs.Pick.{pick, by-test}
 use Rattle.model.specs.Limits.{counterEnd, callEnd, tickEnd, taskLow, taskEnd}
 use Rattle.model.specs.Node.{isDown, isNormal, ownerOf, groupOf, nextCall, turned, calling, settled, tasked, joined, recovered, merged, invited, asks, calls, readies, replies}
-use Rattle.model.specs.Procedures.{reaction, stays, answers, recovers, inviteNext, merges, handNext, finishes, forwardNext, askedAll, askAt, askAfter}
+use Rattle.model.specs.Procedures.{reaction, stays, answers, recovers, next, inviteNext, merges, handNext, finishes, forwardNext, askedAll, askAt, askAfter}
 use Rattle.model.specs.React.{checked, timedOut, ticked, expired, resumed, onAreYouCoordinator, onAreYouThere, onInvitation, onAccept, onReady, onReply, received, react}
 use Rattle.model.specs.Range.{isOther, isSetOfOthers, isGroup, isGivenTask, isCall, activityInRange, nodeInRange, isGroupOrNone, isLed, carriesGroup, messageInRange}
 use Rattle.model.specs.Step.{forms, isCalling}
 use Rattle.model.proofs.Invariant.{NodeNumber, owner-of, counter-of}
+use Rattle.model.proofs.Next.{next-in, next-other}
 use Rattle.model.proofs.Origin.{merges-mark}
 use Rattle.model.proofs.Fields.{neither, IsNode, IsOther, IsSetOfOthers, IsGroup, IsGivenTask, IsCall, Busy, NodeFacts, MessageFacts}
 use Rattle.model.specs.declared.Status.{Status}
@@ -225,10 +226,10 @@ module _ {n i : ℕ} (p : Place n i) where
   some : (s : ℕ) → eqb s 0 ≡ false → 0 < s
   some s e = let q = eqb-false s 0 e in omega arith
 
-  first : {s : ℕ} → IsSetOfOthers n i s → eqb s 0 ≡ false → IsOther n i (lowest s)
-  first {s} x e =
-      let q = lowest-in n s (p .small) (x .inside) (some s e) in
-      record { low = q .0; high = q .1; other = lowest-other s i (some s e) (within-word n s (p .small) (x .inside)) (x .lacks) }
+  next-one : {s : ℕ} → IsSetOfOthers n i s → eqb s 0 ≡ false → IsOther n i (next s)
+  next-one {s} x e =
+      let q = next-in n s (p .small) (x .inside) (some s e) in
+      record { low = q .0; high = q .1; other = next-other s i (some s e) (within-word n s (p .small) (x .inside)) (x .lacks) }
 
   -- ── new groups ──
   fresh : (k : ℕ) → k < counterEnd → IsGroup n (groupOf (k + 1) i)
@@ -320,9 +321,9 @@ module _ {n i : ℕ} (p : Place n i) where
     unfolding inviteNext
     inviteNext-in {k} x f o sf so =
         by-test (Fits n i k (c .last .number))
-        (λ t. let e = not-true _ t in calls-in (Inviting _ _ _) 3 (lowest f) x (omega arith) (omega arith) (first sf e) (less (lowest f) sf, so, first sf e))
+        (λ t. let e = not-true _ t in calls-in (Inviting _ _ _) 3 (next f) x (omega arith) (omega arith) (next-one sf e) (less (next f) sf, so, next-one sf e))
         (λ _. by-test (Fits n i k (c .last .number))
-        (λ t. let e = not-true _ t in calls-in (Inviting _ _ _) 3 (lowest o) x (omega arith) (omega arith) (first so e) (none, less (lowest o) so, first so e))
+        (λ t. let e = not-true _ t in calls-in (Inviting _ _ _) 3 (next o) x (omega arith) (omega arith) (next-one so e) (none, less (next o) so, next-one so e))
         (λ _ _ _. record { node = up-node n i (turned c Collecting) u tt; outgoing = tt }))
 
     handNext-in : {k : ℕ} (r : ℕ) → IsSetOfOthers n i r → IsGivenTask (c .task .number) → Fits n i k (c .last .number) (handNext i c r)
@@ -333,10 +334,10 @@ module _ {n i : ℕ} (p : Place n i) where
           node = up-node n i (settled c Normal) (standing c Normal _ refl (u .task) u) tt;
           outgoing = tt;
         })
-        (λ e. calling-in (Handing _ _) (readies i (lowest r) (nextCall c) (c .group) (c .task)) Plain (omega arith) (less (lowest r) s, first s e, t)
+        (λ e. calling-in (Handing _ _) (readies i (next r) (nextCall c) (c .group) (c .task)) Plain (omega arith) (less (next r) s, next-one s e, t)
         (λ q. record {
           sender = here;
-          receiver = first s e;
+          receiver = next-one s e;
           kind-low = omega arith;
           kind-high = omega arith;
           call = q;
@@ -350,7 +351,7 @@ module _ {n i : ℕ} (p : Place n i) where
     forwardNext-in {k} r a x s o q d =
         by-test (Fits n i k (c .last .number))
         (λ _. calls-in (Accepting a x) 4 (c .coordinator) Plain (omega arith) (omega arith) (leader (λ e. d (u .led ∙ e))) (o, q, d))
-        (λ e. calls-in (Forwarding _ _ a x) 3 (lowest r) Plain (omega arith) (omega arith) (first s e) (less (lowest r) s, first s e, o, q, d))
+        (λ e. calls-in (Forwarding _ _ a x) 3 (next r) Plain (omega arith) (omega arith) (next-one s e) (less (next r) s, next-one s e, o, q, d))
 
   module _ (c : Node) (u : UpNode n i c) where
     merges-in : (f : ℕ) → IsSetOfOthers n i f → Room n i c (merges i c f)

@@ -249,20 +249,20 @@ pub record WrongTurnings : Type 0 where
         last = callNo 2;
         activity = Inviting none (setOf (2 ∷ 3 ∷ [])) 2;
       }) (calls 1 3 2 (callNo 2) (groupNo 32) ∷ [])) Merges
-  -- 2 is invited twice and 3 once, whether they answer or not; then node 1 collects
+  -- 2, which was found, is invited, then 3 and 2, which were set aside, whether they answer or not; then node 1 collects
   pub members-invited : runFrom (first (leader Normal 1 (Waiting 1 (setOf (2 ∷ [])))) []) (Tick 1 ∷ Expire 1 ∷ Expire 1 ∷ Expire 1 ∷ []) .queue
-      ≡ calls 1 3 2 (callNo 2) (groupNo 32) ∷ calls 1 3 2 (callNo 3) (groupNo 32) ∷ calls 1 3 3 (callNo 4) (groupNo 32) ∷ []
+      ≡ calls 1 3 2 (callNo 2) (groupNo 32) ∷ calls 1 3 3 (callNo 3) (groupNo 32) ∷ calls 1 3 2 (callNo 4) (groupNo 32) ∷ []
   -- "Taking the task with the invitation: one group, two tasks." Node 2 has finished with task 100. Node 1, which it invited, has its solo task until Ready comes.
   pub task-waits : printedFields (run 2 (collecting ++ (Finish 2 (taskNo 100) ∷ []))) 1 ≡ 1 ∷ 2 ∷ 2 ∷ 33 ∷ 1 ∷ 1 ∷ 0 ∷ []
   -- the task comes with the Ready of its group, in Reorganization
   pub task-comes : after (beside (follower Reorganization 32 100 none 2 Idle) (ready 32 200)) (Deliver 1 2) ≡ beside (follower Normal 32 200 none 2 Idle) plain
   pub task-of-other : after (beside (follower Reorganization 32 100 none 2 Idle) (ready 16 200)) (Deliver 1 2) ≡ beside (follower Reorganization 32 100 none 2 Idle) plain
   pub task-too-soon : after (beside (follower Election 32 100 none 2 Idle) (ready 32 200)) (Deliver 1 2) ≡ beside (follower Election 32 100 none 2 Idle) plain
-  -- "Sending Ready on after a recovery, under the new group." Node 1 hands Ready to 2, and 3 is still to come. An answer: 3 is next.
-  pub ready-on : after (first (leader Reorganization 1 (Handing (setOf (3 ∷ [])) 2)) (replies 2 1 (callNo 1) true ∷ [])) (Deliver 2 1)
-      ≡ first (leader Reorganization 2 (Handing none 3)) (readies 1 3 (callNo 2) (groupNo 16) (taskNo 100) ∷ [])
+  -- "Sending Ready on after a recovery, under the new group." Node 1 hands Ready to 3, and 2 is still to come. An answer: 2 is next.
+  pub ready-on : after (first (leader Reorganization 1 (Handing (setOf (2 ∷ [])) 3)) (replies 3 1 (callNo 1) true ∷ [])) (Deliver 3 1)
+      ≡ first (leader Reorganization 2 (Handing none 2)) (readies 1 2 (callNo 2) (groupNo 16) (taskNo 100) ∷ [])
   -- no answer: it recovers, and sends nothing
-  pub ready-no-more : step (first (leader Reorganization 1 (Handing (setOf (3 ∷ [])) 2)) []) (Expire 1)
+  pub ready-no-more : step (first (leader Reorganization 1 (Handing (setOf (2 ∷ [])) 3)) []) (Expire 1)
       ≡ accepted (first (record {
         status = Normal;
         counter = 2;
@@ -338,7 +338,7 @@ denial = replies 2 1 (callNo 3) false ∷ []
 abbrev pub twoOfPair : List Message
 twoOfPair = asks 1 2 (callNo 2) ∷ asks 2 1 (callNo 1) ∷ asks 1 2 (callNo 3) ∷ []
 
--- ── further cases: rules of 01 that the named cases leave open ──
+-- ── further cases: rules of 01, and of 02 since it landed, that the named cases leave open ──
 
 pub record FurtherCases : Type 0 where
   -- "let p be the highest found": of 1 and 3, so that node 2 waits one tick
@@ -401,23 +401,44 @@ pub record FurtherCases : Type 0 where
       (calls 3 4 1 (callNo 6) (groupNo 32) ∷ [])) Plain
   -- expire, accepting: "it recovers ..; an invitation's caller then gets no reply"
   pub accepting-expires : step (beside (follower Election 32 100 (setOf (1 ∷ [])) 2 (Accepting 1 (callNo 3))) []) (Expire 2) ≡ accepted (beside alone []) Recovers
-  -- "Sets are walked from the lowest number up": node 1 forwards to 2, then to 3
-  pub forwards-lowest : step (first (leader Normal 1 Idle) (calls 2 3 1 (callNo 8) (groupNo 33) ∷ [])) (Deliver 2 1)
-      ≡ accepted (first (filled Election 33 2 100 (setOf (2 ∷ 3 ∷ [])) 2 (Forwarding (setOf (3 ∷ [])) 2 2 (callNo 8))) (calls 1 3 2 (callNo 2) (groupNo 33) ∷ [])) Plain
+  -- 02, T-02: "Whoever picks the next cabinet from a set shall now pick the highest, in inviting": node 1 has found 2 and 3 and sets 2 and 3 aside, "one in both
+  -- is invited twice"; then it collects
+  pub invites-highest : runFrom (first (leader Normal 1 (Waiting 1 (setOf (2 ∷ 3 ∷ [])))) []) (Tick 1 ∷ Expire 1 ∷ Expire 1 ∷ Expire 1 ∷ Expire 1 ∷ [])
+      ≡ first (record {
+        status = Election;
+        counter = 2;
+        group = groupNo 32;
+        coordinator = 1;
+        task = taskNo 100;
+        members = none;
+        last = callNo 5;
+        activity = Collecting;
+      })
+      (calls 1 3 3 (callNo 2) (groupNo 32)
+      ∷ calls 1 3 2 (callNo 3) (groupNo 32)
+      ∷ calls 1 3 3 (callNo 4) (groupNo 32)
+      ∷ calls 1 3 2 (callNo 5) (groupNo 32)
+      ∷ [])
+  -- "forwarding": node 1 forwards to 3, then to 2
+  pub forwards-highest : step (first (leader Normal 1 Idle) (calls 2 3 1 (callNo 8) (groupNo 33) ∷ [])) (Deliver 2 1)
+      ≡ accepted (first (filled Election 33 2 100 (setOf (2 ∷ 3 ∷ [])) 2 (Forwarding (setOf (2 ∷ [])) 3 2 (callNo 8))) (calls 1 3 3 (callNo 2) (groupNo 33) ∷ [])) Plain
   -- expire, forwarding: "on to the next", and after the last it accepts
-  pub forwarding-expires : step (first (filled Election 33 2 100 (setOf (2 ∷ 3 ∷ [])) 2 (Forwarding (setOf (3 ∷ [])) 2 2 (callNo 8))) []) (Expire 1)
-      ≡ accepted (first (filled Election 33 2 100 (setOf (2 ∷ 3 ∷ [])) 3 (Forwarding none 3 2 (callNo 8))) (calls 1 3 3 (callNo 3) (groupNo 33) ∷ [])) Plain
-  pub forwarding-ends : step (first (filled Election 33 2 100 (setOf (2 ∷ 3 ∷ [])) 3 (Forwarding none 3 2 (callNo 8))) []) (Expire 1)
+  pub forwarding-expires : step (first (filled Election 33 2 100 (setOf (2 ∷ 3 ∷ [])) 2 (Forwarding (setOf (2 ∷ [])) 3 2 (callNo 8))) []) (Expire 1)
+      ≡ accepted (first (filled Election 33 2 100 (setOf (2 ∷ 3 ∷ [])) 3 (Forwarding none 2 2 (callNo 8))) (calls 1 3 2 (callNo 3) (groupNo 33) ∷ [])) Plain
+  pub forwarding-ends : step (first (filled Election 33 2 100 (setOf (2 ∷ 3 ∷ [])) 3 (Forwarding none 2 2 (callNo 8))) []) (Expire 1)
       ≡ accepted (first (filled Election 33 2 100 (setOf (2 ∷ 3 ∷ [])) 4 (Accepting 2 (callNo 8))) (calls 1 4 2 (callNo 4) (groupNo 33) ∷ [])) Plain
-  -- "It hands Ready to each member": to 2 first (then to 3: WrongTurnings.ready-on); "after the last .. Normal and idle"
-  pub hands-lowest : step (first (leader Election 1 Collecting) []) (Finish 1 (taskNo 200))
-      ≡ accepted (first (filled Reorganization 16 1 200 (setOf (2 ∷ 3 ∷ [])) 2 (Handing (setOf (3 ∷ [])) 2)) (readies 1 2 (callNo 2) (groupNo 16) (taskNo 200) ∷ [])) Plain
-  pub hands-last : step (first (leader Reorganization 2 (Handing none 3)) (replies 3 1 (callNo 2) true ∷ [])) (Deliver 3 1) ≡ accepted (first (leader Normal 2 Idle) []) Plain
+  -- "and handing": "It hands Ready to each member", to 3 first (then to 2: WrongTurnings.ready-on); "after the last .. Normal and idle"
+  pub hands-highest : step (first (leader Election 1 Collecting) []) (Finish 1 (taskNo 200))
+      ≡ accepted (first (filled Reorganization 16 1 200 (setOf (2 ∷ 3 ∷ [])) 2 (Handing (setOf (2 ∷ [])) 3)) (readies 1 3 (callNo 2) (groupNo 16) (taskNo 200) ∷ [])) Plain
+  pub hands-last : step (first (leader Reorganization 2 (Handing none 2)) (replies 2 1 (callNo 2) true ∷ [])) (Deliver 2 1) ≡ accepted (first (leader Normal 2 Idle) []) Plain
+  -- "Asking still goes from 1 up": node 3 asks 1, then 2
+  pub asks-up : runFrom (three startingNode startingNode (filled Normal 18 3 3 none 0 Idle) []) (Check 3 ∷ Expire 3 ∷ [])
+      ≡ three startingNode startingNode (filled Normal 18 3 3 none 2 (Asking 2 none)) (asks 3 1 (callNo 1) ∷ asks 3 2 (callNo 2) ∷ [])
   -- "it goes on": inviting, handing, forwarding and accepting do so by a no too
-  pub invite-no : step (first (filled Election 16 1 1 none 4 (Inviting none (setOf (3 ∷ [])) 2)) (replies 2 1 (callNo 4) false ∷ [])) (Deliver 2 1)
-      ≡ accepted (first (filled Election 16 1 1 none 5 (Inviting none none 3)) (calls 1 3 3 (callNo 5) (groupNo 16) ∷ [])) Plain
-  pub hand-no : step (first (leader Reorganization 2 (Handing none 3)) (replies 3 1 (callNo 2) false ∷ [])) (Deliver 3 1) ≡ accepted (first (leader Normal 2 Idle) []) Plain
-  pub forward-no : step (first (filled Election 33 2 100 (setOf (2 ∷ 3 ∷ [])) 3 (Forwarding none 3 2 (callNo 8))) (replies 3 1 (callNo 3) false ∷ [])) (Deliver 3 1)
+  pub invite-no : step (first (filled Election 16 1 1 none 4 (Inviting none (setOf (2 ∷ [])) 3)) (replies 3 1 (callNo 4) false ∷ [])) (Deliver 3 1)
+      ≡ accepted (first (filled Election 16 1 1 none 5 (Inviting none none 2)) (calls 1 3 2 (callNo 5) (groupNo 16) ∷ [])) Plain
+  pub hand-no : step (first (leader Reorganization 2 (Handing none 2)) (replies 2 1 (callNo 2) false ∷ [])) (Deliver 2 1) ≡ accepted (first (leader Normal 2 Idle) []) Plain
+  pub forward-no : step (first (filled Election 33 2 100 (setOf (2 ∷ 3 ∷ [])) 3 (Forwarding none 2 2 (callNo 8))) (replies 2 1 (callNo 3) false ∷ [])) (Deliver 2 1)
       ≡ accepted (first (filled Election 33 2 100 (setOf (2 ∷ 3 ∷ [])) 4 (Accepting 2 (callNo 8))) (calls 1 4 2 (callNo 4) (groupNo 33) ∷ [])) Plain
   pub accept-no : step (merging (filled Election 32 1 100 none 10 (Accepting 3 (callNo 5))) forwarder (replies 1 2 (callNo 10) false ∷ [])) (Deliver 1 2)
       ≡ accepted (merging (filled Reorganization 32 1 100 none 10 Idle) forwarder (replies 2 3 (callNo 5) true ∷ [])) Plain

@@ -1,11 +1,13 @@
 -- What is claimed of the definitions. The proofs are in proofs/.
-use Prim.Native.Nat.{ℕ, _+_, _≤_, _<_}
+use Prim.Native.Nat.{ℕ, _+_, _^_, _≤_, _<_}
 use mathlib.Core.Bool.{Bool, true, false}
 use mathlib.Core.Path.{_≡_}
 use mathlib.Core.Logic.{_⊎_}
 use mathlib.Core.List.{List, [], _∷_, _++_}
 use lib.ListN.{length}
+use Rattle.node_set.specs.NodeSet.{has}
 use Rattle.model.specs.Limits.{nodeLimit}
+use Rattle.model.specs.Procedures.{inviteNext, handNext, forwardNext, askAfter}
 use Rattle.model.specs.Range.{carriesGroup}
 use Rattle.model.specs.State.{State, start, nodeAt, goes, waits, oldest, inRange}
 use Rattle.model.specs.Step.{actor, reactionTo, remaining, sent, forms, Ground, ground, grounds, Result, refused, accepted, step, after, run}
@@ -13,9 +15,14 @@ use Rattle.model.specs.History.{Entry, NotFormed, NoTask, Task, History,
 use Rattle.model.specs.Answers.{resultNumber}
 use Rattle.model.specs.declared.Status.{Status}
 use Rattle.model.specs.declared.Status.the-variants.{Down, Election, Reorganization, Normal}
+use Rattle.model.specs.declared.Activity.{Activity}
+use Rattle.model.specs.declared.Activity.the-variants.{Idle, Asking, Waiting, Inviting, Collecting, Handing, Contacting, Forwarding, Accepting}
 use Rattle.model.specs.declared.Node.{Node}
+use Rattle.model.specs.declared.CallNo.{CallNo}
 use Rattle.model.specs.declared.TaskNo.{TaskNo}
 use Rattle.model.specs.declared.Message.{Message}
+use Rattle.model.specs.declared.Outgoing.{Outgoing}
+use Rattle.model.specs.declared.Outgoing.the-variants.{Nothing, Send}
 use Rattle.model.specs.declared.Mark.{Mark}
 use Rattle.model.specs.declared.Mark.the-variants.{Plain, Recovers, Merges}
 use Rattle.model.specs.declared.Event.{Event}
@@ -205,3 +212,63 @@ pub record ChangesLittle (s : State) (e : Event) (u : State) : Type 0 where
 pub record StepIsLocal : Type 0 where
   pub refused-nothing : (s : State) (e : Event) (r : ℕ) → step s e ≡ refused r → after s e ≡ s
   pub accepted-little : (s : State) (e : Event) (u : State) (k : Mark) → step s e ≡ accepted u k → ChangesLittle s e u
+
+-- ── 02, T-02: higher numbers first ──
+
+-- a call goes out, to a node of the set s, and no node of s is above that one
+abbrev pub CallsHighest : ℕ → Outgoing → Type 0
+CallsHighest s Nothing = ⊥
+CallsHighest s (Send m) = (has s (m .receiver) ≡ true) × ((k : ℕ) → has s k ≡ true → k ≤ m .receiver)
+
+-- a call goes out, to a node above j other than i, and not to one above k
+abbrev pub CallsUpward : ℕ → ℕ → ℕ → Outgoing → Type 0
+CallsUpward i j k Nothing = ⊥
+CallsUpward i j k (Send m) = (j < m .receiver) × (m .receiver ≤ k) × (m .receiver ≡ i → ⊥)
+
+-- "whom now", of an inviting, handing or forwarding node; 0 for the others
+abbrev pub whomNow : Activity → ℕ
+whomNow Idle = 0
+whomNow (Asking asked found) = 0
+whomNow (Waiting ticks found) = 0
+whomNow (Inviting found former now) = now
+whomNow Collecting = 0
+whomNow (Handing rest now) = now
+whomNow Contacting = 0
+whomNow (Forwarding rest now caller call) = now
+whomNow (Accepting caller call) = 0
+
+-- "whom still": of an inviting node's two sets the first, those found
+abbrev pub whomStill : Activity → ℕ
+whomStill Idle = 0
+whomStill (Asking asked found) = 0
+whomStill (Waiting ticks found) = 0
+whomStill (Inviting found former now) = found
+whomStill Collecting = 0
+whomStill (Handing rest now) = rest
+whomStill Contacting = 0
+whomStill (Forwarding rest now caller call) = rest
+whomStill (Accepting caller call) = 0
+
+-- each node of the set s is below j
+abbrev pub Below : ℕ → ℕ → Type 0
+Below s j = (k : ℕ) → has s k ≡ true → k < j
+
+pub record HighestFirst : Type 0 where
+  -- "Whoever picks the next cabinet from a set shall now pick the highest, in inviting": from those found, and when there is none left, from those set aside
+  pub invites-found : (i : ℕ) (c : Node) (k : Mark) (found former : ℕ) → 0 < found → found < 2 ^ 16 → CallsHighest found (inviteNext i c k found former .outgoing)
+  pub invites-former : (i : ℕ) (c : Node) (k : Mark) (former : ℕ) → 0 < former → former < 2 ^ 16 → CallsHighest former (inviteNext i c k 0 former .outgoing)
+  -- "forwarding"
+  pub forwards : (i : ℕ) (c : Node) (rest caller : ℕ) (call : CallNo) → 0 < rest → rest < 2 ^ 16 → CallsHighest rest (forwardNext i c rest caller call .outgoing)
+  -- "and handing."
+  pub hands : (i : ℕ) (c : Node) (rest : ℕ) → 0 < rest → rest < 2 ^ 16 → CallsHighest rest (handNext i c rest .outgoing)
+  -- "Asking still goes from 1 up.": after j, none that is still to be asked is passed over
+  pub asks : (n i : ℕ) (c : Node) (j found k : ℕ) → j < k → k ≤ n → (k ≡ i → ⊥) → CallsUpward i j k (askAfter n i c j found .outgoing)
+  -- so an accepted event, on whatever table, leaves the node's activity as it was, or all whom it is still to call are below the one that it calls now
+  pub steps : (s : State) (e : Event) (u : State) (k : Mark) → step s e ≡ accepted u k
+      → (nodeAt u (actor e) .activity ≡ nodeAt s (actor e) .activity) ⊎ Below (whomStill (nodeAt u (actor e) .activity)) (whomNow (nodeAt u (actor e) .activity))
+  -- and where none of those found was left before it, so are those set aside
+  pub steps-former : (s : State) (e : Event) (u : State) (k : Mark) → step s e ≡ accepted u k → (former was found rest now : ℕ)
+      → nodeAt s (actor e) .activity ≡ Inviting 0 former was → nodeAt u (actor e) .activity ≡ Inviting found rest now
+      → (nodeAt u (actor e) .activity ≡ nodeAt s (actor e) .activity) ⊎ Below rest now
+  -- in every table of a run, whom a node is still to call are below the one that it calls now
+  pub runs : (n : ℕ) (es : List Event) (i : ℕ) → Below (whomStill (nodeAt (run n es) i .activity)) (whomNow (nodeAt (run n es) i .activity))

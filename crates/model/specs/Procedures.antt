@@ -3,7 +3,7 @@
 use Prim.Native.Nat.{ℕ, _+_, _-_}
 use mathlib.Core.Bool.{Bool, true, false, not}
 use lib.Dec.{eqb, leb, ltb}
-use Rattle.node_set.specs.NodeSet.{without, lowest, highest}
+use Rattle.node_set.specs.NodeSet.{without, highest}
 use Rattle.model.specs.Pick.{pick}
 use Rattle.model.specs.Node.{nextCall, turned, calling, settled, tasked, recovered, merged, asks, calls, readies, replies}
 use Rattle.model.specs.declared.Status.{Status}
@@ -35,9 +35,10 @@ answers i c m y = reaction c (Send (replies i (m .sender) (m .call) y)) Plain
 abbrev pub recovers : ℕ → Node → Reaction
 recovers i c = reaction (recovered i c) Nothing Recovers
 
--- "Sets are walked from the lowest number up": whom inviting, forwarding and handing take next
+-- 02, T-02: "Whoever picks the next cabinet from a set shall now pick the highest, in inviting, forwarding and handing." In 01 it was the lowest. "Asking still goes
+-- from 1 up": askAfter.
 abbrev pub next : ℕ → ℕ
-next s = lowest s
+next s = highest s
 
 -- "It invites the cabinets found, then those set aside (one in both is invited twice), and then collects."
 unfoldable pub inviteNext : ℕ → Node → Mark → ℕ → ℕ → Reaction
@@ -89,6 +90,6 @@ askAt n i c j found =
     (reaction (calling c (Asking j found)) (Send (asks i j (nextCall c))) Plain)
     (askedAll i c found)
 
--- "it asks every other cabinet in turn": the one after j is asked, i itself left out
+-- "it asks every other cabinet in turn", "from 1 up": the one after j is asked, i itself left out
 unfoldable pub askAfter : ℕ → ℕ → Node → ℕ → ℕ → Reaction
 askAfter n i c j found = pick (eqb (j + 1) i) (askAt n i c (j + 2) found) (askAt n i c (j + 1) found)

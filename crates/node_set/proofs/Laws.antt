@@ -8,9 +8,9 @@ use native.Mathlib.Omega.{arith}
 use lib.Dec.{eqb, lit<}
 use lib.Pow.{pow-pos, pow-lt, pow-mono, ones-lt}
 use lib.Bits.{bitAnd, bitOr, and-le-l, and-zero-r, and-step, and-mask, and-high, or-disjoint, or-zero-r, or-lt, or-shr, or-mod, and-shr, and-mod}
-use lib.Count.{ones, trailingZeros, under, ones-le, ones-step, ones-ones, leading-of-zero, leading-top, leading-length, trailing-of-zero}
+use lib.Count.{ones, ones-le, ones-step, ones-ones, leading-of-zero, leading-top, leading-length}
 use borrow.Author.Tests.{eqb-false, eqb-true, eq-eqb, ne-eqb, ltb-true, lt-ltb}
-use Rattle.node_set.specs.NodeSet.{bitOf, has, with, without, lowest, highest, count, upTo, within}
+use Rattle.node_set.specs.NodeSet.{bitOf, has, with, without, highest, count, upTo, within}
 use Rattle.node_set.specs.Claims.{SetLaws}
 
 -- one shifted by k in a word of more than k bits
@@ -142,45 +142,6 @@ all-digits (suc n) (suc k) h =
 pub upTo-has : (n i : ℕ) → 1 ≤ i → i ≤ n → has (upTo n) i ≡ true
 upTo-has n i l u = holds (upTo n) i (all-digits n (i - 1) (omega arith))
 
--- ---- the lowest node
-
--- the zeros below the lowest digit that is 1 end at that digit
-trailing-set : (k s : ℕ) → 0 < s → s < 2 ^ k → digit s (trailingZeros k s) ≡ 1
-unfolding trailingZeros
-trailing-set zero s p q = omega arith
-trailing-set (suc k) s p q = by-lowest (s % 2) refl (λ p'. trailing-set k (s / 2) p' (omega (arith, pow-suc 2 k)))
-  where
-    by-lowest : (d : ℕ) → s % 2 ≡ d → (0 < s / 2 → digit (s / 2) (trailingZeros k (s / 2)) ≡ 1) → digit s (under d (trailingZeros k (s / 2))) ≡ 1
-    by-lowest zero e h = digit-suc s (trailingZeros k (s / 2)) ∙ h (omega arith)
-    by-lowest (suc d) e h = digit-zero s ∙ omega arith
-
--- and no digit that is 1 is among them
-trailing-least : (k m s : ℕ) → digit s m ≡ 1 → trailingZeros k s ≤ m
-unfolding trailingZeros
-trailing-least zero m s e = omega arith
-trailing-least (suc k) zero s e = rw (rw div-one at e) (omega arith)
-trailing-least (suc k) (suc m) s e = under-most (s % 2) (trailing-least k m (s / 2) (sym (digit-suc s m) ∙ e))
-  where
-    under-most : (d : ℕ) {t : ℕ} → t ≤ m → under d t ≤ suc m
-    under-most zero h = omega arith
-    under-most (suc d) h = omega arith
-
--- the lowest of a set that is not empty is in it
-pub has-lowest : (s : ℕ) → 0 < s → s < 2 ^ 16 → has s (lowest s) ≡ true
-has-lowest s p q = holds s (lowest s) (rw (add-sub-cancel (trailingZeros 16 s) 1) (trailing-set 16 s p q))
-
--- the lowest of a set within n that is not empty is one of 1 to n
-pub lowest-in : (n s : ℕ) → n ≤ 16 → within n s ≡ true → 0 < s → (1 ≤ lowest s) × (lowest s ≤ n)
-lowest-in n s h w p = (omega arith, member-in n s (lowest s) w (has-lowest s p (within-word n s h w)))
-
--- the lowest is not a node that the set lacks
-pub lowest-other : (s i : ℕ) → 0 < s → s < 2 ^ 16 → has s i ≡ false → lowest s ≡ i → ⊥
-lowest-other s i p q l = member-other s i (lowest s) (has-lowest s p q) l
-
--- the lowest is at most any node of the set
-pub lowest-least : (s j : ℕ) → 1 ≤ j → has s j ≡ true → lowest s ≤ j
-lowest-least s j l e = omega (arith, trailing-least 16 (j - 1) s (digit-of s j e))
-
 -- ---- the highest node
 
 -- the highest of a set that is not empty is in it
@@ -287,16 +248,6 @@ without-others n s i j h w li ui lj ne = by (has s j) refl
         rw (digit-and s (65535 - bitOf i) (j - 1), m, and-one (digit s (j - 1)) (digit-lt s (j - 1)))
     by false q = without-lacks s j i q ∙ sym q
 
--- removing a member makes a set less, as a number
-pub without-less : (s i : ℕ) → has s i ≡ true → without s i < s
-without-less s i e =
-    let ne : without s i ≡ s → ⊥ = λ q. true≢false (sym e ∙ rw (← q) (without-self s i)) in
-    omega (arith, and-le-l s (65535 - bitOf i))
-
--- removing the lowest makes a set less, as a number
-pub without-lowest-less : (s : ℕ) → 0 < s → s < 2 ^ 16 → without s (lowest s) < s
-without-lowest-less s p q = without-less s (lowest s) (has-lowest s p q)
-
 -- ---- the mask as a number
 
 -- one digit alone
@@ -385,10 +336,6 @@ set-laws n h =
       without-within = without-within n;
       without-lacks = without-self;
       without-others = λ s i j. without-others n s i j h;
-      lowest-node = λ s p. omega arith;
-      lowest-has = λ s w p. has-lowest s p (within-word n s h w);
-      lowest-least = lowest-least;
-      lowest-none = ap (_+ 1) (trailing-of-zero 16);
       highest-has = λ s w p. has-highest s p (within-word n s h w);
       highest-most = λ s j w e. highest-most s j e (within-word n s h w);
       highest-none = ap (λ (k : ℕ). 16 - k) (leading-of-zero 16);

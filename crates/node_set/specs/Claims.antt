@@ -3,7 +3,7 @@
 use Prim.Native.Nat.{ℕ, _+_, _-_, _^_, _≤_, _<_}
 use mathlib.Core.Bool.{true, false}
 use mathlib.Core.Path.{_≡_}
-use Rattle.node_set.specs.NodeSet.{has, with, without, lowest, highest, count, upTo, within}
+use Rattle.node_set.specs.NodeSet.{has, with, without, highest, count, upTo, within}
 
 pub record SetLaws (n : ℕ) : Type 0 where
   -- "s has no node above n" is what it says, of any mask of 16 bits
@@ -27,11 +27,6 @@ pub record SetLaws (n : ℕ) : Type 0 where
   pub without-within : (s i : ℕ) → within n s ≡ true → within n (without s i) ≡ true
   pub without-lacks : (s i : ℕ) → has (without s i) i ≡ false
   pub without-others : (s i j : ℕ) → within n s ≡ true → 1 ≤ i → i ≤ n → 1 ≤ j → (j ≡ i → ⊥) → has (without s i) j ≡ has s j
-  -- the lowest of a set that is not empty is a node in it, and no node of the set is below it
-  pub lowest-node : (s : ℕ) → 0 < s → 1 ≤ lowest s
-  pub lowest-has : (s : ℕ) → within n s ≡ true → 0 < s → has s (lowest s) ≡ true
-  pub lowest-least : (s j : ℕ) → 1 ≤ j → has s j ≡ true → lowest s ≤ j
-  pub lowest-none : lowest 0 ≡ 17
   -- the highest of a set that is not empty is in it, and no node of the set is above it
   pub highest-has : (s : ℕ) → within n s ≡ true → 0 < s → has s (highest s) ≡ true
   pub highest-most : (s j : ℕ) → within n s ≡ true → has s j ≡ true → j ≤ highest s

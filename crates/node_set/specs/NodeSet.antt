@@ -3,7 +3,7 @@ use Prim.Native.Nat.{ℕ, _+_, _-_, _^_, _%_, _/_}
 use mathlib.Core.Bool.{Bool}
 use lib.Dec.{eqb, ltb}
 use lib.Bits.{bitAnd, bitOr}
-use lib.Count.{trailingZeros, leadingZeros, ones}
+use lib.Count.{leadingZeros, ones}
 
 -- the set of node i alone
 abbrev pub bitOf : ℕ → ℕ
@@ -20,10 +20,6 @@ with s i = bitOr s (bitOf i)
 -- s but for node i
 abbrev pub without : ℕ → ℕ → ℕ
 without s i = bitAnd s (65535 - bitOf i)
-
--- the node of s with the lowest number; 17 for the empty set
-abbrev pub lowest : ℕ → ℕ
-lowest s = trailingZeros 16 s + 1
 
 -- the node of s with the highest number; 0 for the empty set
 abbrev pub highest : ℕ → ℕ

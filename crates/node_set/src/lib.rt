@@ -35,13 +35,6 @@ pub fn remove(s: u16, i: u8) -> u16
     s & !bit_of(i)
 }
 
-// The node of `s` with the lowest number; 17 for the empty set.
-pub fn lowest(s: u16) -> u8
-    ensures { λ r. ⌜ r ≡ spec.lowest s ⌝ }
-{
-    u16::trailing_zeros(s) as u8 + 1
-}
-
 // The node of `s` with the highest number; 0 for the empty set.
 pub fn highest(s: u16) -> u8
     ensures { λ r. ⌜ r ≡ spec.highest s ⌝ }

@@ -64,12 +64,12 @@ pub fn call(i: u8, c: Node, a: Activity, kind: u8, to: u8, k: Mark) -> Reaction
     reaction(node::calling(c, a), Outgoing::Send(m), k)
 }
 
-// Whom inviting, forwarding and handing take next.
+// Whom inviting, forwarding and handing take next: the highest of the set.
 pub fn next_of(s: u16) -> u8
     requires { ⌜ 0 < s ⌝ }
     ensures { λ r. ⌜ (r ≡ spec.next s) × (1 ≤ r) × (r ≤ nodeLimit) ⌝ }
 {
-    node_set::lowest(s)
+    node_set::highest(s)
 }
 
 pub fn invite_next(i: u8, c: Node, k: Mark, found: u16, former: u16) -> Reaction

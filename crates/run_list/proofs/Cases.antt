@@ -1,6 +1,6 @@
 -- The named cases, computed over the definitions.
 use mathlib.Core.Path.{_≡_, refl}
-use lib.Count.{onesIn, ones, leadingZeros, trailingZeros}
+use lib.Count.{onesIn, ones, leadingZeros}
 use Rattle.model.specs.Pick.{pick}
 use Rattle.model.specs.Procedures.{inviteNext, merges, handNext, finishes, forwardNext, askedAll, askAt, askAfter}
 use Rattle.model.specs.React.{checked as isChecked, timedOut, ticked, expired, resumed, onAreYouCoordinator, onAreYouThere, onInvitation, onAccept, onReady, onReply, received, react}
@@ -16,7 +16,7 @@ use Rattle.run_list.specs.Text.{noteLines, refusedLines, linesOf}
 use Rattle.run_list.specs.Cases.{ListCases}
 
 pub list-cases : ListCases
-unfolding pick onesIn ones leadingZeros trailingZeros inviteNext merges handNext finishes forwardNext askedAll askAt askAfter isChecked timedOut ticked expired resumed onAreYouCoordinator onAreYouThere onInvitation onAccept onReady onReply received react activityInRange nodeInRange messageInRange waits oldest withoutOldest every inRange reactionTo remaining effect grounds judged step runFrom lengthOf cutShort checked eventOf nextAt nodesOf firstOf readFrom rest reading digits decimal row cabinetsLine refusedLine stoppedLine nodeLine messagesLine nodeLines tableLines joined noteLines refusedLines linesOf
+unfolding pick onesIn ones leadingZeros inviteNext merges handNext finishes forwardNext askedAll askAt askAfter isChecked timedOut ticked expired resumed onAreYouCoordinator onAreYouThere onInvitation onAccept onReady onReply received react activityInRange nodeInRange messageInRange waits oldest withoutOldest every inRange reactionTo remaining effect grounds judged step runFrom lengthOf cutShort checked eventOf nextAt nodesOf firstOf readFrom rest reading digits decimal row cabinetsLine refusedLine stoppedLine nodeLine messagesLine nodeLines tableLines joined noteLines refusedLines linesOf
 list-cases =
     record {
       in-model = named-cases;

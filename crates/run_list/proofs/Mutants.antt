@@ -8,7 +8,7 @@ use lib.Dec.{ltb}
 use lib.ListN.{length, getD, drop, length-append}
 use borrow.Author.Tests.{le-leb, ltb-true}
 use Rattle.model.specs.Pick.{pick, by-test, pick-true}
-use lib.Count.{onesIn, ones, leadingZeros, trailingZeros}
+use lib.Count.{onesIn, ones, leadingZeros}
 use Rattle.model.specs.Range.{activityInRange, nodeInRange, messageInRange}
 use Rattle.model.specs.React.{react}
 use Rattle.model.specs.State.{nodeAt, every, inRange}
@@ -38,7 +38,7 @@ record Texts : Type 0 where
   stopped : textOf (nodes 2 ++ (0x11 ∷ [])) ≡ bytes "cabinets 2\nstopped 4 3\n1 0 0 0 0 0 0\n2 0 0 0 0 0 0\nmessages 0\n"
 
 texts : Texts
-unfolding pick onesIn ones leadingZeros trailingZeros activityInRange nodeInRange messageInRange react every inRange reactionTo remaining effect grounds judged step runFrom lengthOf cutShort checked eventOf nextAt nodesOf firstOf readFrom rest reading digits decimal row cabinetsLine refusedLine stoppedLine nodeLine messagesLine nodeLines tableLines joined noteLines refusedLines linesOf
+unfolding pick onesIn ones leadingZeros activityInRange nodeInRange messageInRange react every inRange reactionTo remaining effect grounds judged step runFrom lengthOf cutShort checked eventOf nextAt nodesOf firstOf readFrom rest reading digits decimal row cabinetsLine refusedLine stoppedLine nodeLine messagesLine nodeLines tableLines joined noteLines refusedLines linesOf
 texts = record { refused = refl; stopped = refl }
 
 -- the buffer begins with the text x

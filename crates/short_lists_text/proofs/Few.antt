@@ -4,7 +4,7 @@ use native.Mathlib.Nat.{pow-succ', pow-le-pow-right, mul-le-mul-right}
 use native.Mathlib.Omega.{arith}
 use mathlib.Core.Path.{_≡_, refl, ap}
 use mathlib.Core.List.{List, [], _∷_, map}
-use lib.Count.{onesIn, ones, leadingZeros, trailingZeros}
+use lib.Count.{onesIn, ones, leadingZeros}
 use lib.ListN.{length, length-append, length-map}
 use Rattle.model.specs.Pick.{pick}
 use Rattle.model.specs.Procedures.{inviteNext, merges, handNext, finishes, forwardNext, askedAll, askAt, askAfter}
@@ -61,7 +61,7 @@ module _ (later : State → List (List Event)) where
   recovered n i = map (λ l. Recover i ∷ l) (later (effect (start n) (Recover i)))
 
   first-events : (n : ℕ) → 1 ≤ n → n ≤ 3 → concatMap (λ e. continued e (step (start n) e) later) (alphabet n) ≡ concatMap (recovered n) (nodesOf n)
-  unfolding pick onesIn ones leadingZeros trailingZeros inviteNext merges handNext finishes forwardNext askedAll askAt askAfter checked timedOut ticked expired resumed onAreYouCoordinator onAreYouThere onInvitation onAccept onReady onReply received react activityInRange nodeInRange messageInRange waits oldest withoutOldest every inRange reactionTo remaining effect grounds judged step upFrom without pairsOf alphabet
+  unfolding pick onesIn ones leadingZeros inviteNext merges handNext finishes forwardNext askedAll askAt askAfter checked timedOut ticked expired resumed onAreYouCoordinator onAreYouThere onInvitation onAccept onReady onReply received react activityInRange nodeInRange messageInRange waits oldest withoutOldest every inRange reactionTo remaining effect grounds judged step upFrom without pairsOf alphabet
   first-events zero p q = absurd (omega arith)
   first-events (suc zero) p q = refl
   first-events (suc (suc zero)) p q = refl
