@@ -1,5 +1,6 @@
 //! The reference machine: the table, when it is in range, and what each of the nine events does to
-//! it. Words in quotation marks in the comments are document 01's; its cabinet is called node here.
+//! it. T-02 of document 02 is in it. Words in quotation marks in the comments are document 01's, or
+//! T-02's where that is said; their cabinet is called node here.
 
 pub const MAX_NODES: u8 = 16;
 pub const MAX_COUNTER: u32 = 1_048_575;
@@ -32,7 +33,8 @@ pub enum Activity {
         ticks: u8,
         found: Set,
     },
-    /// "whom still, in two sets, and whom now": those found, then the former members.
+    /// "whom still, in two sets, and whom now": those found, then the former members, each set from
+    /// its highest number down.
     Inviting {
         found: Set,
         former: Set,
@@ -142,13 +144,15 @@ fn highest(set: Set) -> u8 {
     16 - set.leading_zeros() as u8
 }
 
-/// "Sets are walked from the lowest number up."
-fn take_lowest(set: &mut Set) -> Option<u8> {
+/// Whom next. T-02: "Whoever picks the next cabinet from a set shall now pick the highest, in
+/// inviting, forwarding and handing." For these three it takes the place of document 01's "Sets are
+/// walked from the lowest number up."
+fn take_next(set: &mut Set) -> Option<u8> {
     if *set == 0 {
         return None;
     }
-    let i = set.trailing_zeros() as u8 + 1;
-    *set &= *set - 1;
+    let i = highest(*set);
+    *set &= !only(i);
     Some(i)
 }
 
@@ -489,8 +493,8 @@ impl Turn {
         Ok(())
     }
 
-    /// Asks the next node above j. "After the last: none found, idle. Else let p be the highest
-    /// found: if i < p it waits p − i ticks, else it merges."
+    /// Asks the next node above j. T-02: "Asking still goes from 1 up." "After the last: none found,
+    /// idle. Else let p be the highest found: if i < p it waits p − i ticks, else it merges."
     fn ask_after(&mut self, j: u8, found: Set) -> Result<(), u8> {
         let next = if j + 1 == self.i { j + 2 } else { j + 1 };
         if next <= self.n {
@@ -534,7 +538,7 @@ impl Turn {
 
     /// "and then collects"
     fn invite_next(&mut self, mut found: Set, mut former: Set) -> Result<(), u8> {
-        match take_lowest(&mut found).or_else(|| take_lowest(&mut former)) {
+        match take_next(&mut found).or_else(|| take_next(&mut former)) {
             Some(now) => {
                 self.node.activity = Activity::Inviting { found, former, now };
                 self.call(now, Body::Invitation { group: self.node.group })
@@ -555,7 +559,7 @@ impl Turn {
 
     /// "after the last, or with none, Normal and idle"
     fn hand_next(&mut self, mut rest: Set) -> Result<(), u8> {
-        match take_lowest(&mut rest) {
+        match take_next(&mut rest) {
             Some(now) => {
                 self.node.activity = Activity::Handing { rest, now };
                 self.call(now, Body::Ready { group: self.node.group, task: self.node.task })
@@ -663,7 +667,7 @@ impl Turn {
     /// "then it calls Accept on the new coordinator"
     fn forward_next(&mut self, mut rest: Set, caller: u8, call: u32) -> Result<(), u8> {
         let group = self.node.group;
-        match take_lowest(&mut rest) {
+        match take_next(&mut rest) {
             Some(now) => {
                 self.node.activity = Activity::Forwarding { rest, now, caller, call };
                 self.call(now, Body::Invitation { group })

@@ -1,4 +1,5 @@
-//! Document 01's named cases K1 to K13, on the machine and on the printed text.
+//! Document 01's named cases K1 to K13, on the machine and on the printed text, and cases of T-02 of
+//! document 02, "Higher numbers first".
 
 use peer::list::write_list;
 use peer::machine::*;
@@ -110,6 +111,7 @@ fn k9_older_reply() {
     assert_eq!(table.messages, []);
 }
 
+/// T-02: "K10 prints the same."
 #[test]
 fn k10_two_nodes() {
     let mut events = vec![Recover(1), Recover(2), Check(2)];
@@ -149,4 +151,156 @@ fn k12_late_accept() {
 fn k13_order_of_grounds() {
     refused(&Table::start(2), Finish(9, 5), 7);
     assert!(printed(2, &[Finish(9, 5)]).contains("refused 1 7\n"));
+}
+
+/// Delivers what waits, the oldest first, until nothing does. Gives the messages in that order, which is
+/// the order sent.
+fn deliver_all(table: &mut Table) -> Vec<Message> {
+    let mut delivered = Vec::new();
+    while let Some(&m) = table.messages.first() {
+        assert_eq!(step(table, &Deliver(m.sender, m.receiver)), Ok(()), "{m:?}");
+        delivered.push(m);
+    }
+    delivered
+}
+
+/// Whom node i sent messages of a kind, in order.
+fn called(messages: &[Message], i: u8, kind: u8) -> Vec<u8> {
+    let fits = |m: &&Message| m.sender == i && m.body.kind() == kind;
+    messages.iter().filter(fits).map(|m| m.receiver).collect()
+}
+
+fn set(nodes: &[u8]) -> Set {
+    nodes.iter().map(|&i| only(i)).sum()
+}
+
+/// Nodes 1 to n are Normal in one group, with task 100; node i formed it and has all others as members.
+fn one_group(n: u8, i: u8) -> Table {
+    let mut table = recovered(n);
+    for node in &mut table.nodes[..usize::from(n)] {
+        (node.group, node.coordinator, node.task) = (group_number(1, i), i, 100);
+    }
+    table.nodes[usize::from(i) - 1].members = (1..=n).filter(|&j| j != i).map(only).sum();
+    table
+}
+
+/// "in inviting, forwarding and handing. Asking still goes from 1 up."
+#[test]
+fn t02_asks_up_invites_and_hands_down() {
+    let mut table = recovered(5);
+    step(&mut table, &Check(5)).unwrap();
+    let messages = deliver_all(&mut table);
+    assert_eq!(called(&messages, 5, 1), [1, 2, 3, 4]);
+    assert_eq!(called(&messages, 5, 3), [4, 3, 2, 1]);
+    assert_eq!(table.node(5).activity, Activity::Collecting);
+    assert_eq!(table.node(5).members, set(&[1, 2, 3, 4]));
+    step(&mut table, &Finish(5, 100)).unwrap();
+    let messages = deliver_all(&mut table);
+    assert_eq!(called(&messages, 5, 5), [4, 3, 2, 1]);
+    for node in &table.nodes[..5] {
+        assert_eq!((node.status, node.group, node.task), (Status::Normal, 36, 100));
+    }
+}
+
+/// A node in the middle, which merges at the last tick.
+#[test]
+fn t02_invites_after_ticks() {
+    let mut table = recovered(6);
+    step(&mut table, &Check(3)).unwrap();
+    let messages = deliver_all(&mut table);
+    assert_eq!(called(&messages, 3, 1), [1, 2, 4, 5, 6]);
+    for _ in 0..3 {
+        step(&mut table, &Tick(3)).unwrap();
+    }
+    let messages = deliver_all(&mut table);
+    assert_eq!(called(&messages, 3, 3), [6, 5, 4, 2, 1]);
+}
+
+/// Node 4 with its members is invited by node 5, and forwards the invitation.
+#[test]
+fn t02_forwards_down() {
+    let mut table = one_group(4, 4);
+    table.n = 5;
+    step(&mut table, &Recover(5)).unwrap();
+    step(&mut table, &Check(5)).unwrap();
+    let messages = deliver_all(&mut table);
+    assert_eq!(called(&messages, 5, 1), [1, 2, 3, 4]);
+    assert_eq!(called(&messages, 5, 3), [4]);
+    assert_eq!(called(&messages, 4, 3), [3, 2, 1]);
+    let accepted = messages.iter().filter(|m| m.body.kind() == 4).map(|m| m.sender);
+    assert_eq!(accepted.collect::<Vec<_>>(), [3, 2, 1, 4]);
+    assert_eq!(table.node(5).members, set(&[1, 2, 3, 4]));
+}
+
+/// "It invites the cabinets found, then those set aside (one in both is invited twice)": each set from
+/// its highest down. Members 2 and 4 have crashed and are found again.
+#[test]
+fn t02_invites_twice() {
+    let mut table = one_group(5, 5);
+    for event in [Crash(2), Recover(2), Crash(4), Recover(4), Check(5)] {
+        step(&mut table, &event).unwrap();
+    }
+    let messages = deliver_all(&mut table);
+    assert_eq!(called(&messages, 5, 1), [1, 2, 3, 4]);
+    assert_eq!(called(&messages, 5, 3), [4, 2, 4, 3, 2, 1]);
+    assert_eq!(table.node(5).members, set(&[1, 2, 3, 4]));
+}
+
+/// "Asking, inviting, forwarding: on to the next", where calls are given up.
+#[test]
+fn t02_goes_on_down_after_expire() {
+    let mut table = recovered(5);
+    table.nodes[4].activity =
+        Activity::Inviting { found: set(&[1, 3]), former: set(&[1, 2, 4]), now: 4 };
+    for (found, former, now) in [
+        (set(&[1]), set(&[1, 2, 4]), 3),
+        (0, set(&[1, 2, 4]), 1),
+        (0, set(&[1, 2]), 4),
+        (0, set(&[1]), 2),
+        (0, 0, 1),
+    ] {
+        step(&mut table, &Expire(5)).unwrap();
+        assert_eq!(table.node(5).activity, Activity::Inviting { found, former, now });
+    }
+    step(&mut table, &Expire(5)).unwrap();
+    assert_eq!(table.node(5).activity, Activity::Collecting);
+    assert_eq!(called(&table.messages, 5, 3), [3, 1, 4, 2, 1]);
+
+    let mut table = recovered(5);
+    (table.nodes[1].group, table.nodes[1].coordinator) = (group_number(2, 3), 3);
+    let (caller, call) = (3, 7);
+    table.nodes[1].activity = Activity::Forwarding { rest: set(&[1, 3, 5]), now: 4, caller, call };
+    for (rest, now) in [(set(&[1, 3]), 5), (set(&[1]), 3), (0, 1)] {
+        step(&mut table, &Expire(2)).unwrap();
+        assert_eq!(table.node(2).activity, Activity::Forwarding { rest, now, caller, call });
+    }
+    step(&mut table, &Expire(2)).unwrap();
+    assert_eq!(table.node(2).activity, Activity::Accepting { caller, call });
+    assert_eq!(called(&table.messages, 2, 3), [5, 3, 1]);
+    assert_eq!(called(&table.messages, 2, 4), [3]);
+}
+
+/// From 16 down to 1, past the node itself, in each of the three.
+#[test]
+fn t02_all_sixteen() {
+    let down: Vec<u8> = (1..=16).rev().filter(|&i| i != 8).collect();
+    let mut table = one_group(16, 8);
+    (table.nodes[7].status, table.nodes[7].activity) = (Status::Election, Activity::Collecting);
+    step(&mut table, &Finish(8, 65_535)).unwrap();
+    let messages = deliver_all(&mut table);
+    assert_eq!(called(&messages, 8, 5), down);
+
+    let mut table = one_group(16, 8);
+    table.nodes[7].activity = Activity::Waiting { ticks: 1, found: 0 };
+    step(&mut table, &Tick(8)).unwrap();
+    let messages = deliver_all(&mut table);
+    assert_eq!(called(&messages, 8, 3), down);
+
+    let mut table = one_group(16, 8);
+    let body = Body::Invitation { group: group_number(5, 11) };
+    table.messages.push(Message { sender: 9, receiver: 8, call: 1, body });
+    step(&mut table, &Deliver(9, 8)).unwrap();
+    let messages = deliver_all(&mut table);
+    assert_eq!(called(&messages, 8, 3), down);
+    assert_eq!(called(&messages, 8, 4), [11]);
 }
