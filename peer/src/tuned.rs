@@ -1,6 +1,7 @@
-//! Document 01's list program written for speed alone, as the second baseline of the benchmark: the
-//! bytes of a list in, the printed text out, into a lent buffer, and nothing allocated. Words in
-//! quotation marks in the comments are document 01's; its cabinet is called node here.
+//! Document 01's list program, with T-02 of document 02, written for speed alone, as the second baseline
+//! of the benchmark: the bytes of a list in, the printed text out, into a lent buffer, and nothing
+//! allocated. Words in quotation marks in the comments are document 01's, or T-02's where that is said;
+//! their cabinet is called node here.
 //!
 //! What it does otherwise than `machine`:
 //! - Nothing of a run shows in which order messages of different pairs were sent. So the messages of
@@ -8,7 +9,8 @@
 //! - Status, activity and "its own coordinator" are one number. With the event, and for a delivery the
 //!   kind of the message, it gives refusals 7 to 11, or what is to be done, by one look into a table.
 //! - Asking, inviting, forwarding and handing are one walk over a set of whom still, in which the two
-//!   sets of inviting are one of 32 bits.
+//!   sets of inviting are one of 32 bits. The walk takes the lowest bit. Bit 15 - k of a set stands for
+//!   node k, so this is the highest node; only of those still to be asked it is bit k.
 //! - All deliveries that are replied to at once are one piece of code without branches.
 //! - A coordinator is always its group's owner in a run, and is not kept.
 //! - A delivered message leaves its slot to the one that is sent.
@@ -215,13 +217,21 @@ const fn action(row: u16, state: u16) -> u8 {
     }
 }
 
-/// The kind of the calls of a walk, by its activity.
-static CALLS: [u8; 16] = {
-    let mut calls = [ARE_YOU_COORDINATOR; 16];
-    calls[(INVITING / ASKING) as usize] = INVITATION;
-    calls[(FORWARDING / ASKING) as usize] = INVITATION;
-    calls[(HANDING / ASKING) as usize] = READY;
-    calls
+/// A walk: the kind of its calls, and what turns a bit's place into the node.
+#[derive(Clone, Copy)]
+struct Walk {
+    kind: u8,
+    turn: u8,
+}
+
+/// By activity. T-02: "pick the highest, in inviting, forwarding and handing. Asking still goes from 1
+/// up."
+static WALKS: [Walk; 16] = {
+    let mut walks = [Walk { kind: ARE_YOU_COORDINATOR, turn: 0 }; 16];
+    walks[(INVITING / ASKING) as usize] = Walk { kind: INVITATION, turn: 15 };
+    walks[(FORWARDING / ASKING) as usize] = Walk { kind: INVITATION, turn: 15 };
+    walks[(HANDING / ASKING) as usize] = Walk { kind: READY, turn: 15 };
+    walks
 };
 
 static ACTIONS: [u8; 4096] = {
@@ -467,7 +477,7 @@ impl Table {
                     return 0;
                 }
                 // "asking adds the cabinet asked on yes"
-                let found = node.found | u16::from(kind == YES) << (node.now & 15);
+                let found = node.found | u16::from(kind == YES) << (15 - (node.now & 15));
                 return self.next(k, found, Some(oldest));
             }
             // "accepting turns to Reorganization, replies to its caller and is idle"
@@ -498,10 +508,10 @@ impl Table {
                 let doing = |flag: u8| u16::from(action & flag != 0);
                 let same = u16::from(node.group == message.group);
                 // "the group is equal, it is its own coordinator and the sender is a member"
-                let member = doing(IF_MEMBER) & same & node.members >> (sender & 15);
+                let member = doing(IF_MEMBER) & same & node.members >> (15 - (sender & 15));
                 let yes = doing(IS_YES) | member;
                 // "in that group, the sender joins the members"
-                node.members |= (doing(JOINS) & same) << (sender & 15);
+                node.members |= (doing(JOINS) & same) << (15 - (sender & 15));
                 // "in that group, task taken, Normal"
                 let takes = doing(TAKES) & same;
                 node.task = select_unpredictable(takes != 0, message.task, node.task);
@@ -588,12 +598,12 @@ impl Table {
     /// The next call of an activity that walks the set of whom still, which must not be empty.
     #[inline(always)]
     fn walk(&mut self, k: usize, activity: u16, rest: u32, delivered: Option<Oldest>) {
-        // "Sets are walked from the lowest number up."
-        let now = (rest.trailing_zeros() & 15) as u8;
+        let Walk { kind, turn } = WALKS[usize::from((activity / ASKING) & 15)];
+        let now = (rest.trailing_zeros() & 15) as u8 ^ turn;
         self.nodes[k].rest = rest & rest.wrapping_sub(1);
         self.nodes[k].now = now;
         self.set_activity(k, activity);
-        self.call(k, now, CALLS[usize::from((activity / ASKING) & 15)], delivered);
+        self.call(k, now, kind, delivered);
     }
 
     /// A walk goes on, or ends after the last.
@@ -612,7 +622,7 @@ impl Table {
             // "After the last: none found, idle. Else let p be the highest found: if i < p it waits
             // p − i ticks, else it merges."
             ASKING => {
-                let ticks = (16 - found.leading_zeros() as u8).saturating_sub(k as u8 + 1);
+                let ticks = 15u8.saturating_sub(found.trailing_zeros() as u8 + k as u8);
                 if found != 0 && ticks == 0 {
                     return self.merge(k, found, delivered);
                 }

@@ -127,3 +127,54 @@ fn every_room() {
         }
     }
 }
+
+/// T-02 of document 02, where the text shows it: nobody but the highest of a set has a message.
+#[test]
+fn higher_numbers_first() {
+    use Event::*;
+    let mut events: Vec<Event> = (1..=4).map(Recover).collect();
+    let mut refused = String::new();
+    let mut none_for_1 = |events: &mut Vec<Event>| {
+        events.push(Deliver(4, 1));
+        refused += &format!("refused {} 11\n", events.len());
+    };
+    let there_and_back = |a: u8, b: u8| [Deliver(a, b), Deliver(b, a)];
+    // Asking, from 1 up; 5 is Down.
+    events.push(Check(4));
+    for i in 1..=3 {
+        events.extend(there_and_back(4, i));
+    }
+    events.push(Expire(4));
+    // Inviting.
+    for i in [3, 2, 1] {
+        if i != 1 {
+            none_for_1(&mut events);
+        }
+        events.extend(there_and_back(4, i));
+        events.extend(there_and_back(4, i));
+    }
+    events.push(Finish(4, 100));
+    // Handing.
+    for i in [3, 2, 1] {
+        if i != 1 {
+            none_for_1(&mut events);
+        }
+        events.extend(there_and_back(4, i));
+    }
+    events.extend([Lose(4, 5), Recover(5), Check(5)]);
+    for i in 1..=4 {
+        events.extend(there_and_back(5, i));
+    }
+    // Forwarding.
+    events.push(Deliver(5, 4));
+    none_for_1(&mut events);
+    events.extend([Deliver(4, 3), Deliver(3, 5), Deliver(5, 3), Deliver(3, 4)]);
+    none_for_1(&mut events);
+    let text = format!(
+        "cabinets 5\n{refused}1 3 4 35 100 1 0\n2 3 4 35 100 1 0\n3 2 5 36 100 1 0\n\
+         4 1 5 36 100 2 3\n5 1 5 36 5 2 1\nmessages 1\n"
+    );
+    let list = write_list(5, &events);
+    assert_eq!(String::from_utf8(printed(&list)).unwrap(), text);
+    assert_eq!(String::from_utf8(run_list(&list)).unwrap(), text);
+}
