@@ -116,6 +116,9 @@ pub fn run_difference(
     let mut numbers = Numbers::new(u64::from(n));
     let mut lent = Lent::for_table(&mut numbers);
     let mut field = Vec::with_capacity(8);
+    if let Some(corners) = &mut corners {
+        corners.begin();
+    }
     for (k, event) in events.iter().enumerate() {
         let fault = |words: String| {
             Some(Difference { events: k + 1, words: format!("{} {words}", at(k, event)) })
@@ -245,6 +248,9 @@ pub fn walk_difference(
     table_to_bytes(start, &mut bytes);
     let mut lent = Lent::for_table(&mut numbers);
     let mut field = Vec::with_capacity(8);
+    if let Some(corners) = &mut corners {
+        corners.begin();
+    }
     for (k, event) in events.iter().enumerate() {
         if noise.is_some() {
             fill_unused(&mut bytes, || numbers.byte());

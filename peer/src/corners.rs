@@ -1,7 +1,8 @@
-//! Counts what the compared events met: refusals, kinds delivered, activities and transitions, so
-//! that a corner that was never met shows. What document 01 makes possible is written out here.
+//! Counts what the compared events met: refusals, kinds delivered, activities, transitions and picks of
+//! the next node, so that a corner that was never met shows. What document 01 and T-02 of document 02
+//! make possible is written out here.
 
-use crate::machine::{Activity, Body, Event, Message, Node, Table};
+use crate::machine::{only, Activity, Body, Event, Message, Node, Set, Table};
 use crate::proved::tag;
 use std::fmt::Write;
 
@@ -55,6 +56,39 @@ const DEEDS: [&str; 21] = [
     "deliver 6, dropped",
 ];
 
+/// What a call shows of how the next node is picked: the first call of an activity or one that goes on,
+/// from a set of two or more, and where it goes on to. The first fifteen are three for each of those who
+/// pick: asking, inviting those found, inviting those set aside, forwarding, handing.
+const PICKS: [&str; 17] = [
+    "asking, first of two or more",
+    "asking, next of two or more",
+    "asking, next higher",
+    "inviting, first of two or more found",
+    "inviting, next of two or more found",
+    "inviting, next lower found",
+    // With none found, which no run has.
+    "inviting, first of two or more set aside",
+    "inviting, next of two or more set aside",
+    "inviting, next lower set aside",
+    "forwarding, first of two or more",
+    "forwarding, next of two or more",
+    "forwarding, next lower",
+    "handing, first of two or more",
+    "handing, next of two or more",
+    "handing, next lower",
+    "inviting, next higher set aside",
+    "inviting, the second time",
+];
+
+/// What no call shows, for each of those who pick.
+const WRONG_PICKS: [&str; 5] = [
+    "asking, not the next up",
+    "inviting, not the highest found",
+    "inviting, not the highest set aside",
+    "forwarding, not the highest",
+    "handing, not the highest",
+];
+
 const IDLE: usize = 0;
 const ASKING: usize = 1;
 const WAITING: usize = 2;
@@ -65,7 +99,7 @@ const CONTACTING: usize = 6;
 const FORWARDING: usize = 7;
 const ACCEPTING: usize = 8;
 
-/// The activities that document 01 lets follow in each deed on each activity.
+/// The activities that the papers let follow in each deed on each activity.
 fn possible(deed: usize, before: usize) -> &'static [usize] {
     const SAME: [[usize; 1]; 9] = [[0], [1], [2], [3], [4], [5], [6], [7], [8]];
     // "a forwarding or accepting cabinet isn't that owner", which here is its own coordinator
@@ -182,6 +216,10 @@ pub struct Corners {
     kinds: [Count; 6],
     activities: [Count; 9],
     transitions: Box<[[[Count; 9]; 9]; 21]>,
+    picks: [Count; 17],
+    wrong_picks: [Count; 5],
+    /// Whom each inviting node has called since it merged, as far as it was seen.
+    invited: [Set; 16],
 }
 
 impl Default for Corners {
@@ -192,11 +230,19 @@ impl Default for Corners {
             kinds: [[0; 2]; 6],
             activities: [[0; 2]; 9],
             transitions: Box::new([[[[0; 2]; 9]; 9]; 21]),
+            picks: [[0; 2]; 17],
+            wrong_picks: [[0; 2]; 5],
+            invited: [0; 16],
         }
     }
 }
 
 impl Corners {
+    /// The events that follow are those of another run, or begin on another table.
+    pub fn begin(&mut self) {
+        self.invited = [0; 16];
+    }
+
     /// Counts an event with what followed.
     pub fn event(
         &mut self,
@@ -228,6 +274,54 @@ impl Corners {
         let (from, to) = (activity_place(&node.activity), activity_place(&now.activity));
         self.activities[from][source] += 1;
         self.transitions[deed][from][to][source] += 1;
+        if now.last_call != node.last_call {
+            self.pick(source, i, after.n, node, now);
+        }
+    }
+
+    /// Counts what a call shows of how the next node is picked.
+    fn pick(&mut self, source: usize, i: u8, n: u8, before: &Node, after: &Node) {
+        let Some(now) = called(&after.activity) else {
+            return;
+        };
+        let goes_on = activity_place(&before.activity) == activity_place(&after.activity);
+        let last = if goes_on { called(&before.activity).unwrap_or(0) } else { 0 };
+        // Who picks, and who is left of the set.
+        let (picker, left) = match after.activity {
+            Activity::Inviting { found, former, .. } => match before.activity {
+                Activity::Inviting { found: 0, .. } | Activity::Waiting { found: 0, .. } => {
+                    (2, former)
+                }
+                _ => (1, found),
+            },
+            Activity::Forwarding { rest, .. } => (3, rest),
+            Activity::Handing { rest, .. } => (4, rest),
+            _ => (0, ((1u32 << n) - (1 << now)) as Set & !only(i)),
+        };
+        let mut met = |pick: usize| self.picks[pick][source] += 1;
+        if left != 0 {
+            met(3 * picker + usize::from(goes_on));
+        }
+        if goes_on {
+            match picker {
+                0 if now > last => met(2),
+                1..=4 if now < last => met(3 * picker + 2),
+                2 if now > last => met(15),
+                _ => {}
+            }
+        }
+        if let Activity::Inviting { .. } = after.activity {
+            let invited = &mut self.invited[usize::from(i) - 1];
+            *invited = if goes_on { *invited | only(last) } else { 0 };
+            if picker == 2 && *invited & only(now) != 0 {
+                met(16);
+            }
+        }
+        let wrong = match picker {
+            0 => Some(now) != (last + 1..=n).find(|&j| j != i),
+            _ => left > only(now),
+        };
+        self.wrong_picks[picker][source] += u64::from(wrong);
     }
 
     /// Counts a refusal of a list or of a line.
@@ -235,7 +329,7 @@ impl Corners {
         self.other_refusals[usize::from(number.min(15))] += 1;
     }
 
-    /// Every corner that document 01 makes possible, with its counts.
+    /// Every corner that the papers make possible, with its counts.
     fn corners(&self) -> Vec<(String, Count)> {
         let mut corners = Vec::new();
         for number in 1..=15 {
@@ -266,10 +360,13 @@ impl Corners {
                 }
             }
         }
+        for (name, count) in PICKS.iter().zip(self.picks) {
+            corners.push((name.to_string(), count));
+        }
         corners
     }
 
-    /// What was met though document 01 has no place for it.
+    /// What was met though the papers have no place for it.
     pub fn impossible(&self) -> Vec<String> {
         let mut found = Vec::new();
         let met = |count: Count| count != [0, 0];
@@ -291,6 +388,8 @@ impl Corners {
                 }
             }
         }
+        let wrong = WRONG_PICKS.iter().zip(self.wrong_picks).filter(|&(_, count)| met(count));
+        found.extend(wrong.map(|(name, _)| name.to_string()));
         found
     }
 
@@ -322,6 +421,17 @@ impl Corners {
 
 fn activity_place(activity: &Activity) -> usize {
     usize::from(tag(activity))
+}
+
+/// Whom an activity that picks its nodes calls now.
+fn called(activity: &Activity) -> Option<u8> {
+    match *activity {
+        Activity::Asking { asked: now, .. }
+        | Activity::Inviting { now, .. }
+        | Activity::Handing { now, .. }
+        | Activity::Forwarding { now, .. } => Some(now),
+        _ => None,
+    }
 }
 
 /// The deed of a delivery, from the receiver before and after it.

@@ -83,7 +83,7 @@ impl<L: Library> Fuzz<L> {
         print!("{}", self.corners.text());
         for words in self.corners.impossible() {
             self.failed += 1;
-            println!("document 01 has no place for this: {words}");
+            println!("the papers have no place for this: {words}");
         }
         let events = self.run_events + self.list_events + self.table_events;
         println!("runs: {}, {} events", self.runs, self.run_events);
