@@ -260,7 +260,7 @@ fn hands_on_after_recovery(table: &mut Table, event: &Event) -> Result<(), u8> {
         if let (Activity::Handing { rest, .. }, true) = (was, node.last_call < MAX_CALL) {
             if rest != 0 && table.messages.len() < MAX_MESSAGES {
                 node.last_call += 1;
-                let receiver = rest.trailing_zeros() as u8 + 1;
+                let receiver = 16 - rest.leading_zeros() as u8;
                 let body = Body::Ready { group: node.group, task: before.node(i).task };
                 table.messages.push(Message { sender: i, receiver, call: node.last_call, body });
             }
@@ -297,6 +297,126 @@ fn fuzzer_finds_wrong_turnings_and_impostors() {
         let mut fuzz = Fuzz::new(Machine(machine), 1);
         fuzz.go_on(Duration::from_secs(60));
         assert!(fuzz.tell().1 > 0, "{name}");
+    }
+}
+
+/// The set that a call's node was picked from, without it, and the node, by the activities before and
+/// after the call.
+type Picked = for<'a> fn(&Activity, &'a mut Activity) -> Option<(&'a mut Set, &'a mut u8)>;
+
+/// Puts the node that an event's call went to back into its set, and takes the lowest.
+fn picks_lowest(table: &mut Table, event: &Event, picked: Picked) -> Result<(), u8> {
+    let before = table.nodes;
+    step(table, event)?;
+    for (node, before) in table.nodes.iter_mut().zip(before) {
+        if node.last_call == before.last_call {
+            continue;
+        }
+        if let Some((set, now)) = picked(&before.activity, &mut node.activity) {
+            *set |= only(*now);
+            *now = set.trailing_zeros() as u8 + 1;
+            *set &= !only(*now);
+            table.messages.last_mut().unwrap().receiver = *now;
+        }
+    }
+    Ok(())
+}
+
+fn invites_lowest_found(table: &mut Table, event: &Event) -> Result<(), u8> {
+    picks_lowest(table, event, |before, after| match (before, after) {
+        (Activity::Inviting { found: 0, .. }, _) => None,
+        (_, Activity::Inviting { found, now, .. }) => Some((found, now)),
+        _ => None,
+    })
+}
+
+fn invites_lowest_set_aside(table: &mut Table, event: &Event) -> Result<(), u8> {
+    picks_lowest(table, event, |before, after| match (before, after) {
+        (Activity::Inviting { found: 0, .. }, Activity::Inviting { former, now, .. }) => {
+            Some((former, now))
+        }
+        _ => None,
+    })
+}
+
+fn forwards_to_lowest(table: &mut Table, event: &Event) -> Result<(), u8> {
+    picks_lowest(table, event, |_, after| match after {
+        Activity::Forwarding { rest, now, .. } => Some((rest, now)),
+        _ => None,
+    })
+}
+
+fn hands_to_lowest(table: &mut Table, event: &Event) -> Result<(), u8> {
+    picks_lowest(table, event, |_, after| match after {
+        Activity::Handing { rest, now } => Some((rest, now)),
+        _ => None,
+    })
+}
+
+/// The two sets as one: "the cabinets found, then those set aside" is not heeded.
+fn invites_highest_of_both(table: &mut Table, event: &Event) -> Result<(), u8> {
+    let before = table.nodes;
+    step(table, event)?;
+    for (node, before) in table.nodes.iter_mut().zip(before) {
+        if let (Activity::Inviting { found, former, now }, true) =
+            (&mut node.activity, node.last_call != before.last_call)
+        {
+            if *former > only(*now) {
+                *found |= only(*now);
+                *now = 16 - former.leading_zeros() as u8;
+                *former &= !only(*now);
+                table.messages.last_mut().unwrap().receiver = *now;
+            }
+        }
+    }
+    Ok(())
+}
+
+/// "one in both is invited twice" is not heeded.
+fn invites_once(table: &mut Table, event: &Event) -> Result<(), u8> {
+    let before = table.clone();
+    step(table, event)?;
+    for (node, before) in table.nodes.iter_mut().zip(&before.nodes) {
+        if let (Activity::Inviting { found, former, now }, true) =
+            (&mut node.activity, node.group != before.group)
+        {
+            *former &= !(*found | only(*now));
+        }
+    }
+    Ok(())
+}
+
+/// "Asking still goes from 1 up" is not heeded.
+fn asks_highest_first(table: &mut Table, event: &Event) -> Result<(), u8> {
+    step(table, event)?;
+    if let Check(i) = *event {
+        if let Activity::Asking { asked, .. } = &mut table.nodes[usize::from(i) - 1].activity {
+            *asked = if i == table.n { i - 1 } else { table.n };
+            table.messages.last_mut().unwrap().receiver = *asked;
+        }
+    }
+    Ok(())
+}
+
+/// Machines that are right but for T-02, and the least n that has a choice for them.
+#[test]
+fn wrong_picks_show_in_runs() {
+    type Step = fn(&mut Table, &Event) -> Result<(), u8>;
+    let machines: [(&str, Step, u8); 7] = [
+        ("invites the lowest found", invites_lowest_found, 3),
+        ("invites the lowest set aside", invites_lowest_set_aside, 3),
+        ("forwards to the lowest", forwards_to_lowest, 3),
+        ("hands to the lowest", hands_to_lowest, 3),
+        ("invites the highest of both sets", invites_highest_of_both, 3),
+        ("invites one in both once", invites_once, 2),
+        ("asks the highest first", asks_highest_first, 3),
+    ];
+    for (name, machine, least) in machines {
+        let library = Machine(machine);
+        let (n, events) = first_difference(&library);
+        let (n, events) = shortest_run(&library, n, &events);
+        assert!(n >= least, "{name}: n {n}, {events:?}");
+        assert_least(&library, n, &events);
     }
 }
 
