@@ -1,4 +1,4 @@
-//! A second implementation of document 01 (coordinator election among cabinets) and of T-01 of
+//! A second implementation of document 01 (coordinator election among cabinets) and of T-01 and T-02 of
 //! document 02, written from the papers alone, so that other implementations can be compared with it.
 //! Document 01's cabinet is called node here, and its book history.
 
