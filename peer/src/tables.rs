@@ -162,12 +162,18 @@ fn message(table: &Table, numbers: &mut Numbers) -> Message {
         1 => group_number(near_ends(1, MAX_COUNTER, numbers), receiver),
         _ => group(n, numbers),
     };
-    let body = match numbers.below(8) {
-        0 => Body::AreYouCoordinator,
-        1 => Body::AreYouThere { group },
-        2 => Body::Invitation { group },
-        3 => Body::Accept { group },
-        4 => Body::Ready { group, task: any_task(numbers) },
+    let own = to.coordinator == receiver;
+    let body = match (numbers.below(9), to.status) {
+        (0, _) => Body::AreYouCoordinator,
+        (1, _) => Body::AreYouThere { group },
+        (2, _) => Body::Invitation { group },
+        (3, _) => Body::Accept { group },
+        (4, _) => Body::Ready { group, task: any_task(numbers) },
+        // One that its receiver does more with than reply.
+        (5, Status::Normal) if own => {
+            Body::Invitation { group: group_number(near_ends(1, MAX_COUNTER, numbers), sender) }
+        }
+        (5, Status::Election) if own => Body::Accept { group: to.group },
         _ => Body::Reply { yes: numbers.one_in(2) },
     };
     let call = match body {
