@@ -9,8 +9,8 @@
 //! - Status, activity and "its own coordinator" are one number. With the event, and for a delivery the
 //!   kind of the message, it gives refusals 7 to 11, or what is to be done, by one look into a table.
 //! - Asking, inviting, forwarding and handing are one walk over a set of whom still, in which the two
-//!   sets of inviting are one of 32 bits. The walk takes the lowest bit. Bit 15 - k of a set stands for
-//!   node k, so this is the highest node; only of those still to be asked it is bit k.
+//!   sets of inviting are one of 32 bits. It takes the lowest bit. Bit 15 - k stands for node k, so that
+//!   the highest node comes first; of those still to be asked bit k does, so that they come from 1 up.
 //! - All deliveries that are replied to at once are one piece of code without branches.
 //! - A coordinator is always its group's owner in a run, and is not kept.
 //! - A delivered message leaves its slot to the one that is sent.
@@ -217,7 +217,7 @@ const fn action(row: u16, state: u16) -> u8 {
     }
 }
 
-/// A walk: the kind of its calls, and what turns a bit's place into the node.
+/// A walk: the kind of its calls, and 15 where bit 15 - k stands for node k, or 0 where bit k does.
 #[derive(Clone, Copy)]
 struct Walk {
     kind: u8,
