@@ -137,7 +137,7 @@ impl<L: Library> Fuzz<L> {
         }
         self.small_buffers(&list);
         self.first_fields(&list);
-        if self.numbers.one_in(4) {
+        if self.numbers.one_in(2) {
             self.long_list(&list);
         }
     }

@@ -162,9 +162,10 @@ fn message(table: &Table, numbers: &mut Numbers) -> Message {
         1 => group_number(near_ends(1, MAX_COUNTER, numbers), receiver),
         _ => group(n, numbers),
     };
-    let own = to.coordinator == receiver;
+    let own = to.coordinator == receiver && to.group != 0;
     let body = match (numbers.below(9), to.status) {
         (0, _) => Body::AreYouCoordinator,
+        (1, _) if own => Body::AreYouThere { group: numbers.of(&[group, to.group]) },
         (1, _) => Body::AreYouThere { group },
         (2, _) => Body::Invitation { group },
         (3, _) => Body::Accept { group },
@@ -174,6 +175,7 @@ fn message(table: &Table, numbers: &mut Numbers) -> Message {
             Body::Invitation { group: group_number(near_ends(1, MAX_COUNTER, numbers), sender) }
         }
         (5, Status::Election) if own => Body::Accept { group: to.group },
+        (5, Status::Reorganization) => Body::Ready { group: to.group, task: any_task(numbers) },
         _ => Body::Reply { yes: numbers.one_in(2) },
     };
     let call = match body {
