@@ -10,10 +10,10 @@ use Rattle.node_set.proofs.Laws.{empty-lacks, without-others}
 use Rattle.model.specs.Pick.{by-test}
 use Rattle.model.specs.Procedures.{reaction, next, inviteNext, merges, handNext, finishes, forwardNext, askedAll, askAt, askAfter}
 use Rattle.model.specs.React.{checked, timedOut, ticked, expired, resumed, onAreYouCoordinator, onAreYouThere, onInvitation, onAccept, onReady, onReply, received, react}
-use Rattle.model.specs.State.{State, nodeAt, oldest}
+use Rattle.model.specs.State.{State, nodeAt}
 use Rattle.model.specs.Step.{actor, reactionTo}
 use Rattle.model.proofs.Next.{next-in}
-use Rattle.model.proofs.Judged.{Clear}
+use Rattle.model.proofs.Judged.{Clear, by-reaction}
 use Rattle.model.proofs.Numbers.{actor-in}
 use Rattle.model.proofs.Fields.{in-range-size, in-range-node, node-facts}
 use Rattle.model.specs.declared.Activity.{Activity}
@@ -28,7 +28,6 @@ use Rattle.model.specs.declared.Reaction.{Reaction}
 use Rattle.model.specs.declared.Input.{Input}
 use Rattle.model.specs.declared.Input.the-variants as Input
 use Rattle.model.specs.declared.Event.{Event}
-use Rattle.model.specs.declared.Event.the-variants.{Crash, Recover, Check, Timeout, Tick, Expire, Finish, Deliver, Lose}
 use Rattle.machine.specs.Mutants.{invites}
 
 -- where r is a merge, it invites each member of m
@@ -168,21 +167,8 @@ module _ (n i : ℕ) (c : Node) (small : n ≤ 16) (inside : within n (c .member
   reacts (Input.Receive m) = receive m
 
 pub event-invites : (s : State) (e : Event) → Clear s e → Invites (nodeAt s (actor e) .members) (reactionTo s e)
-unfolding reactionTo
-event-invites s e c = by e (λ x. reacts (s .n) (actor e) (nodeAt s (actor e)) (in-range-size s (c .in-range) .1) inside x)
-  where
-    inside : within (s .n) (nodeAt s (actor e) .members) ≡ true
-    inside =
-        let k = actor-in (s .n) e (c .number) in
-        node-facts (s .n) (actor e) (nodeAt s (actor e)) (in-range-node s (actor e) (c .in-range) (k .0) (k .1)) .members .inside
-
-    by : (e : Event) → ((x : Input) → Invites (nodeAt s (actor e) .members) (react (s .n) (actor e) (nodeAt s (actor e)) x)) → Invites (nodeAt s (actor e) .members) (reactionTo s e)
-    by (Crash i) f = f Input.Crash
-    by (Recover i) f = f Input.Recover
-    by (Check i) f = f Input.Check
-    by (Timeout i) f = f Input.Timeout
-    by (Tick i) f = f Input.Tick
-    by (Expire i) f = f Input.Expire
-    by (Finish i t) f = f (Input.Finish t)
-    by (Deliver a b) f = f (Input.Receive (oldest a b (s .queue)))
-    by (Lose a b) f = plain
+event-invites s e c =
+    let k = actor-in (s .n) e (c .number) in
+    let x = node-facts (s .n) (actor e) (nodeAt s (actor e)) (in-range-node s (actor e) (c .in-range) (k .0) (k .1)) in
+    by-reaction (Invites (nodeAt s (actor e) .members)) s e
+    (λ y. reacts (s .n) (actor e) (nodeAt s (actor e)) (in-range-size s (c .in-range) .1) (x .members .inside) y) plain

@@ -13,10 +13,10 @@ use Rattle.node_set.proofs.Laws.{empty-lacks, within-word, with-within}
 use Rattle.model.specs.Pick.{pick, by-test}
 use Rattle.model.specs.Procedures.{next, inviteNext, merges, handNext, finishes, forwardNext, askedAll, askAt, askAfter}
 use Rattle.model.specs.React.{checked, timedOut, ticked, expired, resumed, onAreYouCoordinator, onAreYouThere, onInvitation, onAccept, onReady, onReply, received, react}
-use Rattle.model.specs.State.{State, startingNode, start, nodeAt, oldest}
+use Rattle.model.specs.State.{State, startingNode, start, nodeAt}
 use Rattle.model.specs.Step.{actor, reactionTo, effect, Result, refused, accepted, step, kept, after, runFrom, run}
 use Rattle.model.specs.Claims.{CallsHighest, CallsUpward, whomNow, whomStill, Below, HighestFirst}
-use Rattle.model.proofs.Judged.{Clear, by-step, accepted-is}
+use Rattle.model.proofs.Judged.{Clear, by-step, accepted-is, by-reaction}
 use Rattle.model.proofs.Numbers.{actor-in}
 use Rattle.model.proofs.Next.{next-has, next-most, left-below}
 use Rattle.model.proofs.Fields.{IsSetOfOthers, Busy, NodeFacts, in-range-size, in-range-node, node-facts, own-record}
@@ -32,7 +32,6 @@ use Rattle.model.specs.declared.Reaction.{Reaction}
 use Rattle.model.specs.declared.Input.{Input}
 use Rattle.model.specs.declared.Input.the-variants as Input
 use Rattle.model.specs.declared.Event.{Event}
-use Rattle.model.specs.declared.Event.the-variants.{Crash, Recover, Check, Timeout, Tick, Expire, Finish, Deliver, Lose}
 
 -- ── the call that goes out ──
 
@@ -239,25 +238,11 @@ module _ (n i : ℕ) (small : n ≤ 16) (c : Node) (x : NodeFacts n i c) where
 -- ── an accepted event ──
 
 event-falls : (s : State) (e : Event) → Clear s e → Falls (nodeAt s (actor e) .activity) (reactionTo s e .node .activity)
-unfolding reactionTo
-event-falls s e c = by e (λ y. reacts (s .n) (actor e) (in-range-size s (c .in-range) .1) (nodeAt s (actor e)) facts y)
-  where
-    facts : NodeFacts (s .n) (actor e) (nodeAt s (actor e))
-    facts =
-        let k = actor-in (s .n) e (c .number) in
-        node-facts (s .n) (actor e) (nodeAt s (actor e)) (in-range-node s (actor e) (c .in-range) (k .0) (k .1))
-
-    by : (e : Event) → ((y : Input) → Falls (nodeAt s (actor e) .activity) (react (s .n) (actor e) (nodeAt s (actor e)) y .node .activity))
-        → Falls (nodeAt s (actor e) .activity) (reactionTo s e .node .activity)
-    by (Crash i) f = f Input.Crash
-    by (Recover i) f = f Input.Recover
-    by (Check i) f = f Input.Check
-    by (Timeout i) f = f Input.Timeout
-    by (Tick i) f = f Input.Tick
-    by (Expire i) f = f Input.Expire
-    by (Finish i t) f = f (Input.Finish t)
-    by (Deliver a b) f = f (Input.Receive (oldest a b (s .queue)))
-    by (Lose a b) f = inl refl
+event-falls s e c =
+    let k = actor-in (s .n) e (c .number) in
+    let x = node-facts (s .n) (actor e) (nodeAt s (actor e)) (in-range-node s (actor e) (c .in-range) (k .0) (k .1)) in
+    by-reaction (λ r. Falls (nodeAt s (actor e) .activity) (r .node .activity)) s e
+    (λ y. reacts (s .n) (actor e) (in-range-size s (c .in-range) .1) (nodeAt s (actor e)) x y) (inl refl)
 
 -- of an accepted event, by the table that it leaves
 accepted-falls : (s : State) (e : Event) (u : State) (k : Mark) → step s e ≡ accepted u k → Falls (nodeAt s (actor e) .activity) (nodeAt u (actor e) .activity)

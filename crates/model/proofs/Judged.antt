@@ -1,4 +1,4 @@
--- A step is refused, or no ground applies and it has its effect.
+-- A step is refused, or no ground applies and it has its effect; what the event's node does then.
 use Prim.Native.Nat.{ℕ, _-_}
 use native.Mathlib.Omega.{arith}
 use mathlib.Core.Bool.{Bool, true, false, _&&_}
@@ -9,11 +9,17 @@ use lib.ListN.{length}
 use borrow.Author.Tests.{not-false}
 use Rattle.model.specs.Pick.{pick, by-test}
 use Rattle.model.specs.Limits.{queueLimit, counterEnd, callEnd}
-use Rattle.model.specs.State.{State, nodeAt, inRange}
+use Rattle.model.specs.Procedures.{stays}
+use Rattle.model.specs.React.{react}
+use Rattle.model.specs.State.{State, nodeAt, oldest, inRange}
 use Rattle.model.specs.Step.{actor, reactionTo, remaining, effect, wrongNumber, wrongTask, wrongStatus, wrongActivity, noneWaits, forms, isCalling, isSending, Ground, grounds, Result, refused, accepted, judged, step}
 use Rattle.model.specs.Claims.{NoneApplies}
 use Rattle.model.specs.declared.Mark.{Mark}
+use Rattle.model.specs.declared.Reaction.{Reaction}
+use Rattle.model.specs.declared.Input.{Input}
+use Rattle.model.specs.declared.Input.the-variants as Input
 use Rattle.model.specs.declared.Event.{Event}
+use Rattle.model.specs.declared.Event.the-variants.{Crash, Recover, Check, Timeout, Tick, Expire, Finish, Deliver, Lose}
 
 judged-by : (P : Result → Type 0) (r : Result) (gs : List Ground) → ((x : ℕ) → P (refused x)) → (NoneApplies gs → P r) → P (judged r gs)
 unfolding judged
@@ -61,3 +67,16 @@ accepted-is s e u k =
   where
     apart : (x : ℕ) → refused x ≡ accepted u k → ⊥
     apart x q = let z : _≡_ {A = ℕ} 0 1 = cc in omega arith
+
+-- what holds of whatever the event's node does with an input, and where it stays as it is, holds of what it does at the event
+pub by-reaction : (P : Reaction → Type 0) (s : State) (e : Event) → ((x : Input) → P (react (s .n) (actor e) (nodeAt s (actor e)) x)) → P (stays (nodeAt s (actor e))) → P (reactionTo s e)
+unfolding reactionTo
+by-reaction P s (Crash i) f g = f Input.Crash
+by-reaction P s (Recover i) f g = f Input.Recover
+by-reaction P s (Check i) f g = f Input.Check
+by-reaction P s (Timeout i) f g = f Input.Timeout
+by-reaction P s (Tick i) f g = f Input.Tick
+by-reaction P s (Expire i) f g = f Input.Expire
+by-reaction P s (Finish i t) f g = f (Input.Finish t)
+by-reaction P s (Deliver a b) f g = f (Input.Receive (oldest a b (s .queue)))
+by-reaction P s (Lose a b) f g = g
