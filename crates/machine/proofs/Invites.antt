@@ -3,16 +3,17 @@ use Prim.Native.Nat.{ℕ, _+_, _≤_}
 use native.Mathlib.Omega.{arith}
 use mathlib.Core.Bool.{Bool, true, false, _||_, true≢false}
 use mathlib.Core.Path.{_≡_, refl, sym, _∙_, ap}
+use mathlib.Core.Logic.{_⊎_, ⊎-elim}
 use lib.Dec.{eqb}
-use borrow.Author.Tests.{not-false, eqb-true, eqb-false}
+use borrow.Author.Tests.{not-false, eqb-true, eq-eqb}
 use Rattle.node_set.specs.NodeSet.{has, within, without}
-use Rattle.node_set.proofs.Laws.{empty-lacks, without-others}
+use Rattle.node_set.proofs.Laws.{empty-lacks}
 use Rattle.model.specs.Pick.{by-test}
 use Rattle.model.specs.Procedures.{reaction, next, inviteNext, merges, handNext, finishes, forwardNext, askedAll, askAt, askAfter}
 use Rattle.model.specs.React.{checked, timedOut, ticked, expired, resumed, onAreYouCoordinator, onAreYouThere, onInvitation, onAccept, onReady, onReply, received, react}
 use Rattle.model.specs.State.{State, nodeAt}
 use Rattle.model.specs.Step.{actor, reactionTo}
-use Rattle.model.proofs.Next.{next-in}
+use Rattle.model.proofs.Next.{next-or-left}
 use Rattle.model.proofs.Judged.{Clear, by-reaction}
 use Rattle.model.proofs.Numbers.{actor-in}
 use Rattle.model.proofs.Fields.{in-range-size, in-range-node, node-facts}
@@ -47,6 +48,11 @@ or-right true false z e = refl
 or-right false true z e = refl
 or-right false false z e = e
 
+or-left : (x y z : Bool) → x ≡ true → (x || y || z) ≡ true
+or-left true true z e = refl
+or-left true false z e = refl
+or-left false y z e = absurd (true≢false (sym e))
+
 -- ── a merge ──
 
 -- j is a member of o, which is a set of nodes of 1 to n
@@ -55,26 +61,16 @@ module _ (n o j : ℕ) (small : n ≤ 16) (inside : within n o ≡ true) (low : 
   some e = true≢false (sym member ∙ ap (λ (s : ℕ). has s j) e ∙ empty-lacks j)
 
   -- it is next, or among those left
-  next-or-left : (eqb (next o) j || has 0 j || has (without o (next o)) j) ≡ true
-  next-or-left = by (eqb (next o) j) refl
-    where
-      l : (1 ≤ next o) × (next o ≤ n)
-      l = next-in n o small inside (omega (arith, some))
-
-      by : (b : Bool) → eqb (next o) j ≡ b → (b || has 0 j || has (without o (next o)) j) ≡ true
-      by true e = or-first (has 0 j) (has (without o (next o)) j)
-        where
-          or-first : (x y : Bool) → (true || x || y) ≡ true
-          or-first true y = refl
-          or-first false y = refl
-      by false e =
-          or-right false (has 0 j) _ (without-others n o (next o) j small inside (l .0) (l .1) low (λ z. eqb-false (next o) j e (sym z)) ∙ member)
+  called : (eqb (next o) j || has 0 j || has (without o (next o)) j) ≡ true
+  called =
+      ⊎-elim (λ e. or-left (eqb (next o) j) (has 0 j) (has (without o (next o)) j) (eq-eqb (next o) j e))
+      (λ h. or-right (eqb (next o) j) (has 0 j) (has (without o (next o)) j) h) (next-or-left n o j small inside low member)
 
   invite-old : (i : ℕ) (c : Node) (k : Mark) (found : ℕ) → invites (inviteNext i c k found o .node .activity) j ≡ true
   unfolding inviteNext
   invite-old i c k found =
       by-test P (λ _. or-right (eqb (next found) j) (has (without found (next found)) j) (has o j) member)
-      (λ _. by-test P (λ _. next-or-left) (λ q. absurd (some (eqb-true o 0 (not-false _ q)))))
+      (λ _. by-test P (λ _. called) (λ q. absurd (some (eqb-true o 0 (not-false _ q)))))
     where
       P : Reaction → Type 0
       P r = invites (r .node .activity) j ≡ true
@@ -170,5 +166,5 @@ pub event-invites : (s : State) (e : Event) → Clear s e → Invites (nodeAt s 
 event-invites s e c =
     let k = actor-in (s .n) e (c .number) in
     let x = node-facts (s .n) (actor e) (nodeAt s (actor e)) (in-range-node s (actor e) (c .in-range) (k .0) (k .1)) in
-    by-reaction (Invites (nodeAt s (actor e) .members)) s e
-    (λ y. reacts (s .n) (actor e) (nodeAt s (actor e)) (in-range-size s (c .in-range) .1) (x .members .inside) y) plain
+    by-reaction (Invites (nodeAt s (actor e) .members)) s e c
+    (λ y _. reacts (s .n) (actor e) (nodeAt s (actor e)) (in-range-size s (c .in-range) .1) (x .members .inside) y) plain

@@ -4,7 +4,7 @@ use native.Mathlib.Omega.{arith}
 use mathlib.Core.Bool.{Bool, true, false, _&&_, true≢false}
 use mathlib.Core.Path.{_≡_, refl, sym, _∙_, ap, subst}
 use mathlib.Core.Logic.{_⊎_, ⊎-elim}
-use mathlib.Core.List.{List, [], _∷_, _++_, append-nil}
+use mathlib.Core.List.{List, [], _∷_, _++_, append-nil, append-cancel-left}
 use lib.Count.{onesIn, ones, leadingZeros}
 use lib.Bits.{bitAnd, bitOr}
 use lib.Dec.{eqb}
@@ -21,17 +21,19 @@ use Rattle.model.specs.Range.{activityInRange, nodeInRange, messageInRange}
 use Rattle.model.specs.State.{State, startingNode, start, nodeAt, waits, oldest, withoutOldest, every, inRange, firstOf, view, tableOf}
 use Rattle.model.specs.Step.{actor, reactionTo, remaining, sent, effect, forms, isCalling, isSending, grounds, judged, Result, refused, accepted, step, kept, after, runFrom}
 use Rattle.model.specs.Answers.{answerNumber, resultNumber}
-use Rattle.model.specs.Claims.{isActive, Lacks, whomNow, whomStill, Below}
+use Rattle.model.specs.Claims.{isActive, Lacks, Sends, whomNow, whomStill, Below, Picked}
 use Rattle.model.proofs.Judged.{by-step, accepted-is}
 use Rattle.model.proofs.Local.{both-right}
 use Rattle.model.proofs.Fields.{in-range-size, own-record}
 use Rattle.model.proofs.InRange.{delivery-never-full, stays-in-range}
-use Rattle.model.proofs.Highest.{highest-first}
+use Rattle.model.proofs.CallOrder.{call-order}
 use Rattle.model.specs.declared.Status.the-variants.{Election}
 use Rattle.model.specs.declared.Activity.{Activity}
 use Rattle.model.specs.declared.Activity.the-variants.{Idle, Asking, Waiting, Inviting, Collecting, Handing, Contacting, Forwarding, Accepting}
 use Rattle.model.specs.declared.Node.{Node}
 use Rattle.model.specs.declared.Message.{Message}
+use Rattle.model.specs.declared.Outgoing.{Outgoing}
+use Rattle.model.specs.declared.Outgoing.the-variants.{Nothing, Send}
 use Rattle.model.specs.declared.Mark.{Mark}
 use Rattle.model.specs.declared.Mark.the-variants.{Merges}
 use Rattle.model.specs.declared.Reaction.{Reaction}
@@ -41,7 +43,7 @@ use Rattle.model.specs.declared.Event.the-variants.{Crash, Recover, Check, Time
 use Rattle.model.specs.declared.Outcome.{Outcome}
 use Rattle.model.specs.declared.Answer.the-variants.{Accepted}
 use Rattle.machine.specs.Stepped.{Stepped, startingTable}
-use Rattle.machine.specs.Mutants.{mergingTable, handingTable, invitedTable, askingTable, invites, recoversAtExpire, Moves, NoMutant, NoWrongTurning, NoLowerFirst}
+use Rattle.machine.specs.Mutants.{mergingTable, handingTable, invitedTable, askingTable, collectingTable, invites, recoversAtExpire, Moves, NoMutant, NoWrongTurning, NoLowerFirst}
 use Rattle.machine.proofs.Laws.{start-is}
 use Rattle.machine.proofs.Runs.{run-nodes, start-node, accepted-alike, code-runs, code-fixes, folded-reached}
 use Rattle.machine.proofs.Still.{accepted-differs, reply-taken}
@@ -55,6 +57,7 @@ record Computed : Type 0 where
   task : nodeAt (after (view (tableOf invitedTable)) (Deliver 1 2)) 2 .task .number ≡ 100
   status : nodeAt (after (view (tableOf invitedTable)) (Deliver 1 2)) 2 .status ≡ Election
   handed : nodeAt (after (view (tableOf handingTable)) (Expire 3)) 3 .activity ≡ Idle
+  picks : nodeAt (after (view (tableOf collectingTable)) (Finish 3 (record { number = 100 }))) 3 .activity ≡ Handing 1 2
   older : nodeAt (after (view (tableOf (askingTable (replies 2 1 (record { number = 4 }) true ∷ [])))) (Deliver 2 1)) 1 ≡ nodeAt (askingTable []) 1
   other : nodeAt (after (view (tableOf (askingTable (replies 3 1 (record { number = 5 }) true ∷ [])))) (Deliver 3 1)) 1 .activity ≡ Asking 3 2
   away : resultNumber (step (view (startingTable 2)) (Crash 1)) ≡ 9
@@ -65,7 +68,7 @@ record Computed : Type 0 where
 
 computed : Computed
 unfolding pick onesIn ones leadingZeros bitAnd bitOr inviteNext merges handNext finishes forwardNext askedAll askAt askAfter checked timedOut ticked expired resumed onAreYouCoordinator onAreYouThere onInvitation onAccept onReady onReply received react activityInRange nodeInRange messageInRange waits oldest withoutOldest every inRange reactionTo remaining effect grounds judged step runFrom firstOf
-computed = record { again = refl; members = refl; task = refl; status = refl; handed = refl; older = refl; other = refl; away = refl; ranged = refl; two = refl; second = refl }
+computed = record { again = refl; members = refl; task = refl; status = refl; handed = refl; picks = refl; older = refl; other = refl; away = refl; ranged = refl; two = refl; second = refl }
 
 asked-apart : Asking 3 2 ≡ Asking 2 0 → ⊥
 asked-apart e = let z : _≡_ {A = ℕ} 3 2 = cc in omega arith
@@ -332,12 +335,38 @@ no-mutant =
 
 -- ── higher numbers first ──
 
+sent-to : (o : Outgoing) (m : Message) (j : ℕ) → Sends j o → sent o ≡ m ∷ [] → m .receiver ≡ j
+sent-to Nothing m j x e = absurd x
+sent-to (Send y) m j x e = let q : y ≡ m = cc in ap (λ (z : Message). z .receiver) (sym q) ∙ x
+
+-- what no machine does that picks as the definitions do, it does not do where the activity changes
+module _ (t : Table) (e : Event) {r : Outcome} (x : Stepped t e r)
+    (changed : nodeAt (view (r .table)) (actor e) .activity ≡ nodeAt (view t) (actor e) .activity → ⊥) where
+  picked : Picked (nodeAt (view t) (actor e) .activity) (nodeAt (view (r .table)) (actor e) .activity) (reactionTo (view t) e .outgoing)
+  picked =
+      ⊎-elim (λ q. absurd (changed q)) (λ p. p)
+      (subst (λ (s : State). (nodeAt s (actor e) .activity ≡ nodeAt (view t) (actor e) .activity) ⊎ Picked (nodeAt (view t) (actor e) .activity) (nodeAt s (actor e) .activity) (reactionTo (view t) e .outgoing))
+      (sym (x .table)) (call-order .steps (view t) e))
+
+  -- the event was accepted
+  in-queue : view (r .table) .queue ≡ remaining (view t) e ++ sent (reactionTo (view t) e .outgoing)
+  unfolding effect
+  in-queue =
+      ap (λ (s : State). s .queue) (x .table)
+      ∙ by-step (λ (q : Result). (nodeAt (kept (view t) q) (actor e) .activity ≡ nodeAt (view t) (actor e) .activity → ⊥) → kept (view t) q .queue ≡ remaining (view t) e ++ sent (reactionTo (view t) e .outgoing))
+      (view t) e (λ _ d. absurd (d refl)) (λ _ _. refl) (subst (λ (s : State). nodeAt s (actor e) .activity ≡ nodeAt (view t) (actor e) .activity → ⊥) (x .table) changed)
+
+handed-apart : Handing 1 2 ≡ Handing 2 1 → ⊥
+handed-apart q = let z : _≡_ {A = ℕ} 1 2 = cc in omega arith
+
 pub no-lower-first : NoLowerFirst
 no-lower-first =
     record {
-      lower-first = λ t e j {r} x y d h l. ⊎-elim d (λ f. omega (arith, f j h, l)) (highest-first .steps (view t) e _ _ (accepted-alike .model-accepts x y));
-      lower-former = λ t e j former was found rest now {r} x y d p q h l.
-          ⊎-elim d (λ f. omega (arith, f j h, l)) (highest-first .steps-former (view t) e _ _ (accepted-alike .model-accepts x y) former was found rest now p q);
-      lower-later = λ n {es} {t} c i j h l.
-          omega (arith, subst (λ (s : State). Below (whomStill (nodeAt s i .activity)) (whomNow (nodeAt s i .activity))) (sym (code-runs .from-start n es t c)) (highest-first .runs n es i) j h, l);
+      lower-first = λ t e j {r} x d h l. omega (arith, picked t e x d .below j h, l);
+      lower-aside = λ t e j former was {r} x d p h l. omega (arith, picked t e x d .below-aside former was p j h, l);
+      sends-elsewhere = λ t e m {r} x d l q h.
+          h (sent-to (reactionTo (view t) e .outgoing) m _ (picked t e x d .sends l) (append-cancel-left (remaining (view t) e) _ _ (sym (in-queue t e x d) ∙ q)));
+      hands-lowest = λ {r} x h. handed-apart (sym (computed .picks) ∙ sym (ap (λ (s : State). nodeAt s 3 .activity) (x .table)) ∙ h);
+      lower-in-runs = λ n {es} {t} c i j h l.
+          omega (arith, subst (λ (s : State). Below (whomStill (nodeAt s i .activity)) (whomNow (nodeAt s i .activity))) (sym (code-runs .from-start n es t c)) (call-order .runs n es i) j h, l);
     }

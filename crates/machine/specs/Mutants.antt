@@ -1,7 +1,7 @@
 -- "Try these impostors", "Wrong turnings in this protocol" and 02's T-02: what no machine does that meets `Stepped` (mutant: 01's impostor). A machine is here whatever
 -- answers an event e on a table t with an outcome r, as a function f from tables and events does with f t e; nothing is asked of how it comes to r, so it may also
 -- remember. Each field takes as little of the mutant's behaviour as shuts it out: one event, and one thing that is wrong then. The proofs are in proofs/Mutants.
-use Prim.Native.Nat.{ℕ, _-_, _≤_}
+use Prim.Native.Nat.{ℕ, _≤_}
 use mathlib.Core.Bool.{Bool, true, false, not, _&&_, _||_}
 use mathlib.Core.Path.{_≡_}
 use mathlib.Core.List.{List, [], _∷_, _++_}
@@ -11,13 +11,13 @@ use Rattle.model.specs.Limits.{nodeLimit, counterEnd}
 use Rattle.model.specs.Node.{isDown, hasOpenCall, replies}
 use Rattle.model.specs.React.{leads}
 use Rattle.model.specs.State.{State, nodeAt, waits, oldest, inRange, view, tableOf}
-use Rattle.model.specs.Step.{actor, reactionTo}
+use Rattle.model.specs.Step.{actor, reactionTo, remaining}
 use Rattle.model.specs.Answers.{answerNumber}
-use Rattle.model.specs.Claims.{isActive, Lacks, whomNow, whomStill}
+use Rattle.model.specs.Claims.{isActive, Lacks, whomNow, whomStill, whomAside}
 use Rattle.model.specs.Cases.{setOf, none}
 use Rattle.model.specs.declared.Mark.the-variants.{Merges}
 use Rattle.model.specs.declared.Status.{Status}
-use Rattle.model.specs.declared.Status.the-variants.{Reorganization, Normal}
+use Rattle.model.specs.declared.Status.the-variants.{Election, Reorganization, Normal}
 use Rattle.model.specs.declared.Activity.{Activity}
 use Rattle.model.specs.declared.Activity.the-variants.{Idle, Asking, Waiting, Inviting, Collecting, Handing, Contacting, Forwarding, Accepting}
 use Rattle.model.specs.declared.Node.{Node}
@@ -222,17 +222,31 @@ pub record NoWrongTurning : Type 0 where
 
 -- ── 02, T-02: higher numbers first ──
 
+-- node 3 collects, with the members 1 and 2
+abbrev pub collectingTable : State
+collectingTable = record {
+  n = 3;
+  nodes = node Reorganization 1 50 3 1 none 2 Idle ∷ node Reorganization 1 50 3 2 none 2 Idle ∷ node Election 3 50 3 3 (setOf (1 ∷ 2 ∷ [])) 5 Collecting ∷ [];
+  queue = [];
+}
+
+-- "Whoever picks the next cabinet from a set shall now pick the highest, in inviting, forwarding and handing." An event that leaves the activity of its node as it was
+-- picks nobody.
 pub record NoLowerFirst : Type 0 where
-  -- "Whoever picks the next cabinet from a set shall now pick the highest, in inviting, forwarding and handing.": after no accepted event on any table does a node
-  -- call one while a higher one, j, of the same set is still to be called; where an event leaves the activity as it was, nobody is picked
-  pub lower-first : (t : Table) (e : Event) (j : ℕ) {r : Outcome} → Stepped t e r → r .answer ≡ Accepted
+  -- after no event on any table does a node call one, while that one or a higher one, j, of the same set is still to be called; of an inviting node: of those found
+  pub lower-first : (t : Table) (e : Event) (j : ℕ) {r : Outcome} → Stepped t e r
       → (nodeAt (view (r .table)) (actor e) .activity ≡ nodeAt (view t) (actor e) .activity → ⊥)
       → has (whomStill (nodeAt (view (r .table)) (actor e) .activity)) j ≡ true → whomNow (nodeAt (view (r .table)) (actor e) .activity) ≤ j → ⊥
-  -- so with those set aside, where none of those found was left
-  pub lower-former : (t : Table) (e : Event) (j former was found rest now : ℕ) {r : Outcome} → Stepped t e r → r .answer ≡ Accepted
-      → (nodeAt (view (r .table)) (actor e) .activity ≡ nodeAt (view t) (actor e) .activity → ⊥)
-      → nodeAt (view t) (actor e) .activity ≡ Inviting none former was → nodeAt (view (r .table)) (actor e) .activity ≡ Inviting found rest now
-      → has rest j ≡ true → now ≤ j → ⊥
-  -- and so in every table that the code reached from the starting one
-  pub lower-later : (n : ℕ) {es : List Event} {t : Table} → Reached Folded n es t → (i j : ℕ)
+  -- nor of those set aside, where it was inviting and none of those found was left
+  pub lower-aside : (t : Table) (e : Event) (j former was : ℕ) {r : Outcome} → Stepped t e r
+      → (nodeAt (view (r .table)) (actor e) .activity ≡ nodeAt (view t) (actor e) .activity → ⊥) → nodeAt (view t) (actor e) .activity ≡ Inviting none former was
+      → has (whomAside (nodeAt (view (r .table)) (actor e) .activity)) j ≡ true → whomNow (nodeAt (view (r .table)) (actor e) .activity) ≤ j → ⊥
+  -- nor is the message, m, sent to another than the one whom the node then calls
+  pub sends-elsewhere : (t : Table) (e : Event) (m : Message) {r : Outcome} → Stepped t e r
+      → (nodeAt (view (r .table)) (actor e) .activity ≡ nodeAt (view t) (actor e) .activity → ⊥) → 1 ≤ whomNow (nodeAt (view (r .table)) (actor e) .activity)
+      → view (r .table) .queue ≡ remaining (view t) e ++ (m ∷ []) → (m .receiver ≡ whomNow (nodeAt (view (r .table)) (actor e) .activity) → ⊥) → ⊥
+  -- for one: node 3 does not hand Ready to 1 first
+  pub hands-lowest : {r : Outcome} → Stepped (tableOf collectingTable) (Finish 3 (record { number = 100 })) r → nodeAt (view (r .table)) 3 .activity ≡ Handing (setOf (2 ∷ [])) 1 → ⊥
+  -- in no table that the code reached from the starting one does a node call one while that one or a higher one of the same set is still to be called
+  pub lower-in-runs : (n : ℕ) {es : List Event} {t : Table} → Reached Folded n es t → (i j : ℕ)
       → has (whomStill (nodeAt (view t) i .activity)) j ≡ true → whomNow (nodeAt (view t) i .activity) ≤ j → ⊥

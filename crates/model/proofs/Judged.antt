@@ -9,11 +9,13 @@ use lib.ListN.{length}
 use borrow.Author.Tests.{not-false}
 use Rattle.model.specs.Pick.{pick, by-test}
 use Rattle.model.specs.Limits.{queueLimit, counterEnd, callEnd}
+use Rattle.model.specs.Node.{isIdle, isWaiting, isCollecting, hasOpenCall}
 use Rattle.model.specs.Procedures.{stays}
 use Rattle.model.specs.React.{react}
 use Rattle.model.specs.State.{State, nodeAt, oldest, inRange}
 use Rattle.model.specs.Step.{actor, reactionTo, remaining, effect, wrongNumber, wrongTask, wrongStatus, wrongActivity, noneWaits, forms, isCalling, isSending, Ground, grounds, Result, refused, accepted, judged, step}
 use Rattle.model.specs.Claims.{NoneApplies}
+use Rattle.model.specs.declared.Activity.{Activity}
 use Rattle.model.specs.declared.Mark.{Mark}
 use Rattle.model.specs.declared.Reaction.{Reaction}
 use Rattle.model.specs.declared.Input.{Input}
@@ -68,15 +70,27 @@ accepted-is s e u k =
     apart : (x : ℕ) → refused x ≡ accepted u k → ⊥
     apart x q = let z : _≡_ {A = ℕ} 0 1 = cc in omega arith
 
--- what holds of whatever the event's node does with an input, and where it stays as it is, holds of what it does at the event
-pub by-reaction : (P : Reaction → Type 0) (s : State) (e : Event) → ((x : Input) → P (react (s .n) (actor e) (nodeAt s (actor e)) x)) → P (stays (nodeAt s (actor e))) → P (reactionTo s e)
+-- where ground 10 does not apply: what the activity is at an input
+abbrev pub Meets : Activity → Input → Type 0
+Meets a Input.Crash = Unit {0}
+Meets a Input.Recover = Unit {0}
+Meets a Input.Check = isIdle a ≡ true
+Meets a Input.Timeout = isIdle a ≡ true
+Meets a Input.Tick = isWaiting a ≡ true
+Meets a Input.Expire = hasOpenCall a ≡ true
+Meets a (Input.Finish t) = isCollecting a ≡ true
+Meets a (Input.Receive m) = Unit {0}
+
+-- what holds of whatever the event's node does with an input that its activity meets, and where it stays as it is, holds of what it does at the event
+pub by-reaction : (P : Reaction → Type 0) (s : State) (e : Event) → Clear s e
+    → ((x : Input) → Meets (nodeAt s (actor e) .activity) x → P (react (s .n) (actor e) (nodeAt s (actor e)) x)) → P (stays (nodeAt s (actor e))) → P (reactionTo s e)
 unfolding reactionTo
-by-reaction P s (Crash i) f g = f Input.Crash
-by-reaction P s (Recover i) f g = f Input.Recover
-by-reaction P s (Check i) f g = f Input.Check
-by-reaction P s (Timeout i) f g = f Input.Timeout
-by-reaction P s (Tick i) f g = f Input.Tick
-by-reaction P s (Expire i) f g = f Input.Expire
-by-reaction P s (Finish i t) f g = f (Input.Finish t)
-by-reaction P s (Deliver a b) f g = f (Input.Receive (oldest a b (s .queue)))
-by-reaction P s (Lose a b) f g = g
+by-reaction P s (Crash i) c f g = f Input.Crash tt
+by-reaction P s (Recover i) c f g = f Input.Recover tt
+by-reaction P s (Check i) c f g = f Input.Check (not-false _ (c .activity))
+by-reaction P s (Timeout i) c f g = f Input.Timeout (not-false _ (c .activity))
+by-reaction P s (Tick i) c f g = f Input.Tick (not-false _ (c .activity))
+by-reaction P s (Expire i) c f g = f Input.Expire (not-false _ (c .activity))
+by-reaction P s (Finish i t) c f g = f (Input.Finish t) (not-false _ (c .activity))
+by-reaction P s (Deliver a b) c f g = f (Input.Receive (oldest a b (s .queue))) tt
+by-reaction P s (Lose a b) c f g = g

@@ -12,4 +12,4 @@ pub mod Fields
 pub mod Range
 pub mod InRange
 pub mod Refusals
-pub mod Highest
+pub mod CallOrder

@@ -2,9 +2,12 @@
 use Prim.Native.Nat.{ℕ, _^_, _≤_, _<_}
 use native.Mathlib.Omega.{arith}
 use mathlib.Core.Bool.{Bool, true, false, true≢false}
+use mathlib.Core.Logic.{_⊎_, inl, inr}
 use mathlib.Core.Path.{_≡_, refl, sym, _∙_, ap}
+use lib.Dec.{eqb}
+use borrow.Author.Tests.{eqb-true, eqb-false}
 use Rattle.node_set.specs.NodeSet.{has, without, within}
-use Rattle.node_set.proofs.Laws.{has-highest, highest-in, highest-other, highest-most, without-lacks, without-self}
+use Rattle.node_set.proofs.Laws.{empty-lacks, has-highest, highest-in, highest-other, highest-most, without-lacks, without-self, without-others}
 use Rattle.model.specs.Procedures.{next}
 
 -- the next of a set that is not empty is in it
@@ -33,3 +36,17 @@ left-below s j w e = let m = next-most s j (was (has s j) refl) w in omega (arit
 
     apart : j ≡ next s → ⊥
     apart q = true≢false (sym e ∙ ap (has (without s (next s))) q ∙ without-self s (next s))
+
+-- a node of the set is the next, or is left
+pub next-or-left : (n s j : ℕ) → n ≤ 16 → within n s ≡ true → 1 ≤ j → has s j ≡ true → (next s ≡ j) ⊎ (has (without s (next s)) j ≡ true)
+next-or-left n s j small inside low member = by (eqb (next s) j) refl
+  where
+    some : s ≡ 0 → ⊥
+    some e = true≢false (sym member ∙ ap (λ (x : ℕ). has x j) e ∙ empty-lacks j)
+
+    l : (1 ≤ next s) × (next s ≤ n)
+    l = next-in n s small inside (omega (arith, some))
+
+    by : (b : Bool) → eqb (next s) j ≡ b → (next s ≡ j) ⊎ (has (without s (next s)) j ≡ true)
+    by true e = inl (eqb-true (next s) j e)
+    by false e = inr (without-others n s (next s) j small inside (l .0) (l .1) low (λ z. eqb-false (next s) j e (sym z)) ∙ member)

@@ -208,7 +208,7 @@ pub record NamedCases : Type 0 where
   pub k9-no : after (pair Normal (setOf (1 ∷ [])) (Asking 1 none) (reply 2 false)) (Deliver 1 2) ≡ pair Normal (setOf (1 ∷ [])) Idle []
   -- without an open call, the number does not help
   pub k9-no-call : after (pair Election none Collecting (reply 2 true)) (Deliver 1 2) ≡ pair Election none Collecting []
-  -- "Case K10": what its lines print
+  -- "Case K10": what its lines print; 02, T-02: "K10 prints the same."
   pub k10-first : printedFields (run 2 k10) 1 ≡ 1 ∷ 3 ∷ 2 ∷ 33 ∷ 100 ∷ 1 ∷ 0 ∷ []
   pub k10-second : printedFields (run 2 k10) 2 ≡ 2 ∷ 3 ∷ 2 ∷ 33 ∷ 100 ∷ 2 ∷ 1 ∷ []
   pub k10-messages : length (run 2 k10 .queue) ≡ 0
@@ -249,9 +249,18 @@ pub record WrongTurnings : Type 0 where
         last = callNo 2;
         activity = Inviting none (setOf (2 ∷ 3 ∷ [])) 2;
       }) (calls 1 3 2 (callNo 2) (groupNo 32) ∷ [])) Merges
-  -- 2, which was found, is invited, then 3 and 2, which were set aside, whether they answer or not; then node 1 collects
-  pub members-invited : runFrom (first (leader Normal 1 (Waiting 1 (setOf (2 ∷ [])))) []) (Tick 1 ∷ Expire 1 ∷ Expire 1 ∷ Expire 1 ∷ []) .queue
-      ≡ calls 1 3 2 (callNo 2) (groupNo 32) ∷ calls 1 3 3 (callNo 3) (groupNo 32) ∷ calls 1 3 2 (callNo 4) (groupNo 32) ∷ []
+  -- 2, which was found, is invited, then 3 and 2, which were set aside; none of them answers, and then node 1 collects
+  pub members-invited : runFrom (first (leader Normal 1 (Waiting 1 (setOf (2 ∷ [])))) []) (Tick 1 ∷ Expire 1 ∷ Expire 1 ∷ Expire 1 ∷ [])
+      ≡ first (record {
+        status = Election;
+        counter = 2;
+        group = groupNo 32;
+        coordinator = 1;
+        task = taskNo 100;
+        members = none;
+        last = callNo 4;
+        activity = Collecting;
+      }) (calls 1 3 2 (callNo 2) (groupNo 32) ∷ calls 1 3 3 (callNo 3) (groupNo 32) ∷ calls 1 3 2 (callNo 4) (groupNo 32) ∷ [])
   -- "Taking the task with the invitation: one group, two tasks." Node 2 has finished with task 100. Node 1, which it invited, has its solo task until Ready comes.
   pub task-waits : printedFields (run 2 (collecting ++ (Finish 2 (taskNo 100) ∷ []))) 1 ≡ 1 ∷ 2 ∷ 2 ∷ 33 ∷ 1 ∷ 1 ∷ 0 ∷ []
   -- the task comes with the Ready of its group, in Reorganization
@@ -284,6 +293,18 @@ filled s g o t m k a =
 -- three nodes
 abbrev pub three : Node → Node → Node → List Message → State
 three a b c q = record { n = 3; nodes = a ∷ b ∷ c ∷ []; queue = q }
+
+-- four nodes: node 2 is c, and the others are as at the start
+abbrev pub second : Node → List Message → State
+second c q = record { n = 4; nodes = startingNode ∷ c ∷ startingNode ∷ startingNode ∷ []; queue = q }
+
+-- and node 4 is c
+abbrev pub fourth : Node → List Message → State
+fourth c q = record { n = 4; nodes = startingNode ∷ startingNode ∷ startingNode ∷ c ∷ []; queue = q }
+
+-- node 2 as the coordinator of its group 17, with the task 100, the members m and the last call number k
+abbrev pub middle : Status → ℕ → ℕ → Activity → Node
+middle s m k a = filled s 17 2 100 m k a
 
 -- node 2 of three asks node j in its fourth call, with the set found
 abbrev pub asker : ℕ → ℕ → List Message → State
@@ -338,7 +359,7 @@ denial = replies 2 1 (callNo 3) false ∷ []
 abbrev pub twoOfPair : List Message
 twoOfPair = asks 1 2 (callNo 2) ∷ asks 2 1 (callNo 1) ∷ asks 1 2 (callNo 3) ∷ []
 
--- ── further cases: rules of 01, and of 02 since it landed, that the named cases leave open ──
+-- ── further cases: rules of 01, and of 02's T-02, that the named cases leave open ──
 
 pub record FurtherCases : Type 0 where
   -- "let p be the highest found": of 1 and 3, so that node 2 waits one tick
@@ -401,39 +422,71 @@ pub record FurtherCases : Type 0 where
       (calls 3 4 1 (callNo 6) (groupNo 32) ∷ [])) Plain
   -- expire, accepting: "it recovers ..; an invitation's caller then gets no reply"
   pub accepting-expires : step (beside (follower Election 32 100 (setOf (1 ∷ [])) 2 (Accepting 1 (callNo 3))) []) (Expire 2) ≡ accepted (beside alone []) Recovers
-  -- 02, T-02: "Whoever picks the next cabinet from a set shall now pick the highest, in inviting": node 1 has found 2 and 3 and sets 2 and 3 aside, "one in both
+  -- 02, T-02: "Whoever picks the next cabinet from a set shall now pick the highest, in inviting": node 2 has found 1, 3 and 4 and sets 1 and 4 aside, "one in both
   -- is invited twice"; then it collects
-  pub invites-highest : runFrom (first (leader Normal 1 (Waiting 1 (setOf (2 ∷ 3 ∷ [])))) []) (Tick 1 ∷ Expire 1 ∷ Expire 1 ∷ Expire 1 ∷ Expire 1 ∷ [])
-      ≡ first (record {
+  pub invites-highest : runFrom (second (middle Normal (setOf (1 ∷ 4 ∷ [])) 4 (Waiting 1 (setOf (1 ∷ 3 ∷ 4 ∷ [])))) [])
+      (Tick 2 ∷ Expire 2 ∷ Expire 2 ∷ Expire 2 ∷ Expire 2 ∷ Expire 2 ∷ [])
+      ≡ second (record {
         status = Election;
         counter = 2;
-        group = groupNo 32;
-        coordinator = 1;
+        group = groupNo 33;
+        coordinator = 2;
         task = taskNo 100;
         members = none;
-        last = callNo 5;
+        last = callNo 9;
         activity = Collecting;
       })
-      (calls 1 3 3 (callNo 2) (groupNo 32)
-      ∷ calls 1 3 2 (callNo 3) (groupNo 32)
-      ∷ calls 1 3 3 (callNo 4) (groupNo 32)
-      ∷ calls 1 3 2 (callNo 5) (groupNo 32)
+      (calls 2 3 4 (callNo 5) (groupNo 33)
+      ∷ calls 2 3 3 (callNo 6) (groupNo 33)
+      ∷ calls 2 3 1 (callNo 7) (groupNo 33)
+      ∷ calls 2 3 4 (callNo 8) (groupNo 33)
+      ∷ calls 2 3 1 (callNo 9) (groupNo 33)
       ∷ [])
-  -- "forwarding": node 1 forwards to 3, then to 2
+  -- an answer lets it go on with those found, and leaves those set aside: 3 has answered, and joined before that
+  pub invites-on : step (first (filled Election 16 1 1 (setOf (3 ∷ [])) 4 (Inviting (setOf (2 ∷ [])) (setOf (2 ∷ 3 ∷ [])) 3)) (replies 3 1 (callNo 4) true ∷ [])) (Deliver 3 1)
+      ≡ accepted (first (filled Election 16 1 1 (setOf (3 ∷ [])) 5 (Inviting none (setOf (2 ∷ 3 ∷ [])) 2)) (calls 1 3 2 (callNo 5) (groupNo 16) ∷ [])) Plain
+  -- "forwarding": node 2, invited by 3 into a group of node 1, forwards to 4, 3 and 1, its members, and then accepts
+  pub forwards-each : runFrom (second (middle Normal (setOf (1 ∷ 3 ∷ 4 ∷ [])) 4 Idle) (calls 3 3 2 (callNo 8) (groupNo 32) ∷ [])) (Deliver 3 2 ∷ Expire 2 ∷ Expire 2 ∷ Expire 2 ∷ [])
+      ≡ second (filled Election 32 1 100 (setOf (1 ∷ 3 ∷ 4 ∷ [])) 8 (Accepting 3 (callNo 8)))
+      (calls 2 3 4 (callNo 5) (groupNo 32)
+      ∷ calls 2 3 3 (callNo 6) (groupNo 32)
+      ∷ calls 2 3 1 (callNo 7) (groupNo 32)
+      ∷ calls 2 4 1 (callNo 8) (groupNo 32)
+      ∷ [])
+  -- node 1 forwards to 3, then to 2
   pub forwards-highest : step (first (leader Normal 1 Idle) (calls 2 3 1 (callNo 8) (groupNo 33) ∷ [])) (Deliver 2 1)
       ≡ accepted (first (filled Election 33 2 100 (setOf (2 ∷ 3 ∷ [])) 2 (Forwarding (setOf (2 ∷ [])) 3 2 (callNo 8))) (calls 1 3 3 (callNo 2) (groupNo 33) ∷ [])) Plain
-  -- expire, forwarding: "on to the next", and after the last it accepts
+  -- the answer, and expire, forwarding: "on to the next", and after the last it accepts
+  pub forwards-on : step (first (filled Election 33 2 100 (setOf (2 ∷ 3 ∷ [])) 2 (Forwarding (setOf (2 ∷ [])) 3 2 (callNo 8))) (replies 3 1 (callNo 2) true ∷ [])) (Deliver 3 1)
+      ≡ accepted (first (filled Election 33 2 100 (setOf (2 ∷ 3 ∷ [])) 3 (Forwarding none 2 2 (callNo 8))) (calls 1 3 2 (callNo 3) (groupNo 33) ∷ [])) Plain
   pub forwarding-expires : step (first (filled Election 33 2 100 (setOf (2 ∷ 3 ∷ [])) 2 (Forwarding (setOf (2 ∷ [])) 3 2 (callNo 8))) []) (Expire 1)
       ≡ accepted (first (filled Election 33 2 100 (setOf (2 ∷ 3 ∷ [])) 3 (Forwarding none 2 2 (callNo 8))) (calls 1 3 2 (callNo 3) (groupNo 33) ∷ [])) Plain
   pub forwarding-ends : step (first (filled Election 33 2 100 (setOf (2 ∷ 3 ∷ [])) 3 (Forwarding none 2 2 (callNo 8))) []) (Expire 1)
       ≡ accepted (first (filled Election 33 2 100 (setOf (2 ∷ 3 ∷ [])) 4 (Accepting 2 (callNo 8))) (calls 1 4 2 (callNo 4) (groupNo 33) ∷ [])) Plain
-  -- "and handing": "It hands Ready to each member", to 3 first (then to 2: WrongTurnings.ready-on); "after the last .. Normal and idle"
+  -- "and handing": "It hands Ready to each member", of node 2 to 4, then to 3, which says no, and to 1
+  pub hands-each : runFrom (second (middle Election (setOf (1 ∷ 3 ∷ 4 ∷ [])) 4 Collecting) (replies 4 2 (callNo 5) true ∷ replies 3 2 (callNo 6) false ∷ [])) (Finish 2 (taskNo 100) ∷ Deliver 4 2 ∷ Deliver 3 2 ∷ [])
+      ≡ second (middle Reorganization (setOf (1 ∷ 3 ∷ 4 ∷ [])) 7 (Handing none 1))
+      (readies 2 4 (callNo 5) (groupNo 17) (taskNo 100) ∷ readies 2 3 (callNo 6) (groupNo 17) (taskNo 100) ∷ readies 2 1 (callNo 7) (groupNo 17) (taskNo 100) ∷ [])
+  -- of node 1 to 3 first (from such a table then to 2: WrongTurnings.ready-on); "after the last .. Normal and idle"
   pub hands-highest : step (first (leader Election 1 Collecting) []) (Finish 1 (taskNo 200))
       ≡ accepted (first (filled Reorganization 16 1 200 (setOf (2 ∷ 3 ∷ [])) 2 (Handing (setOf (2 ∷ [])) 3)) (readies 1 3 (callNo 2) (groupNo 16) (taskNo 200) ∷ [])) Plain
   pub hands-last : step (first (leader Reorganization 2 (Handing none 2)) (replies 2 1 (callNo 2) true ∷ [])) (Deliver 2 1) ≡ accepted (first (leader Normal 2 Idle) []) Plain
-  -- "Asking still goes from 1 up": node 3 asks 1, then 2
-  pub asks-up : runFrom (three startingNode startingNode (filled Normal 18 3 3 none 0 Idle) []) (Check 3 ∷ Expire 3 ∷ [])
-      ≡ three startingNode startingNode (filled Normal 18 3 3 none 2 (Asking 2 none)) (asks 3 1 (callNo 1) ∷ asks 3 2 (callNo 2) ∷ [])
+  -- "Asking still goes from 1 up": node 4, with the member 2, asks 1, which says yes, 2, which does not answer, and 3, which says no; so it has found 1
+  pub asks-up : runFrom (fourth (filled Normal 19 4 4 (setOf (2 ∷ [])) 3 Idle) (replies 1 4 (callNo 4) true ∷ replies 3 4 (callNo 6) false ∷ []))
+      (Check 4 ∷ Deliver 1 4 ∷ Expire 4 ∷ Deliver 3 4 ∷ [])
+      ≡ fourth (record {
+        status = Election;
+        counter = 2;
+        group = groupNo 35;
+        coordinator = 4;
+        task = taskNo 4;
+        members = none;
+        last = callNo 7;
+        activity = Inviting none (setOf (2 ∷ [])) 1;
+      })
+      (asks 4 1 (callNo 4) ∷ asks 4 2 (callNo 5) ∷ asks 4 3 (callNo 6) ∷ calls 4 3 1 (callNo 7) (groupNo 35) ∷ [])
+  -- "tick i: one tick less": those found are kept
+  pub ticks-keep : step (first (leader Normal 1 (Waiting 2 (setOf (2 ∷ 3 ∷ [])))) []) (Tick 1) ≡ accepted (first (leader Normal 1 (Waiting 1 (setOf (2 ∷ 3 ∷ [])))) []) Plain
   -- "it goes on": inviting, handing, forwarding and accepting do so by a no too
   pub invite-no : step (first (filled Election 16 1 1 none 4 (Inviting none (setOf (2 ∷ [])) 3)) (replies 3 1 (callNo 4) false ∷ [])) (Deliver 3 1)
       ≡ accepted (first (filled Election 16 1 1 none 5 (Inviting none none 2)) (calls 1 3 2 (callNo 5) (groupNo 16) ∷ [])) Plain

@@ -7,7 +7,9 @@ use mathlib.Core.List.{List, [], _∷_, _++_}
 use lib.ListN.{length}
 use Rattle.node_set.specs.NodeSet.{has}
 use Rattle.model.specs.Limits.{nodeLimit}
-use Rattle.model.specs.Procedures.{inviteNext, handNext, forwardNext, askAfter}
+use Rattle.model.specs.Node.{isDown, isNormal}
+use Rattle.model.specs.Procedures.{inviteNext, handNext, forwardNext}
+use Rattle.model.specs.React.{leads, checked, expired, resumed}
 use Rattle.model.specs.Range.{carriesGroup}
 use Rattle.model.specs.State.{State, start, nodeAt, goes, waits, oldest, inRange}
 use Rattle.model.specs.Step.{actor, reactionTo, remaining, sent, forms, Ground, ground, grounds, Result, refused, accepted, step, after, run}
@@ -215,15 +217,20 @@ pub record StepIsLocal : Type 0 where
 
 -- ── 02, T-02: higher numbers first ──
 
--- a call goes out, to a node of the set s, and no node of s is above that one
-abbrev pub CallsHighest : ℕ → Outgoing → Type 0
-CallsHighest s Nothing = ⊥
-CallsHighest s (Send m) = (has s (m .receiver) ≡ true) × ((k : ℕ) → has s k ≡ true → k ≤ m .receiver)
+-- a message goes out, to node j
+abbrev pub Sends : ℕ → Outgoing → Type 0
+Sends j Nothing = ⊥
+Sends j (Send m) = m .receiver ≡ j
 
--- a call goes out, to a node above j other than i, and not to one above k
-abbrev pub CallsUpward : ℕ → ℕ → ℕ → Outgoing → Type 0
-CallsUpward i j k Nothing = ⊥
-CallsUpward i j k (Send m) = (j < m .receiver) × (m .receiver ≤ k) × (m .receiver ≡ i → ⊥)
+-- a message goes out, to a node of the set s, and no node of s is above that one
+abbrev pub SendsHighest : ℕ → Outgoing → Type 0
+SendsHighest s Nothing = ⊥
+SendsHighest s (Send m) = (has s (m .receiver) ≡ true) × ((k : ℕ) → has s k ≡ true → k ≤ m .receiver)
+
+-- a message goes out, to a node above j other than i, and not to one above k
+abbrev pub SendsUpward : ℕ → ℕ → ℕ → Outgoing → Type 0
+SendsUpward i j k Nothing = ⊥
+SendsUpward i j k (Send m) = (j < m .receiver) × (m .receiver ≤ k) × (m .receiver ≡ i → ⊥)
 
 -- "whom now", of an inviting, handing or forwarding node; 0 for the others
 abbrev pub whomNow : Activity → ℕ
@@ -237,7 +244,7 @@ whomNow Contacting = 0
 whomNow (Forwarding rest now caller call) = now
 whomNow (Accepting caller call) = 0
 
--- "whom still": of an inviting node's two sets the first, those found
+-- "whom still", of an inviting, handing or forwarding node: of the two sets of an inviting one the first, those found. None for the others.
 abbrev pub whomStill : Activity → ℕ
 whomStill Idle = 0
 whomStill (Asking asked found) = 0
@@ -249,26 +256,60 @@ whomStill Contacting = 0
 whomStill (Forwarding rest now caller call) = rest
 whomStill (Accepting caller call) = 0
 
+-- the other set of an inviting node, those set aside, whom it invites when none of those found is left. None for the others.
+abbrev pub whomAside : Activity → ℕ
+whomAside Idle = 0
+whomAside (Asking asked found) = 0
+whomAside (Waiting ticks found) = 0
+whomAside (Inviting found former now) = former
+whomAside Collecting = 0
+whomAside (Handing rest now) = 0
+whomAside Contacting = 0
+whomAside (Forwarding rest now caller call) = 0
+whomAside (Accepting caller call) = 0
+
 -- each node of the set s is below j
 abbrev pub Below : ℕ → ℕ → Type 0
 Below s j = (k : ℕ) → has s k ≡ true → k < j
 
-pub record HighestFirst : Type 0 where
-  -- "Whoever picks the next cabinet from a set shall now pick the highest, in inviting": from those found, and when there is none left, from those set aside
-  pub invites-found : (i : ℕ) (c : Node) (k : Mark) (found former : ℕ) → 0 < found → found < 2 ^ 16 → CallsHighest found (inviteNext i c k found former .outgoing)
-  pub invites-former : (i : ℕ) (c : Node) (k : Mark) (former : ℕ) → 0 < former → former < 2 ^ 16 → CallsHighest former (inviteNext i c k 0 former .outgoing)
+-- an event made of its node's activity a another one, b, and sent o
+pub record Picked (a b : Activity) (o : Outgoing) : Type 0 where
+  -- if it calls one of a set now, the message goes to that one
+  pub sends : 0 < whomNow b → Sends (whomNow b) o
+  -- and those of the same set whom it is still to call are below; of an inviting node, those found
+  pub below : Below (whomStill b) (whomNow b)
+  -- and those set aside, where it was inviting and none of those found was left
+  pub below-aside : (former was : ℕ) → a ≡ Inviting 0 former was → Below (whomAside b) (whomNow b)
+
+-- the event's node neither crashes nor recovers in it and, as it is not Normal, acts on no invitation
+pub record Undisturbed (s : State) (e : Event) : Type 0 where
+  pub not-down : isDown (nodeAt (after s e) (actor e) .status) ≡ false
+  pub no-recovery : reactionTo s e .mark ≡ Recovers → ⊥
+  pub not-normal : isNormal (nodeAt s (actor e) .status) ≡ false
+
+pub record CallOrder : Type 0 where
+  -- "Whoever picks the next cabinet from a set shall now pick the highest, in inviting": from those found, and when none of them is left, from those set aside
+  pub invites-found : (i : ℕ) (c : Node) (k : Mark) (found former : ℕ) → 0 < found → found < 2 ^ 16 → SendsHighest found (inviteNext i c k found former .outgoing)
+  pub invites-aside : (i : ℕ) (c : Node) (k : Mark) (former : ℕ) → 0 < former → former < 2 ^ 16 → SendsHighest former (inviteNext i c k 0 former .outgoing)
   -- "forwarding"
-  pub forwards : (i : ℕ) (c : Node) (rest caller : ℕ) (call : CallNo) → 0 < rest → rest < 2 ^ 16 → CallsHighest rest (forwardNext i c rest caller call .outgoing)
+  pub forwards : (i : ℕ) (c : Node) (rest caller : ℕ) (call : CallNo) → 0 < rest → rest < 2 ^ 16 → SendsHighest rest (forwardNext i c rest caller call .outgoing)
   -- "and handing."
-  pub hands : (i : ℕ) (c : Node) (rest : ℕ) → 0 < rest → rest < 2 ^ 16 → CallsHighest rest (handNext i c rest .outgoing)
-  -- "Asking still goes from 1 up.": after j, none that is still to be asked is passed over
-  pub asks : (n i : ℕ) (c : Node) (j found k : ℕ) → j < k → k ≤ n → (k ≡ i → ⊥) → CallsUpward i j k (askAfter n i c j found .outgoing)
-  -- so an accepted event, on whatever table, leaves the node's activity as it was, or all whom it is still to call are below the one that it calls now
-  pub steps : (s : State) (e : Event) (u : State) (k : Mark) → step s e ≡ accepted u k
-      → (nodeAt u (actor e) .activity ≡ nodeAt s (actor e) .activity) ⊎ Below (whomStill (nodeAt u (actor e) .activity)) (whomNow (nodeAt u (actor e) .activity))
-  -- and where none of those found was left before it, so are those set aside
-  pub steps-former : (s : State) (e : Event) (u : State) (k : Mark) → step s e ≡ accepted u k → (former was found rest now : ℕ)
-      → nodeAt s (actor e) .activity ≡ Inviting 0 former was → nodeAt u (actor e) .activity ≡ Inviting found rest now
-      → (nodeAt u (actor e) .activity ≡ nodeAt s (actor e) .activity) ⊎ Below rest now
-  -- in every table of a run, whom a node is still to call are below the one that it calls now
+  pub hands : (i : ℕ) (c : Node) (rest : ℕ) → 0 < rest → rest < 2 ^ 16 → SendsHighest rest (handNext i c rest .outgoing)
+  -- "Asking still goes from 1 up.": of the others that are left, the lowest is asked; at a check all are left, and then those above the one that was asked, whether
+  -- its call expires or is answered
+  pub asks-first : (n i : ℕ) (c : Node) (k : ℕ) → leads i c ≡ true → 1 < n → 1 ≤ k → k ≤ n → (k ≡ i → ⊥) → SendsUpward i 0 k (checked n i c .outgoing)
+  pub asks-expired : (n i : ℕ) (c : Node) (asked found k : ℕ) → asked < k → k ≤ n → (k ≡ i → ⊥) → SendsUpward i asked k (expired n i c (Asking asked found) .outgoing)
+  pub asks-answered : (n i : ℕ) (c : Node) (y : Bool) (asked found k : ℕ) → asked < k → k ≤ n → (k ≡ i → ⊥)
+      → SendsUpward i asked k (resumed n i c y (Asking asked found) .outgoing)
+  -- any event on any table leaves its node's activity as it was, or picks so
+  pub steps : (s : State) (e : Event) → (nodeAt (after s e) (actor e) .activity ≡ nodeAt s (actor e) .activity)
+      ⊎ Picked (nodeAt s (actor e) .activity) (nodeAt (after s e) (actor e) .activity) (reactionTo s e .outgoing)
+  -- and nobody is passed over ("each member", "the cabinets found"): whom the node was still to call, it calls now or is still to call
+  pub each : (s : State) (e : Event) → Undisturbed s e → (j : ℕ) → 1 ≤ j → has (whomStill (nodeAt s (actor e) .activity)) j ≡ true
+      → (whomNow (nodeAt (after s e) (actor e) .activity) ≡ j) ⊎ (has (whomStill (nodeAt (after s e) (actor e) .activity)) j ≡ true)
+  -- "then those set aside": not before those found
+  pub each-aside : (s : State) (e : Event) → Undisturbed s e → (j : ℕ) → 1 ≤ j → has (whomAside (nodeAt s (actor e) .activity)) j ≡ true
+      → ((whomStill (nodeAt s (actor e) .activity) ≡ 0) × (whomNow (nodeAt (after s e) (actor e) .activity) ≡ j))
+      ⊎ (has (whomAside (nodeAt (after s e) (actor e) .activity)) j ≡ true)
+  -- in every table of a run, those of the same set whom a node is still to call are below the one that it calls now; of an inviting node, those found
   pub runs : (n : ℕ) (es : List Event) (i : ℕ) → Below (whomStill (nodeAt (run n es) i .activity)) (whomNow (nodeAt (run n es) i .activity))

@@ -35,8 +35,8 @@ answers i c m y = reaction c (Send (replies i (m .sender) (m .call) y)) Plain
 abbrev pub recovers : ℕ → Node → Reaction
 recovers i c = reaction (recovered i c) Nothing Recovers
 
--- 02, T-02: "Whoever picks the next cabinet from a set shall now pick the highest, in inviting, forwarding and handing." In 01 it was the lowest. "Asking still goes
--- from 1 up": askAfter.
+-- 02, T-02: "Whoever picks the next cabinet from a set shall now pick the highest, in inviting, forwarding and handing. Asking still goes from 1 up." So 01's "Sets
+-- are walked from the lowest number up" holds of asking alone, which is askAfter.
 abbrev pub next : ℕ → ℕ
 next s = highest s
 
@@ -90,6 +90,6 @@ askAt n i c j found =
     (reaction (calling c (Asking j found)) (Send (asks i j (nextCall c))) Plain)
     (askedAll i c found)
 
--- "it asks every other cabinet in turn", "from 1 up": the one after j is asked, i itself left out
+-- "it asks every other cabinet in turn"; 02, T-02: "from 1 up". The one after j is asked, i itself left out.
 unfoldable pub askAfter : ℕ → ℕ → Node → ℕ → ℕ → Reaction
 askAfter n i c j found = pick (eqb (j + 1) i) (askAt n i c (j + 2) found) (askAt n i c (j + 1) found)

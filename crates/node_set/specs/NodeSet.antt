@@ -1,5 +1,5 @@
 -- Sets of nodes as 16-bit masks: bit i - 1 is node i. Nodes are numbered 1 to n, and n is 1 to 16.
-use Prim.Native.Nat.{ℕ, _+_, _-_, _^_, _%_, _/_}
+use Prim.Native.Nat.{ℕ, _-_, _^_, _%_, _/_}
 use mathlib.Core.Bool.{Bool}
 use lib.Dec.{eqb, ltb}
 use lib.Bits.{bitAnd, bitOr}
