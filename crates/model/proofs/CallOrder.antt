@@ -8,14 +8,14 @@ use mathlib.Core.List.{List, [], _∷_}
 use lib.Dec.{eqb, ltb}
 use lib.ListN.{getD, set, replicate}
 use borrow.Author.Tests.{eqb-true, eqb-false, le-leb, lt-ltb, not-true, not-false}
-use Rattle.node_set.specs.NodeSet.{has, with, without, within}
+use Rattle.node_set.specs.NodeSet.{has, with, within}
 use Rattle.node_set.proofs.Laws.{empty-lacks, empty-within, within-word, with-within}
 use Rattle.model.specs.Pick.{pick, by-test}
 use Rattle.model.specs.Node.{isDown, isNormal, isIdle, isCollecting}
 use Rattle.model.specs.Procedures.{next, inviteNext, merges, handNext, finishes, forwardNext, askedAll, askAt, askAfter}
 use Rattle.model.specs.React.{leads, checked, timedOut, ticked, expired, resumed, onAreYouCoordinator, onAreYouThere, onInvitation, onAccept, onReady, onReply, received, react}
 use Rattle.model.specs.State.{State, startingNode, start, nodeAt}
-use Rattle.model.specs.Step.{actor, reactionTo, effect, Result, kept, step, after, runFrom, run}
+use Rattle.model.specs.Step.{actor, reactionTo, effect, Result, kept, after, runFrom}
 use Rattle.model.specs.Claims.{SendsHighest, SendsUpward, whomNow, whomStill, whomAside, Below, Picked, Undisturbed, CallOrder}
 use Rattle.model.proofs.Judged.{Clear, by-step, Meets, by-reaction}
 use Rattle.model.proofs.Numbers.{actor-in}
