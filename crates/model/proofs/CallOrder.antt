@@ -17,7 +17,7 @@ use Rattle.model.specs.React.{leads, checked, timedOut, ticked, expired,
 use Rattle.model.specs.State.{State, startingNode, start, nodeAt}
 use Rattle.model.specs.Step.{actor, reactionTo, effect, Result, kept, after, runFrom}
 use Rattle.model.specs.Claims.{SendsHighest, SendsUpward, whomNow, whomStill, whomAside, Below, Picked, Undisturbed, CallOrder}
-use Rattle.model.proofs.Judged.{Clear, by-step, Meets, by-reaction}
+use Rattle.model.proofs.Judged.{Clear, by-step, Allows, by-reaction}
 use Rattle.model.proofs.Numbers.{actor-in}
 use Rattle.model.proofs.Next.{next-has, next-most, left-below, next-or-left}
 use Rattle.model.proofs.Fields.{Busy, NodeFacts, in-range-size, in-range-node, node-facts, own-record}
@@ -348,7 +348,7 @@ module _ (n i : ℕ) (small : n ≤ 16) (c : Node) (x : NodeFacts n i c) where
         (λ _. by-test Here (λ _. on-ready)
         (λ _. by-test Here (λ _. on-reply) (λ _. same refl))))))
 
-  reacts : (y : Input) → Meets (c .activity) y → Here (react n i c y)
+  reacts : (y : Input) → Allows (c .activity) y → Here (react n i c y)
   unfolding react checked timedOut finishes
   reacts Input.Crash w = quiet refl refl refl (λ _ d. absurd (true≢false d))
   reacts Input.Recover w = recovery refl refl refl refl

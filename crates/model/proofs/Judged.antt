@@ -70,20 +70,20 @@ accepted-is s e u k =
     apart : (x : ℕ) → refused x ≡ accepted u k → ⊥
     apart x q = let z : _≡_ {A = ℕ} 0 1 = cc in omega arith
 
--- where ground 10 does not apply: what the activity is at an input
-abbrev pub Meets : Activity → Input → Type 0
-Meets a Input.Crash = Unit {0}
-Meets a Input.Recover = Unit {0}
-Meets a Input.Check = isIdle a ≡ true
-Meets a Input.Timeout = isIdle a ≡ true
-Meets a Input.Tick = isWaiting a ≡ true
-Meets a Input.Expire = hasOpenCall a ≡ true
-Meets a (Input.Finish t) = isCollecting a ≡ true
-Meets a (Input.Receive m) = Unit {0}
+-- the activity allows the input: ground 10 does not apply
+abbrev pub Allows : Activity → Input → Type 0
+Allows a Input.Crash = Unit {0}
+Allows a Input.Recover = Unit {0}
+Allows a Input.Check = isIdle a ≡ true
+Allows a Input.Timeout = isIdle a ≡ true
+Allows a Input.Tick = isWaiting a ≡ true
+Allows a Input.Expire = hasOpenCall a ≡ true
+Allows a (Input.Finish t) = isCollecting a ≡ true
+Allows a (Input.Receive m) = Unit {0}
 
--- what holds of whatever the event's node does with an input that its activity meets, and where it stays as it is, holds of what it does at the event
+-- what holds of whatever the event's node does with an input that its activity allows, and where it stays as it is, holds of what it does at the event
 pub by-reaction : (P : Reaction → Type 0) (s : State) (e : Event) → Clear s e
-    → ((x : Input) → Meets (nodeAt s (actor e) .activity) x → P (react (s .n) (actor e) (nodeAt s (actor e)) x)) → P (stays (nodeAt s (actor e))) → P (reactionTo s e)
+    → ((x : Input) → Allows (nodeAt s (actor e) .activity) x → P (react (s .n) (actor e) (nodeAt s (actor e)) x)) → P (stays (nodeAt s (actor e))) → P (reactionTo s e)
 unfolding reactionTo
 by-reaction P s (Crash i) c f g = f Input.Crash tt
 by-reaction P s (Recover i) c f g = f Input.Recover tt
