@@ -339,7 +339,7 @@ sent-to : (o : Outgoing) (m : Message) (j : ℕ) → Sends j o → sent o ≡ m 
 sent-to Nothing m j x e = absurd x
 sent-to (Send y) m j x e = let q : y ≡ m = cc in ap (λ (z : Message). z .receiver) (sym q) ∙ x
 
--- what no machine does that picks as the definitions do, it does not do where the activity changes
+-- an outcome that meets the contract, where the activity of the event's node is not as it was
 module _ (t : Table) (e : Event) {r : Outcome} (x : Stepped t e r)
     (changed : nodeAt (view (r .table)) (actor e) .activity ≡ nodeAt (view t) (actor e) .activity → ⊥) where
   picked : Picked (nodeAt (view t) (actor e) .activity) (nodeAt (view (r .table)) (actor e) .activity) (reactionTo (view t) e .outgoing)
