@@ -14,19 +14,23 @@ use borrow.Author.Tests.{not-false, le-leb, ne-eqb, eqb-true}
 use Rattle.node_set.specs.NodeSet.{has}
 use Rattle.model.specs.Pick.{pick, by-test}
 use Rattle.model.specs.Limits.{queueLimit, counterEnd, callEnd}
-use Rattle.model.specs.Node.{isDown, isNormal, ownerOf, replies}
+use Rattle.model.specs.Node.{isDown, isNormal, replies}
 use Rattle.model.specs.Procedures.{recovers, inviteNext, merges, handNext, finishes, forwardNext, askedAll, askAt, askAfter}
 use Rattle.model.specs.React.{checked, timedOut, ticked, expired, resumed, onAreYouCoordinator, onAreYouThere, onInvitation, onAccept, onReady, onReply, received, react}
 use Rattle.model.specs.Range.{activityInRange, nodeInRange, messageInRange}
 use Rattle.model.specs.State.{State, startingNode, start, nodeAt, waits, oldest, withoutOldest, every, inRange, firstOf, view, tableOf}
 use Rattle.model.specs.Step.{actor, reactionTo, remaining, sent, effect, forms, isCalling, isSending, grounds, judged, Result, refused, accepted, step, kept, after, runFrom}
 use Rattle.model.specs.Answers.{answerNumber, resultNumber}
-use Rattle.model.specs.Claims.{isActive, Lacks, Sends, whomNow, whomStill, Below, Picked}
+use Rattle.model.specs.Claims.{isActive, Lacks, Sends, whomNow, whomStill, Below, Picked, InvitationWaits, plainlyReplied}
 use Rattle.model.proofs.Judged.{by-step, accepted-is}
 use Rattle.model.proofs.Local.{both-right}
 use Rattle.model.proofs.Fields.{in-range-size, own-record}
 use Rattle.model.proofs.InRange.{delivery-never-full, stays-in-range}
+use Rattle.model.proofs.Cases.{invited-twice}
 use Rattle.model.proofs.CallOrder.{call-order}
+use Rattle.model.proofs.Invitation.{kind-three}
+use Rattle.model.proofs.PlainReplies.{plain-replies}
+use Rattle.model.specs.Cases.{beforeForwarded}
 use Rattle.model.specs.declared.Status.the-variants.{Election}
 use Rattle.model.specs.declared.Activity.{Activity}
 use Rattle.model.specs.declared.Activity.the-variants.{Idle, Asking, Waiting, Inviting, Collecting, Handing, Contacting, Forwarding, Accepting}
@@ -43,7 +47,7 @@ use Rattle.model.specs.declared.Event.the-variants.{Crash, Recover, Check, Time
 use Rattle.model.specs.declared.Outcome.{Outcome}
 use Rattle.model.specs.declared.Answer.the-variants.{Accepted}
 use Rattle.machine.specs.Stepped.{Stepped, startingTable}
-use Rattle.machine.specs.Mutants.{mergingTable, handingTable, invitedTable, askingTable, collectingTable, invites, recoversAtExpire, Moves, NoMutant, NoWrongTurning, NoLowerFirst}
+use Rattle.machine.specs.Mutants.{mergingTable, handingTable, invitedTable, askingTable, collectingTable, invites, recoversAtExpire, Moves, NoMutant, NoWrongTurning, NoLowerFirst, NoJoiningAgain}
 use Rattle.machine.proofs.Laws.{start-is}
 use Rattle.machine.proofs.Runs.{run-nodes, start-node, accepted-alike, code-runs, code-fixes, folded-reached}
 use Rattle.machine.proofs.Still.{accepted-differs, reply-taken}
@@ -114,30 +118,18 @@ expire-silent s i h =
 -- what holds of an invitation's receiver
 module _ (i : ℕ) (c : Node) (m : Message) where
   invited-keeps : onInvitation i c m .node .task ≡ c .task
-  unfolding onInvitation forwardNext pick
-  invited-keeps = by (isNormal (c .status)) (eqb (ownerOf (m .group .number)) i) (eqb (pick (eqb (c .coordinator) i) (c .members) 0) 0) refl refl refl
+  unfolding onInvitation forwardNext
+  invited-keeps = by-test P (λ _. refl) (λ _. by-test P (λ _. refl) (λ _. refl))
     where
-      by : (x y z : Bool) → isNormal (c .status) ≡ x → eqb (ownerOf (m .group .number)) i ≡ y → eqb (pick (eqb (c .coordinator) i) (c .members) 0) 0 ≡ z → onInvitation i c m .node .task ≡ c .task
-      by true true z p q w = simp (p, q)
-      by true false true p q w = simp (p, q, w)
-      by true false false p q w = simp (p, q, w)
-      by false y z p q w = simp p
+      P : Reaction → Type 0
+      P r = r .node .task ≡ c .task
 
   invited-rests : isActive (onInvitation i c m .node .status) ≡ true → onInvitation i c m .node ≡ c
-  unfolding onInvitation forwardNext pick
-  invited-rests = by (isNormal (c .status)) (eqb (ownerOf (m .group .number)) i) (eqb (pick (eqb (c .coordinator) i) (c .members) 0) 0) refl refl refl
+  unfolding onInvitation forwardNext
+  invited-rests = by-test P (λ _ h. refl) (λ _. by-test P (λ _ h. absurd (true≢false (sym h))) (λ _ h. absurd (true≢false (sym h))))
     where
-      by : (x y z : Bool) → isNormal (c .status) ≡ x → eqb (ownerOf (m .group .number)) i ≡ y → eqb (pick (eqb (c .coordinator) i) (c .members) 0) 0 ≡ z
-          → isActive (onInvitation i c m .node .status) ≡ true → onInvitation i c m .node ≡ c
-      by true true z p q w = simp (p, q) (λ h. refl)
-      by true false true p q w = simp (p, q, w) (λ h. absurd (true≢false (sym h)))
-      by true false false p q w = simp (p, q, w) (λ h. absurd (true≢false (sym h)))
-      by false y z p q w = simp p (λ h. refl)
-
--- a message of kind 3 that is delivered is an invitation
-kind-three : (n i : ℕ) (c : Node) (m : Message) → m .kind ≡ 3 → received n i c m ≡ onInvitation i c m
-unfolding received pick
-kind-three n i c m k = rw k
+      P : Reaction → Type 0
+      P r = isActive (r .node .status) ≡ true → r .node ≡ c
 
 kind-six : (n i : ℕ) (c : Node) (m : Message) → m .kind ≡ 6 → (m .call .number ≡ c .last .number → ⊥) → received n i c m .node ≡ c
 unfolding received onReply pick
@@ -369,4 +361,23 @@ no-lower-first =
       hands-lowest = λ {r} x h. handed-apart (sym (computed .picks) ∙ sym (ap (λ (s : State). nodeAt s 3 .activity) (x .table)) ∙ h);
       lower-in-runs = λ n {es} {t} c i j h l.
           omega (arith, subst (λ (s : State). Below (whomStill (nodeAt s i .activity)) (whomNow (nodeAt s i .activity))) (sym (code-runs .from-start n es t c)) (call-order .runs n es i) j h, l);
+    }
+
+-- ── an invitation that arrives twice ──
+
+replied : (t : Table) (a b : ℕ) → InvitationWaits (view t) a b → nodeAt (view t) b .group .number ≡ oldest a b (view t .queue) .group .number
+    → {r : Outcome} → Stepped t (Deliver a b) r → view (r .table) ≡ plainlyReplied (view t) a b
+replied t a b w g x = x .table ∙ ap (kept (view t)) (plain-replies .held (view t) a b w g)
+
+pub no-joining-again : NoJoiningAgain
+no-joining-again =
+    record {
+      turns-away = λ t a b w g {r} x h. h (accepted-alike .code-accepts x _ _ (plain-replies .held (view t) a b w g));
+      changes-records = λ t a b w g {r} x h. h (ap (λ (s : State). s .nodes) (replied t a b w g x));
+      replies-otherwise = λ t a b w g {r} x h. h (ap (λ (s : State). s .queue) (replied t a b w g x));
+      stays-normal = λ t a b w n o g {r} x y h.
+          true≢false (sym h ∙ ap isNormal (plain-replies .otherwise (view t) a b w n o g _ _ (accepted-alike .model-accepts x y) .0));
+      put-back = λ {u} f h.
+          h (ap (λ (s : State). nodeAt s 1 .status)
+          (code-runs .from-any _ _ _ f ∙ ap (λ (s : State). runFrom s (beforeForwarded ++ (Deliver 2 1 ∷ []))) (start-is 3) ∙ invited-twice .only-messages));
     }

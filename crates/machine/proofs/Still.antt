@@ -184,13 +184,8 @@ resumed-by n i c y (Forwarding r w a k) = forward-by i c r a k
 resumed-by n i c y (Accepting a k) = refl
 
 invited-by : (i : ℕ) (c : Node) (m : Message) → By i (onInvitation i c m)
-unfolding onInvitation pick
-invited-by i c m = by (isNormal (c .status)) (eqb (ownerOf (m .group .number)) i) refl refl
-  where
-    by : (a b : Bool) → isNormal (c .status) ≡ a → eqb (ownerOf (m .group .number)) i ≡ b → By i (onInvitation i c m)
-    by true true p q = simp (p, q) refl
-    by true false p q = simp (p, q) (forward-by i (invited c (m .group)) _ (m .sender) (m .call))
-    by false b p q = simp p refl
+unfolding onInvitation
+invited-by i c m = by-test (By i) (λ _. refl) (λ _. forward-by i (invited c (m .group)) _ (m .sender) (m .call))
 
 received-by : (n i : ℕ) (c : Node) (m : Message) → By i (received n i c m)
 unfolding received onAreYouCoordinator onAreYouThere onAccept onReady onReply

@@ -1,5 +1,5 @@
--- "Try these impostors", "Wrong turnings in this protocol" and 02's T-02: what no machine does that meets `Stepped` (mutant: 01's impostor). A machine is here whatever
--- answers an event e on a table t with an outcome r, as a function f from tables and events does with f t e; nothing is asked of how it comes to r, so it may also
+-- "Try these impostors", "Wrong turnings in this protocol" and 02's T-02 and T-03: what no machine does that meets `Stepped` (mutant: 01's impostor). A machine is here
+-- whatever answers an event e on a table t with an outcome r, as a function f from tables and events does with f t e; nothing is asked of how it comes to r, so it may also
 -- remember. Each field takes as little of the mutant's behaviour as shuts it out: one event, and one thing that is wrong then. The proofs are in proofs/Mutants.
 use Prim.Native.Nat.{ℕ, _≤_}
 use mathlib.Core.Bool.{Bool, true, false, not, _&&_, _||_}
@@ -8,13 +8,13 @@ use mathlib.Core.List.{List, [], _∷_, _++_}
 use lib.Dec.{eqb, ltb}
 use Rattle.node_set.specs.NodeSet.{has}
 use Rattle.model.specs.Limits.{nodeLimit, counterEnd}
-use Rattle.model.specs.Node.{isDown, hasOpenCall, replies}
+use Rattle.model.specs.Node.{isDown, isNormal, hasOpenCall, ownerOf, replies}
 use Rattle.model.specs.React.{leads}
 use Rattle.model.specs.State.{State, nodeAt, waits, oldest, inRange, view, tableOf}
 use Rattle.model.specs.Step.{actor, reactionTo, remaining}
 use Rattle.model.specs.Answers.{answerNumber}
-use Rattle.model.specs.Claims.{isActive, Lacks, whomNow, whomStill, whomAside}
-use Rattle.model.specs.Cases.{setOf, none}
+use Rattle.model.specs.Claims.{isActive, Lacks, whomNow, whomStill, whomAside, InvitationWaits, plainlyReplied}
+use Rattle.model.specs.Cases.{setOf, none, node, beforeForwarded}
 use Rattle.model.specs.declared.Mark.the-variants.{Merges}
 use Rattle.model.specs.declared.Status.{Status}
 use Rattle.model.specs.declared.Status.the-variants.{Election, Reorganization, Normal}
@@ -32,19 +32,6 @@ use Rattle.machine.specs.Folded.{Folded}
 use Rattle.machine.specs.Claims.{isForming, Reached}
 
 -- ── tables to try them on ──
-
--- a node's record: status, counter, group, coordinator, task, members, last call number, activity
-abbrev pub node : Status → ℕ → ℕ → ℕ → ℕ → ℕ → ℕ → Activity → Node
-node s k g o t m l a = record {
-  status = s;
-  counter = k;
-  group = record { number = g };
-  coordinator = o;
-  task = record { number = t };
-  members = m;
-  last = record { number = l };
-  activity = a;
-}
 
 -- node 1 leads node 2, has found node 3, and merges at the next tick
 abbrev pub mergingTable : State
@@ -250,3 +237,23 @@ pub record NoLowerFirst : Type 0 where
   -- in no table that the code reached from the starting one does a node call one while that one or a higher one of the same set is still to be called
   pub lower-in-runs : (n : ℕ) {es : List Event} {t : Table} → Reached Folded n es t → (i j : ℕ)
       → has (whomStill (nodeAt (view t) i .activity)) j ≡ true → whomNow (nodeAt (view t) i .activity) ≤ j → ⊥
+
+-- ── 02, T-03: an invitation that arrives twice ──
+
+-- "From now on an invitation to the group a cabinet already holds gets a plain reply and changes nothing else." In every table in range:
+pub record NoJoiningAgain : Type 0 where
+  -- no machine turns its delivery away
+  pub turns-away : (t : Table) (a b : ℕ) → InvitationWaits (view t) a b → nodeAt (view t) b .group .number ≡ oldest a b (view t .queue) .group .number
+      → {r : Outcome} → Stepped t (Deliver a b) r → (r .answer ≡ Accepted → ⊥) → ⊥
+  -- none changes a record, of the receiver or of another
+  pub changes-records : (t : Table) (a b : ℕ) → InvitationWaits (view t) a b → nodeAt (view t) b .group .number ≡ oldest a b (view t .queue) .group .number
+      → {r : Outcome} → Stepped t (Deliver a b) r → (view (r .table) .nodes ≡ view t .nodes → ⊥) → ⊥
+  -- and none puts anything behind the queue but the one reply, yes, with the number of the call
+  pub replies-otherwise : (t : Table) (a b : ℕ) → InvitationWaits (view t) a b → nodeAt (view t) b .group .number ≡ oldest a b (view t .queue) .group .number
+      → {r : Outcome} → Stepped t (Deliver a b) r → (view (r .table) .queue ≡ plainlyReplied (view t) a b .queue → ⊥) → ⊥
+  -- nor does a Normal node stay so that is invited to another group, of the same coordinator or not, and does not own it
+  pub stays-normal : (t : Table) (a b : ℕ) → InvitationWaits (view t) a b → isNormal (nodeAt (view t) b .status) ≡ true
+      → (ownerOf (oldest a b (view t .queue) .group .number) ≡ b → ⊥) → (nodeAt (view t) b .group .number ≡ oldest a b (view t .queue) .group .number → ⊥)
+      → {r : Outcome} → Stepped t (Deliver a b) r → r .answer ≡ Accepted → isNormal (nodeAt (view (r .table)) b .status) ≡ true → ⊥
+  -- for one: 02's story. "It came when the cabinet was Normal in the new group and put it back": node 1 is Normal after it.
+  pub put-back : {u : Table} → Folded (startingTable 3) (beforeForwarded ++ (Deliver 2 1 ∷ [])) u → (nodeAt (view u) 1 .status ≡ Normal → ⊥) → ⊥

@@ -1,15 +1,23 @@
 -- The named cases, the wrong turnings, the further cases and the ends of what is in range, computed over the definitions.
-use mathlib.Core.Path.{_≡_, refl}
+use mathlib.Core.Bool.{true}
+use mathlib.Core.Path.{_≡_, refl, _∙_, ap}
+use mathlib.Core.List.{List, [], _∷_, _++_}
 use lib.Count.{onesIn, ones, leadingZeros}
 use lib.Bits.{bitAnd, bitOr}
 use Rattle.model.specs.Pick.{pick}
+use Rattle.model.specs.Node.{calls, replies}
 use Rattle.model.specs.Procedures.{inviteNext, merges, handNext, finishes, forwardNext, askedAll, askAt, askAfter}
 use Rattle.model.specs.React.{checked, timedOut, ticked, expired, resumed, onAreYouCoordinator, onAreYouThere, onInvitation, onAccept, onReady, onReply, received, react}
 use Rattle.model.specs.Range.{activityInRange, nodeInRange, messageInRange}
-use Rattle.model.specs.State.{waits, oldest, withoutOldest, every, inRange}
-use Rattle.model.specs.Step.{reactionTo, remaining, effect, wrongNumber, wrongTask, wrongStatus, wrongActivity, noneWaits, grounds, judged, step, runFrom}
+use Rattle.model.specs.State.{State, start, waits, oldest, withoutOldest, every, inRange}
+use Rattle.model.specs.Step.{reactionTo, remaining, effect, wrongNumber, wrongTask, wrongStatus, wrongActivity, noneWaits, grounds, judged, step, runFrom, run}
 use Rattle.model.specs.History.{updated, historyFrom}
-use Rattle.model.specs.Cases.{NamedCases, WrongTurnings, FurtherCases, RangeCases}
+use Rattle.model.specs.Cases.{NamedCases, WrongTurnings, FurtherCases, setOf, none, node, three, formerGroup, inFormerGroup, newCoordinator, withNewCoordinator, bothInvite, invitedByBoth, newGroup, inNewGroup, beforeForwarded, InvitedTwice, HeldGroupCases, RangeCases}
+use Rattle.model.proofs.Whole.{run-append}
+use Rattle.model.specs.declared.Status.the-variants.{Election, Reorganization}
+use Rattle.model.specs.declared.Activity.the-variants.{Idle, Collecting}
+use Rattle.model.specs.declared.Event.{Event}
+use Rattle.model.specs.declared.Event.the-variants.{Finish, Deliver}
 
 pub named-cases : NamedCases
 unfolding pick onesIn ones leadingZeros bitAnd bitOr inviteNext merges handNext finishes forwardNext askedAll askAt askAfter checked timedOut ticked expired resumed onAreYouCoordinator onAreYouThere onInvitation onAccept onReady onReply received react activityInRange nodeInRange messageInRange waits oldest withoutOldest every inRange reactionTo remaining effect wrongNumber wrongTask wrongStatus wrongActivity noneWaits grounds judged step runFrom updated historyFrom
@@ -171,6 +179,65 @@ further-cases =
       ends-thirteen = refl;
       ends-fourteen = refl;
       ends-pass = refl;
+    }
+
+-- `newGroup` in two: 1 accepts, so that 3 collects; 3 hands Ready to both
+abbrev accepting : List Event
+accepting = Deliver 3 1 ∷ Deliver 1 3 ∷ Deliver 3 1 ∷ Deliver 1 3 ∷ []
+
+abbrev accepted : State
+accepted =
+    three (node Reorganization 2 34 3 1 none 2 Idle) (node Reorganization 2 34 3 250 (setOf (1 ∷ [])) 6 Idle) (node Election 2 34 3 3 (setOf (1 ∷ 2 ∷ [])) 4 Collecting)
+    (calls 2 3 1 (record { number = 5 }) (record { number = 34 }) ∷ [])
+
+abbrev handing : List Event
+handing = Finish 3 (record { number = 300 }) ∷ Deliver 3 2 ∷ Deliver 2 3 ∷ Deliver 3 1 ∷ Deliver 1 3 ∷ []
+
+-- the parts of the story, each from the table before it
+record Parts : Type 0 where
+  pub former : run 3 formerGroup ≡ inFormerGroup
+  pub new : runFrom inFormerGroup newCoordinator ≡ withNewCoordinator
+  pub both : runFrom withNewCoordinator bothInvite ≡ invitedByBoth
+  pub joins : runFrom invitedByBoth accepting ≡ accepted
+  pub plays : runFrom accepted handing ≡ inNewGroup (calls 2 3 1 (record { number = 5 }) (record { number = 34 }) ∷ [])
+  pub again : runFrom (inNewGroup (calls 2 3 1 (record { number = 5 }) (record { number = 34 }) ∷ [])) (Deliver 2 1 ∷ []) ≡ inNewGroup (replies 1 2 (record { number = 5 }) true ∷ [])
+  pub dropped : runFrom (inNewGroup (calls 2 3 1 (record { number = 5 }) (record { number = 34 }) ∷ [])) (Deliver 2 1 ∷ Deliver 1 2 ∷ []) ≡ inNewGroup []
+
+parts : Parts
+unfolding pick onesIn ones leadingZeros bitAnd bitOr inviteNext merges handNext finishes forwardNext askedAll askAt askAfter checked timedOut ticked expired resumed onAreYouCoordinator onAreYouThere onInvitation onAccept onReady onReply received react activityInRange nodeInRange messageInRange waits oldest withoutOldest every inRange reactionTo remaining effect wrongNumber wrongTask wrongStatus wrongActivity noneWaits grounds judged step runFrom updated historyFrom
+parts = record { former = refl; new = refl; both = refl; joins = refl; plays = refl; again = refl; dropped = refl }
+
+onward : (s t u : State) (es fs : List Event) → runFrom s es ≡ t → runFrom t fs ≡ u → runFrom s (es ++ fs) ≡ u
+onward s t u es fs p q = run-append s es fs ∙ ap (λ (v : State). runFrom v fs) p ∙ q
+
+story : (es : List Event) (u : State) → runFrom inFormerGroup es ≡ u → run 3 (formerGroup ++ es) ≡ u
+story es u = onward (start 3) inFormerGroup u formerGroup es (parts .former)
+
+pub invited-twice : InvitedTwice
+invited-twice =
+    record {
+      former = parts .former;
+      new = story newCoordinator _ (parts .new);
+      invited = story (newCoordinator ++ bothInvite) _ (onward _ _ _ newCoordinator bothInvite (parts .new) (parts .both));
+      normal = normal;
+      only-messages = onward _ _ _ beforeForwarded (Deliver 2 1 ∷ []) normal (parts .again);
+      reply-dropped = onward _ _ _ beforeForwarded (Deliver 2 1 ∷ Deliver 1 2 ∷ []) normal (parts .dropped);
+    }
+  where
+    normal : run 3 beforeForwarded ≡ inNewGroup (calls 2 3 1 (record { number = 5 }) (record { number = 34 }) ∷ [])
+    normal = story _ _ (onward _ _ _ newCoordinator (bothInvite ++ newGroup) (parts .new) (onward _ _ _ bothInvite newGroup (parts .both) (onward _ _ _ accepting handing (parts .joins) (parts .plays))))
+
+pub held-group-cases : HeldGroupCases
+unfolding pick onesIn ones leadingZeros bitAnd bitOr inviteNext merges handNext finishes forwardNext askedAll askAt askAfter checked timedOut ticked expired resumed onAreYouCoordinator onAreYouThere onInvitation onAccept onReady onReply received react activityInRange nodeInRange messageInRange waits oldest withoutOldest every inRange reactionTo remaining effect wrongNumber wrongTask wrongStatus wrongActivity noneWaits grounds judged step runFrom updated historyFrom
+held-group-cases =
+    record {
+      busy = refl;
+      reorganizing = refl;
+      election = refl;
+      calls-end = refl;
+      full = refl;
+      older-group = refl;
+      newer-group = refl;
     }
 
 pub range-cases : RangeCases

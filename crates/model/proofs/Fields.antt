@@ -36,11 +36,6 @@ pub otherwise : (x y : Bool) → x ≡ false → (x || y) ≡ true → y ≡ tru
 otherwise true y t e = absurd (true≢false t)
 otherwise false y t e = e
 
--- where neither of two holds, the second does not
-pub neither : (x y : Bool) → (x || y) ≡ false → y ≡ false
-neither true y e = absurd (true≢false e)
-neither false y e = e
-
 -- x and all of ys, as `_&&_` puts them together
 abbrev pub joint : Bool → List Bool → Bool
 joint x [] = x

@@ -1,13 +1,13 @@
 -- A step is refused, or no ground applies and it has its effect; what the event's node does then.
 use Prim.Native.Nat.{ℕ, _-_}
 use native.Mathlib.Omega.{arith}
-use mathlib.Core.Bool.{Bool, true, false, _&&_}
+use mathlib.Core.Bool.{Bool, true, false, not, _&&_}
 use mathlib.Core.Path.{_≡_, refl, sym, _∙_, ap}
 use mathlib.Core.List.{List, [], _∷_}
 use lib.Dec.{eqb}
 use lib.ListN.{length}
 use borrow.Author.Tests.{not-false}
-use Rattle.model.specs.Pick.{pick, by-test}
+use Rattle.model.specs.Pick.{pick, pick-false, by-test}
 use Rattle.model.specs.Limits.{queueLimit, counterEnd, callEnd}
 use Rattle.model.specs.Node.{isIdle, isWaiting, isCollecting, hasOpenCall}
 use Rattle.model.specs.Procedures.{stays}
@@ -56,6 +56,22 @@ by-step P s e f g =
       calls = c .1 .1 .1 .1 .1 .1 .1 .0;
       room = c .1 .1 .1 .1 .1 .1 .1 .1 .0;
     }))
+
+judged-none : (x : Result) (gs : List Ground) → NoneApplies gs → judged x gs ≡ x
+unfolding judged
+judged-none x [] c = refl
+judged-none x (g ∷ gs) c =
+    ap (λ (b : Bool). pick b (refused (g .number)) (judged x gs)) (c .0) ∙ pick-false _ _ ∙ judged-none x gs (c .1)
+
+-- an event is accepted where no ground of the table of grounds applies
+pub none-applies : (s : State) (e : Event) → NoneApplies (grounds s e) → step s e ≡ accepted (effect s e) (reactionTo s e .mark)
+unfolding step
+none-applies s e c = judged-none _ (grounds s e) c
+
+pub clear-accepts : (s : State) (e : Event) → Clear s e → step s e ≡ accepted (effect s e) (reactionTo s e .mark)
+unfolding grounds
+clear-accepts s e c =
+    none-applies s e (ap not (c .in-range), (c .number, (c .task, (c .status, (c .activity, (c .waiting, (c .counter, (c .calls, (c .room, tt)))))))))
 
 -- what an accepted event is
 pub record Accepted (s : State) (e : Event) (u : State) (k : Mark) : Type 0 where

@@ -9,7 +9,9 @@ pub mod Fixed
 pub mod Locality
 pub mod Cases
 pub mod Fields
+pub mod Invitation
 pub mod Range
 pub mod InRange
 pub mod Refusals
 pub mod CallOrder
+pub mod PlainReplies

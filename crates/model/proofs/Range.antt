@@ -18,7 +18,8 @@ use Rattle.model.specs.Step.{forms, isCalling}
 use Rattle.model.proofs.Invariant.{NodeNumber, owner-of, counter-of}
 use Rattle.model.proofs.Next.{next-in, next-other}
 use Rattle.model.proofs.Origin.{merges-mark}
-use Rattle.model.proofs.Fields.{neither, IsNode, IsOther, IsSetOfOthers, IsGroup, IsGivenTask, IsCall, Busy, NodeFacts, MessageFacts}
+use Rattle.model.proofs.Invitation.{acts-on}
+use Rattle.model.proofs.Fields.{IsNode, IsOther, IsSetOfOthers, IsGroup, IsGivenTask, IsCall, Busy, NodeFacts, MessageFacts}
 use Rattle.model.specs.declared.Status.{Status}
 use Rattle.model.specs.declared.Status.the-variants.{Down, Election, Reorganization, Normal}
 use Rattle.model.specs.declared.Activity.{Activity}
@@ -477,7 +478,7 @@ module _ {n i : ℕ} (p : Place n i) where
             })
             (pick (eqb (c .coordinator) i) (c .members) 0) (m .sender) (m .call)
             (by-test (IsSetOfOthers n i) (λ _. u .members) (λ _. none)) sender (x .call)
-            (eqb-false _ i (neither (not (isNormal (c .status))) _ e)))
+            (acts-on i c (m .group) e .not-owned))
 
         onAccept-in : Room n i c (onAccept i c m)
         unfolding onAccept

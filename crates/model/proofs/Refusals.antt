@@ -12,6 +12,7 @@ use Rattle.model.specs.State.{State}
 use Rattle.model.specs.Step.{Ground, ground, grounds, Result, refused, accepted, judged, step}
 use Rattle.model.specs.Answers.{resultNumber}
 use Rattle.model.specs.Claims.{Accepts, NoneApplies, FirstApplies, RefusesByGround}
+use Rattle.model.proofs.Judged.{none-applies}
 use Rattle.model.proofs.Local.{both-left, both-right}
 use Rattle.model.proofs.Fields.{either}
 use Rattle.model.proofs.InRange.{delivery-never-full}
@@ -88,12 +89,6 @@ first s e r q = subst (Says (grounds s e)) q (step-says s e)
 none : (s : State) (e : Event) (u : State) (k : Mark) → step s e ≡ accepted u k → NoneApplies (grounds s e)
 none s e u k q = subst (Says (grounds s e)) q (step-says s e)
 
-judged-none : (x : Result) (gs : List Ground) → NoneApplies gs → judged x gs ≡ x
-unfolding judged
-judged-none x [] c = refl
-judged-none x (g ∷ gs) c =
-    ap (λ (b : Bool). pick b (refused (g .number)) (judged x gs)) (c .0) ∙ pick-false _ _ ∙ judged-none x gs (c .1)
-
 judged-first : (x : Result) (before behind : List Ground) (r : ℕ) → NoneApplies before → judged x (before ++ (ground r true ∷ behind)) ≡ refused r
 unfolding judged
 judged-first x [] behind r c = pick-true _ _
@@ -105,8 +100,7 @@ unfolding step
 first-given s e r f = ap (judged _) (f .whole) ∙ judged-first _ (f .before) (f .behind) r (f .none-before)
 
 none-accepts : (s : State) (e : Event) → NoneApplies (grounds s e) → Accepts s e
-unfolding step
-none-accepts s e c = record { state = _; mark = _; is = judged-none _ (grounds s e) c }
+none-accepts s e c = record { state = _; mark = _; is = none-applies s e c }
 
 pub refuses-by-ground : RefusesByGround
 refuses-by-ground = record { first = first; first-given = first-given; none = none; none-accepts = none-accepts; numbers = numbers; never-zero = never-zero; zero-accepts = zero-accepts; delivery-never-full = delivery-never-full }

@@ -285,10 +285,22 @@ pub record WrongTurnings : Type 0 where
 
 -- ── tables of the further cases ──
 
--- a node with the counter 1 and, in 01's order, the status s, group g, coordinator o, task t, members m, last call number k and activity a
+-- a node with, in 01's order, the status s, counter k, group g, coordinator o, task t, members m, last call number l and activity a
+abbrev pub node : Status → ℕ → ℕ → ℕ → ℕ → ℕ → ℕ → Activity → Node
+node s k g o t m l a = record {
+  status = s;
+  counter = k;
+  group = groupNo g;
+  coordinator = o;
+  task = taskNo t;
+  members = m;
+  last = callNo l;
+  activity = a;
+}
+
+-- with the counter 1
 abbrev pub filled : Status → ℕ → ℕ → ℕ → ℕ → ℕ → Activity → Node
-filled s g o t m k a =
-    record { status = s; counter = 1; group = groupNo g; coordinator = o; task = taskNo t; members = m; last = callNo k; activity = a }
+filled s g o t m l a = node s 1 g o t m l a
 
 -- three nodes
 abbrev pub three : Node → Node → Node → List Message → State
@@ -549,6 +561,105 @@ pub record FurtherCases : Type 0 where
         last = callNo 16777215;
         activity = Inviting none none 1;
       }) (queued 63 ++ (calls 2 3 1 (callNo 16777215) (groupNo 16777201) ∷ []))) Merges
+
+-- ── 02, T-03: "An invitation that arrives twice." The events of its story, with the table that each part of them leads to ──
+
+-- nodes 1 and 2 recover, and 2 takes 1 into its group 33, with task 250; its question to 3, which is Down, is lost
+abbrev pub formerGroup : List Event
+formerGroup =
+    Recover 1
+    ∷ Recover 2
+    ∷ Check 2
+    ∷ Deliver 2 1
+    ∷ Deliver 1 2
+    ∷ Expire 2
+    ∷ Deliver 2 1
+    ∷ Deliver 1 2
+    ∷ Deliver 2 1
+    ∷ Deliver 1 2
+    ∷ Finish 2 (taskNo 250)
+    ∷ Deliver 2 1
+    ∷ Deliver 1 2
+    ∷ Lose 2 3
+    ∷ []
+
+abbrev pub inFormerGroup : State
+inFormerGroup = three (node Normal 1 33 2 250 none 1 Idle) (node Normal 2 33 2 250 (setOf (1 ∷ [])) 4 Idle) startingNode []
+
+-- node 1 loses power and is then alone; 3 recovers, asks 1 and 2, which say yes, and merges: it invites 2
+abbrev pub newCoordinator : List Event
+newCoordinator = Crash 1 ∷ Recover 1 ∷ Recover 3 ∷ Check 3 ∷ Deliver 3 1 ∷ Deliver 1 3 ∷ Deliver 3 2 ∷ Deliver 2 3 ∷ []
+
+abbrev pub withNewCoordinator : State
+withNewCoordinator =
+    three (node Normal 2 32 1 1 none 1 Idle) (node Normal 2 33 2 250 (setOf (1 ∷ [])) 4 Idle) (node Election 2 34 3 3 none 3 (Inviting (setOf (1 ∷ [])) none 2))
+    (calls 3 3 2 (callNo 3) (groupNo 34) ∷ [])
+
+-- 2 forwards the invitation to 1, its member, and gives up waiting for the answer; it accepts, and 3 invites 1
+abbrev pub bothInvite : List Event
+bothInvite = Deliver 3 2 ∷ Expire 2 ∷ Deliver 2 3 ∷ Deliver 3 2 ∷ Deliver 2 3 ∷ []
+
+abbrev pub invitedByBoth : State
+invitedByBoth =
+    three (node Normal 2 32 1 1 none 1 Idle) (node Reorganization 2 34 3 250 (setOf (1 ∷ [])) 6 Idle) (node Election 2 34 3 3 (setOf (2 ∷ [])) 4 (Inviting none none 1))
+    (calls 2 3 1 (callNo 5) (groupNo 34) ∷ calls 3 3 1 (callNo 4) (groupNo 34) ∷ [])
+
+-- 1 gets the invitation of 3 and accepts, and 3 hands task 300 to both
+abbrev pub newGroup : List Event
+newGroup =
+    Deliver 3 1
+    ∷ Deliver 1 3
+    ∷ Deliver 3 1
+    ∷ Deliver 1 3
+    ∷ Finish 3 (taskNo 300)
+    ∷ Deliver 3 2
+    ∷ Deliver 2 3
+    ∷ Deliver 3 1
+    ∷ Deliver 1 3
+    ∷ []
+
+-- with the messages q
+abbrev pub inNewGroup : List Message → State
+inNewGroup q =
+    three (node Normal 2 34 3 300 none 2 Idle) (node Normal 2 34 3 300 (setOf (1 ∷ [])) 6 Idle) (node Normal 2 34 3 300 (setOf (1 ∷ 2 ∷ [])) 6 Idle) q
+
+-- all of them, before the invitation that 2 forwarded comes
+abbrev pub beforeForwarded : List Event
+beforeForwarded = formerGroup ++ (newCoordinator ++ (bothInvite ++ newGroup))
+
+pub record InvitedTwice : Type 0 where
+  -- "its former coordinator"
+  pub former : run 3 formerGroup ≡ inFormerGroup
+  -- "invited by a new coordinator"
+  pub new : run 3 (formerGroup ++ newCoordinator) ≡ withNewCoordinator
+  -- "A cabinet was invited by a new coordinator, and the same invitation was also forwarded to it by its former coordinator."
+  pub invited : run 3 (formerGroup ++ (newCoordinator ++ bothInvite)) ≡ invitedByBoth
+  -- "The forwarded one was slow. It came when the cabinet was Normal in the new group": it alone still waits
+  pub normal : run 3 beforeForwarded ≡ inNewGroup (calls 2 3 1 (callNo 5) (groupNo 34) ∷ [])
+  -- "an invitation to the group a cabinet already holds gets a plain reply and changes nothing else": before and after it only the messages differ
+  pub only-messages : run 3 (beforeForwarded ++ (Deliver 2 1 ∷ [])) ≡ inNewGroup (replies 1 2 (callNo 5) true ∷ [])
+  -- node 2 no longer waits for the reply, and drops it
+  pub reply-dropped : run 3 (beforeForwarded ++ (Deliver 2 1 ∷ Deliver 1 2 ∷ [])) ≡ inNewGroup []
+
+-- "an invitation to the group a cabinet already holds", and to another: node 2 is in the group 32 of node 1, which invites it
+pub record HeldGroupCases : Type 0 where
+  -- whatever its status, activity and members
+  pub busy : step (beside (follower Normal 32 100 (setOf (1 ∷ [])) 2 Contacting) (invitation 32)) (Deliver 1 2)
+      ≡ accepted (beside (follower Normal 32 100 (setOf (1 ∷ [])) 2 Contacting) plain) Plain
+  pub reorganizing : step (beside (follower Reorganization 32 100 none 2 Contacting) (invitation 32)) (Deliver 1 2)
+      ≡ accepted (beside (follower Reorganization 32 100 none 2 Contacting) plain) Plain
+  pub election : step (beside (follower Election 32 100 none 2 (Accepting 1 (callNo 3))) (invitation 32)) (Deliver 1 2)
+      ≡ accepted (beside (follower Election 32 100 none 2 (Accepting 1 (callNo 3))) plain) Plain
+  -- a reply is no call, and the message delivered is out: neither 13 nor 14 is met
+  pub calls-end : step (beside (follower Normal 32 100 none 16777215 Idle) (invitation 32)) (Deliver 1 2)
+      ≡ accepted (beside (follower Normal 32 100 none 16777215 Idle) plain) Plain
+  pub full : step (beside (follower Normal 32 100 none 2 Idle) (invitation 32 ++ queued 63)) (Deliver 1 2)
+      ≡ accepted (beside (follower Normal 32 100 none 2 Idle) (queued 63 ++ plain)) Plain
+  -- another group of the same coordinator is another group, be it older or newer: it goes into Election and calls Accept
+  pub older-group : step (beside (follower Normal 32 100 none 2 Contacting) (invitation 16)) (Deliver 1 2)
+      ≡ accepted (beside (follower Election 16 100 none 3 (Accepting 1 (callNo 3))) (calls 2 4 1 (callNo 3) (groupNo 16) ∷ [])) Plain
+  pub newer-group : step (beside (follower Normal 32 100 none 2 Contacting) (invitation 48)) (Deliver 1 2)
+      ≡ accepted (beside (follower Election 48 100 none 3 (Accepting 1 (callNo 3))) (calls 2 4 1 (callNo 3) (groupNo 48) ∷ [])) Plain
 
 -- ── records, messages and tables at the ends of what is in range, and just outside: node 2 of three, and messages among three ──
 

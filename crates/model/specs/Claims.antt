@@ -7,11 +7,11 @@ use mathlib.Core.List.{List, [], _∷_, _++_}
 use lib.ListN.{length}
 use Rattle.node_set.specs.NodeSet.{has}
 use Rattle.model.specs.Limits.{nodeLimit}
-use Rattle.model.specs.Node.{isDown, isNormal}
+use Rattle.model.specs.Node.{isDown, isNormal, ownerOf, replies}
 use Rattle.model.specs.Procedures.{inviteNext, handNext, forwardNext}
 use Rattle.model.specs.React.{leads, checked, expired, resumed}
 use Rattle.model.specs.Range.{carriesGroup}
-use Rattle.model.specs.State.{State, start, nodeAt, goes, waits, oldest, inRange}
+use Rattle.model.specs.State.{State, start, nodeAt, goes, waits, oldest, withoutOldest, inRange}
 use Rattle.model.specs.Step.{actor, reactionTo, remaining, sent, forms, Ground, ground, grounds, Result, refused, accepted, step, after, run}
 use Rattle.model.specs.History.{Entry, NotFormed, NoTask, Task, History, newest, coming, history}
 use Rattle.model.specs.Answers.{resultNumber}
@@ -313,3 +313,42 @@ pub record CallOrder : Type 0 where
       ⊎ (has (whomAside (nodeAt (after s e) (actor e) .activity)) j ≡ true)
   -- in every table of a run, those of the same set whom a node is still to call are below the one that it calls now; of an inviting node, those found
   pub runs : (n : ℕ) (es : List Event) (i : ℕ) → Below (whomStill (nodeAt (run n es) i .activity)) (whomNow (nodeAt (run n es) i .activity))
+
+-- ── 02, T-03: an invitation that arrives twice ──
+
+-- an invitation can be delivered from a to b: the table is in range, b is not Down, and the oldest message that waits from a to b is of kind 3
+pub record InvitationWaits (s : State) (a b : ℕ) : Type 0 where
+  pub in-range : inRange s ≡ true
+  pub up : isDown (nodeAt s b .status) ≡ false
+  pub waiting : waits a b (s .queue) ≡ true
+  pub kind : oldest a b (s .queue) .kind ≡ 3
+
+-- "gets a plain reply and changes nothing else": all records are as they were; the oldest message from a to b is out, and behind the others is one reply from b
+-- to a, yes, with the number of the call
+abbrev pub plainlyReplied : State → ℕ → ℕ → State
+plainlyReplied s a b = record {
+  n = s .n;
+  nodes = s .nodes;
+  queue = withoutOldest a b (s .queue) ++ (replies b a (oldest a b (s .queue) .call) true ∷ []);
+}
+
+-- The delivery of an invitation, in every table in range: the three grounds for a plain reply, and that there is no fourth.
+pub record PlainReplies : Type 0 where
+  -- 01: "if not Normal"
+  pub not-normal : (s : State) (a b : ℕ) → InvitationWaits s a b → isNormal (nodeAt s b .status) ≡ false
+      → step s (Deliver a b) ≡ accepted (plainlyReplied s a b) Plain
+  -- "or it owns that group"
+  pub owned : (s : State) (a b : ℕ) → InvitationWaits s a b → ownerOf (oldest a b (s .queue) .group .number) ≡ b
+      → step s (Deliver a b) ≡ accepted (plainlyReplied s a b) Plain
+  -- 02: "an invitation to the group a cabinet already holds", whatever its status
+  pub held : (s : State) (a b : ℕ) → InvitationWaits s a b → nodeAt s b .group .number ≡ oldest a b (s .queue) .group .number
+      → step s (Deliver a b) ≡ accepted (plainlyReplied s a b) Plain
+  -- 01: "Otherwise .. Election, the new group and its owner as coordinator", where it is not refused (13)
+  pub otherwise : (s : State) (a b : ℕ) → InvitationWaits s a b → isNormal (nodeAt s b .status) ≡ true
+      → (ownerOf (oldest a b (s .queue) .group .number) ≡ b → ⊥) → (nodeAt s b .group .number ≡ oldest a b (s .queue) .group .number → ⊥)
+      → (u : State) (k : Mark) → step s (Deliver a b) ≡ accepted u k
+      → (nodeAt u b .status ≡ Election) × (nodeAt u b .group ≡ oldest a b (s .queue) .group) × (nodeAt u b .coordinator ≡ ownerOf (oldest a b (s .queue) .group .number))
+  -- so in every run, whatever came before: an invitation to the group that its receiver holds
+  pub runs : (n : ℕ) → 1 ≤ n → n ≤ nodeLimit → (es : List Event) (a b : ℕ) → isDown (nodeAt (run n es) b .status) ≡ false → waits a b (run n es .queue) ≡ true
+      → oldest a b (run n es .queue) .kind ≡ 3 → nodeAt (run n es) b .group .number ≡ oldest a b (run n es .queue) .group .number
+      → run n (es ++ (Deliver a b ∷ [])) ≡ plainlyReplied (run n es) a b

@@ -14,6 +14,7 @@ use Rattle.model.specs.declared.Activity.{Activity}
 use Rattle.model.specs.declared.Activity.the-variants.{Idle, Asking, Waiting, Inviting, Collecting, Handing, Contacting, Forwarding, Accepting}
 use Rattle.model.specs.declared.Node.{Node}
 use Rattle.model.specs.declared.TaskNo.{TaskNo}
+use Rattle.model.specs.declared.GroupNo.{GroupNo}
 use Rattle.model.specs.declared.Message.{Message}
 use Rattle.model.specs.declared.Outgoing.{Outgoing}
 use Rattle.model.specs.declared.Outgoing.the-variants.{Nothing, Send}
@@ -87,11 +88,22 @@ unfoldable pub onAreYouThere : ℕ → Node → Message → Reaction
 onAreYouThere i c m =
     answers i c m (eqb (c .group .number) (m .group .number) && eqb (c .coordinator) i && has (c .members) (m .sender))
 
--- "3: if not Normal, or it owns that group, plain reply and no change. Otherwise its activity stops; Election, the new group and its owner as
--- coordinator. If it was its own coordinator, it forwards the invitation to each member; then it calls Accept on the new coordinator."
+-- 3: node i only replies to an invitation to group g. 01: "if not Normal, or it owns that group, plain reply and no change." 02, T-03: "From now on an invitation to
+-- the group a cabinet already holds gets a plain reply and changes nothing else. This amends the delivery of kind 3."
+abbrev pub onlyReplies : ℕ → Node → GroupNo → Bool
+onlyReplies i c g =
+    -- "not Normal"
+    not (isNormal (c .status))
+    -- "or it owns that group"
+    || eqb (ownerOf (g .number)) i
+    -- "the group a cabinet already holds"
+    || eqb (c .group .number) (g .number)
+
+-- "Otherwise its activity stops; Election, the new group and its owner as coordinator. If it was its own coordinator, it forwards the invitation to each member;
+-- then it calls Accept on the new coordinator."
 unfoldable pub onInvitation : ℕ → Node → Message → Reaction
 onInvitation i c m =
-    pick (not (isNormal (c .status)) || eqb (ownerOf (m .group .number)) i)
+    pick (onlyReplies i c (m .group))
     (answers i c m true)
     (forwardNext i (invited c (m .group)) (pick (eqb (c .coordinator) i) (c .members) 0) (m .sender) (m .call))
 

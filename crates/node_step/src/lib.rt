@@ -16,6 +16,7 @@ ghost use Rattle.model.specs.React as spec;
 ghost use Rattle.node_set.specs.NodeSet.{with};
 ghost use Rattle.node_step.specs.Fits.{Fits, FitsActivity, FitsInput, FitsSender};
 use model::Activity;
+use model::GroupNo;
 use model::Input;
 use model::Mark;
 use model::Message;
@@ -219,14 +220,21 @@ fn forwards_to(i: u8, c: Node) -> u16
     if c.coordinator == i { c.members } else { 0 }
 }
 
+// Whether node `i`, with record `c`, only replies to an invitation to group `g`: the three grounds, in the papers' order.
+fn only_replies(i: u8, c: Node, g: GroupNo) -> bool
+    ensures { λ r. ⌜ r ≡ spec.onlyReplies i c g ⌝ }
+{
+    let status = c.status;
+    !node::is_normal(status) | (node::owner_of(g) == i) | (c.group.number == g.number)
+}
+
 fn on_invitation(i: u8, c: Node, m: Message) -> Reaction
     requires { ⌜ c .last .number ≤ callEnd ⌝ }
     ensures { λ r. ⌜ r ≡ spec.onInvitation i c m ⌝ }
 {
-    let status = c.status;
     let group = m.group;
     let call = m.call;
-    if !node::is_normal(status) | (node::owner_of(group) == i) {
+    if only_replies(i, c, group) {
         return procedures::answers(i, c, m, true);
     }
     procedures::forward_next(

@@ -10,18 +10,14 @@ unfolding onInvitation pick
 on-invitation-spec =
     tie.close
     (tie.spec
-    (search needs) (search needs) (search needs)
-    (λ c.
-    let o = c .before .before in
-    simp (← o .before .is-normal .ensures, ← o .owner-of .ensures, c .before .if1 .taken, c .answers .ensures))
+    (search needs) (search needs)
+    (λ c. simp (← c .before .before .only-replies .ensures, c .before .if1 .taken, c .answers .ensures))
     (search needs) (search needs)
     (λ c κs. rw (c .before .invited .ensures) (search needs))
     (λ c.
     let v = c .before .before in
-    let o = v .before .before in
     simp (
-      ← o .before .is-normal .ensures,
-      ← o .owner-of .ensures,
+      ← v .before .before .only-replies .ensures,
       v .before .if1 .left,
       c .forward-next .ensures,
       c .before .forwards-to .ensures,
