@@ -20,7 +20,7 @@ use Rattle.model.specs.Claims.{SendsHighest, SendsUpward, whomNow, whomS
 use Rattle.model.proofs.Judged.{Clear, by-step, Allows, by-reaction}
 use Rattle.model.proofs.Numbers.{actor-in}
 use Rattle.model.proofs.Next.{next-has, next-most, left-below, next-or-left}
-use Rattle.model.proofs.Invitation.{acts-on}
+use Rattle.model.proofs.Invitation.{acts-normal}
 use Rattle.model.proofs.Fields.{Busy, NodeFacts, in-range-size, in-range-node, node-facts, own-record}
 use Rattle.model.specs.declared.Activity.{Activity}
 use Rattle.model.specs.declared.Activity.the-variants.{Idle, Asking, Waiting, Inviting, Collecting, Handing, Contacting, Forwarding, Accepting}
@@ -320,7 +320,7 @@ module _ (n i : ℕ) (small : n ≤ 16) (c : Node) (x : NodeFacts n i c) where
     on-invitation =
         by-test Here (λ _. same refl)
         (λ t. forward n small c (c .activity) i _ (pick (eqb (c .coordinator) i) (c .members) 0) (m .sender) (m .call)
-        (by-test (λ (s : ℕ). within n s ≡ true) (λ _. x .members .inside) (λ _. empty-within n)) (λ q. absurd (true≢false (sym (acts-on i c (m .group) t .normal) ∙ q))))
+        (by-test (λ (s : ℕ). within n s ≡ true) (λ _. x .members .inside) (λ _. empty-within n)) (λ q. absurd (true≢false (sym (acts-normal i c (m .group) t) ∙ q))))
 
     on-accept : Here (onAccept i c m)
     unfolding onAccept

@@ -1,9 +1,9 @@
 -- The grounds for a plain reply to an invitation: where one applies, and what holds where none does.
 use Prim.Native.Nat.{ℕ}
-use mathlib.Core.Bool.{Bool, true, false, not, _||_, true≢false}
-use mathlib.Core.Path.{_≡_, refl, sym, ap}
+use mathlib.Core.Bool.{Bool, true, false, true≢false}
+use mathlib.Core.Path.{_≡_, refl, sym, _∙_}
 use lib.Dec.{eqb}
-use borrow.Author.Tests.{eqb-false, eq-eqb, ne-eqb, not-false}
+use borrow.Author.Tests.{eqb-true, eq-eqb, ne-eqb}
 use Rattle.model.specs.Node.{isNormal, ownerOf}
 use Rattle.model.specs.Pick.{pick}
 use Rattle.model.specs.Procedures.{answers}
@@ -12,49 +12,39 @@ use Rattle.model.specs.declared.Node.{Node}
 use Rattle.model.specs.declared.GroupNo.{GroupNo}
 use Rattle.model.specs.declared.Message.{Message}
 
--- ── three tests, of which one holds ──
-first-holds : (x y z : Bool) → x ≡ true → (x || y || z) ≡ true
-first-holds true y z e = refl
-first-holds false y z e = absurd (true≢false (sym e))
-
-second-holds : (x y z : Bool) → y ≡ true → (x || y || z) ≡ true
-second-holds true y z e = refl
-second-holds false true z e = refl
-second-holds false false z e = absurd (true≢false (sym e))
-
-third-holds : (x y z : Bool) → z ≡ true → (x || y || z) ≡ true
-third-holds true y z e = refl
-third-holds false true z e = refl
-third-holds false false z e = e
-
-none-holds : (x y z : Bool) → (x || y || z) ≡ false → (x ≡ false) × (y ≡ false) × (z ≡ false)
-none-holds true y z e = absurd (true≢false e)
-none-holds false true z e = absurd (true≢false e)
-none-holds false false z e = (refl, refl, e)
-
--- node i acts on an invitation to the group g: it is Normal, does not own the group and does not hold it
-pub record ActsOn (i : ℕ) (c : Node) (g : GroupNo) : Type 0 where
-  pub normal : isNormal (c .status) ≡ true
-  pub not-owned : ownerOf (g .number) ≡ i → ⊥
-  pub not-held : c .group .number ≡ g .number → ⊥
-
 module _ (i : ℕ) (c : Node) (g : GroupNo) where
   pub where-not-normal : isNormal (c .status) ≡ false → onlyReplies i c g ≡ true
-  where-not-normal e = first-holds (not (isNormal (c .status))) (eqb (ownerOf (g .number)) i) (eqb (c .group .number) (g .number)) (ap not e)
+  where-not-normal e = rw e
 
   pub where-owned : ownerOf (g .number) ≡ i → onlyReplies i c g ≡ true
-  where-owned e = second-holds (not (isNormal (c .status))) (eqb (ownerOf (g .number)) i) (eqb (c .group .number) (g .number)) (eq-eqb _ _ e)
+  where-owned e = by (isNormal (c .status)) refl
+    where
+      by : (x : Bool) → isNormal (c .status) ≡ x → onlyReplies i c g ≡ true
+      by true p = rw (p, eq-eqb _ _ e)
+      by false p = where-not-normal p
 
   pub where-held : c .group .number ≡ g .number → onlyReplies i c g ≡ true
-  where-held e = third-holds (not (isNormal (c .status))) (eqb (ownerOf (g .number)) i) (eqb (c .group .number) (g .number)) (eq-eqb _ _ e)
+  where-held e = by (isNormal (c .status)) (eqb (ownerOf (g .number)) i) refl refl
+    where
+      by : (x y : Bool) → isNormal (c .status) ≡ x → eqb (ownerOf (g .number)) i ≡ y → onlyReplies i c g ≡ true
+      by true true p q = where-owned (eqb-true _ i q)
+      by true false p q = simp (p, q, eq-eqb _ _ e)
+      by false y p q = where-not-normal p
 
-  pub where-none : ActsOn i c g → onlyReplies i c g ≡ false
-  where-none x = rw (x .normal, ne-eqb _ _ (x .not-owned), ne-eqb _ _ (x .not-held))
+  -- none of the three applies
+  pub where-none : isNormal (c .status) ≡ true → (ownerOf (g .number) ≡ i → ⊥) → (c .group .number ≡ g .number → ⊥) → onlyReplies i c g ≡ false
+  where-none e o h = simp (e, ne-eqb _ _ o, ne-eqb _ _ h)
 
-  pub acts-on : onlyReplies i c g ≡ false → ActsOn i c g
-  acts-on e =
-      let x = none-holds (not (isNormal (c .status))) (eqb (ownerOf (g .number)) i) (eqb (c .group .number) (g .number)) e in
-      record { normal = not-false _ (x .0); not-owned = eqb-false _ i (x .1); not-held = eqb-false _ _ (x .2) }
+  -- a node that acts on an invitation is Normal, and does not own the group
+  pub acts-normal : onlyReplies i c g ≡ false → isNormal (c .status) ≡ true
+  acts-normal e = by (isNormal (c .status)) refl
+    where
+      by : (x : Bool) → isNormal (c .status) ≡ x → isNormal (c .status) ≡ true
+      by true p = p
+      by false p = absurd (true≢false (sym (where-not-normal p) ∙ e))
+
+  pub acts-not-owned : onlyReplies i c g ≡ false → ownerOf (g .number) ≡ i → ⊥
+  acts-not-owned e o = true≢false (sym (where-owned o) ∙ e)
 
 pub plain-reply : (i : ℕ) (c : Node) (m : Message) → onlyReplies i c (m .group) ≡ true → onInvitation i c m ≡ answers i c m true
 unfolding onInvitation pick

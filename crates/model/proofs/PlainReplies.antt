@@ -115,7 +115,7 @@ plain-replies =
       otherwise = λ s a b x y o h u k q.
           let p = accepted-is s (Deliver a b) u k q in
           let r = ap (λ (v : State). nodeAt v b) (p .state) ∙ own-record s (Deliver a b) (p .clear) in
-          let z = subst (Taken s a b x) (sym r) (taken s a b x (where-none b (nodeAt s b) _ (record { normal = y; not-owned = o; not-held = h }))) in
+          let z = subst (Taken s a b x) (sym r) (taken s a b x (where-none b (nodeAt s b) _ y o h)) in
           (z .status, z .group, z .coordinator);
       runs = λ n l h es a b u w k g.
           run-append (start n) es (Deliver a b ∷ [])

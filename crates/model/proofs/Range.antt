@@ -18,7 +18,7 @@ use Rattle.model.specs.Step.{forms, isCalling}
 use Rattle.model.proofs.Invariant.{NodeNumber, owner-of, counter-of}
 use Rattle.model.proofs.Next.{next-in, next-other}
 use Rattle.model.proofs.Origin.{merges-mark}
-use Rattle.model.proofs.Invitation.{acts-on}
+use Rattle.model.proofs.Invitation.{acts-not-owned}
 use Rattle.model.proofs.Fields.{IsNode, IsOther, IsSetOfOthers, IsGroup, IsGivenTask, IsCall, Busy, NodeFacts, MessageFacts}
 use Rattle.model.specs.declared.Status.{Status}
 use Rattle.model.specs.declared.Status.the-variants.{Down, Election, Reorganization, Normal}
@@ -478,7 +478,7 @@ module _ {n i : ℕ} (p : Place n i) where
             })
             (pick (eqb (c .coordinator) i) (c .members) 0) (m .sender) (m .call)
             (by-test (IsSetOfOthers n i) (λ _. u .members) (λ _. none)) sender (x .call)
-            (acts-on i c (m .group) e .not-owned))
+            (acts-not-owned i c (m .group) e))
 
         onAccept-in : Room n i c (onAccept i c m)
         unfolding onAccept
