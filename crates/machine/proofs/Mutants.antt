@@ -21,16 +21,16 @@ use Rattle.model.specs.Range.{activityInRange, nodeInRange, messageInRange}
 use Rattle.model.specs.State.{State, startingNode, start, nodeAt, waits, oldest, withoutOldest, every, inRange, firstOf, view, tableOf}
 use Rattle.model.specs.Step.{actor, reactionTo, remaining, sent, effect, forms, isCalling, isSending, grounds, judged, Result, refused, accepted, step, kept, after, runFrom}
 use Rattle.model.specs.Answers.{answerNumber, resultNumber}
-use Rattle.model.specs.Claims.{isActive, Lacks, Sends, whomNow, whomStill, Below, Picked, InvitationWaits, plainlyReplied}
-use Rattle.model.proofs.Judged.{by-step, accepted-is}
+use Rattle.model.specs.Claims.{isActive, Lacks, Sends, whomNow, whomStill, Below, Picked, Holds}
+use Rattle.model.proofs.Judged.{by-step, clear-accepts, accepted-is}
 use Rattle.model.proofs.Local.{both-right}
 use Rattle.model.proofs.Fields.{in-range-size, own-record}
 use Rattle.model.proofs.InRange.{delivery-never-full, stays-in-range}
 use Rattle.model.proofs.Cases.{invited-twice}
 use Rattle.model.proofs.CallOrder.{call-order}
 use Rattle.model.proofs.Invitation.{kind-three}
-use Rattle.model.proofs.PlainReplies.{plain-replies}
-use Rattle.model.specs.Cases.{beforeForwarded}
+use Rattle.model.proofs.InvitationRules.{acts-election, invitation-rules}
+use Rattle.model.specs.Cases.{invitedOnce}
 use Rattle.model.specs.declared.Status.the-variants.{Election}
 use Rattle.model.specs.declared.Activity.{Activity}
 use Rattle.model.specs.declared.Activity.the-variants.{Idle, Asking, Waiting, Inviting, Collecting, Handing, Contacting, Forwarding, Accepting}
@@ -365,19 +365,21 @@ no-lower-first =
 
 -- ── an invitation that arrives twice ──
 
-replied : (t : Table) (a b : ℕ) → InvitationWaits (view t) a b → nodeAt (view t) b .group .number ≡ oldest a b (view t .queue) .group .number
-    → {r : Outcome} → Stepped t (Deliver a b) r → view (r .table) ≡ plainlyReplied (view t) a b
-replied t a b w g x = x .table ∙ ap (kept (view t)) (plain-replies .held (view t) a b w g)
+records-kept : (s : State) (a b : ℕ) → oldest a b (s .queue) .kind ≡ 3 → Holds s a b → after s (Deliver a b) .nodes ≡ s .nodes
+records-kept s a b k g =
+    by-step (λ (q : Result). kept s q .nodes ≡ s .nodes) s (Deliver a b) (λ _. refl)
+    (λ c. ap (λ (q : Result). kept s q .nodes) (sym (clear-accepts s (Deliver a b) c) ∙ invitation-rules .held s a b (record { in-range = c .in-range; not-down = c .status; kind = k }) g))
 
 pub no-joining-again : NoJoiningAgain
 no-joining-again =
     record {
-      turns-away = λ t a b w g {r} x h. h (accepted-alike .code-accepts x _ _ (plain-replies .held (view t) a b w g));
-      changes-records = λ t a b w g {r} x h. h (ap (λ (s : State). s .nodes) (replied t a b w g x));
-      replies-otherwise = λ t a b w g {r} x h. h (ap (λ (s : State). s .queue) (replied t a b w g x));
-      stays-normal = λ t a b w n o g {r} x y h.
-          true≢false (sym h ∙ ap isNormal (plain-replies .otherwise (view t) a b w n o g _ _ (accepted-alike .model-accepts x y) .0));
-      put-back = λ {u} f h.
+      changes-records = λ t a b k g {r} x h. h (ap (λ (s : State). s .nodes) (x .table) ∙ records-kept (view t) a b k g);
+      refuses = λ t a b w g {r} x h. h (accepted-alike .code-accepts x _ _ (invitation-rules .held (view t) a b w g));
+      other-messages = λ t a b w g {r} x h.
+          h (ap (λ (s : State). s .queue) (x .table) ∙ ap (λ (q : Result). kept (view t) q .queue) (invitation-rules .held (view t) a b w g));
+      stays-normal = λ t a b k n {r} x y h.
+          true≢false (sym h ∙ ap (λ (c : Node). isNormal (c .status)) (accepted-record t (Deliver a b) x y) ∙ ap isNormal (acts-election (view t) a b k n));
+      leaves-normal = λ {u} f h.
           h (ap (λ (s : State). nodeAt s 1 .status)
-          (code-runs .from-any _ _ _ f ∙ ap (λ (s : State). runFrom s (beforeForwarded ++ (Deliver 2 1 ∷ []))) (start-is 3) ∙ invited-twice .only-messages));
+          (code-runs .from-any _ _ _ f ∙ ap (λ (s : State). runFrom s (invitedOnce ++ (Deliver 2 1 ∷ []))) (start-is 3) ∙ invited-twice .only-messages));
     }

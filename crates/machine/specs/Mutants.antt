@@ -8,13 +8,13 @@ use mathlib.Core.List.{List, [], _∷_, _++_}
 use lib.Dec.{eqb, ltb}
 use Rattle.node_set.specs.NodeSet.{has}
 use Rattle.model.specs.Limits.{nodeLimit, counterEnd}
-use Rattle.model.specs.Node.{isDown, isNormal, hasOpenCall, ownerOf, replies}
+use Rattle.model.specs.Node.{isDown, isNormal, hasOpenCall, replies}
 use Rattle.model.specs.React.{leads}
 use Rattle.model.specs.State.{State, nodeAt, waits, oldest, inRange, view, tableOf}
 use Rattle.model.specs.Step.{actor, reactionTo, remaining}
 use Rattle.model.specs.Answers.{answerNumber}
-use Rattle.model.specs.Claims.{isActive, Lacks, whomNow, whomStill, whomAside, InvitationWaits, plainlyReplied}
-use Rattle.model.specs.Cases.{setOf, none, node, beforeForwarded}
+use Rattle.model.specs.Claims.{isActive, Lacks, whomNow, whomStill, whomAside, InvitationReaches, Holds, NoPlainReply, withPlainReply}
+use Rattle.model.specs.Cases.{setOf, none, node, invitedOnce}
 use Rattle.model.specs.declared.Mark.the-variants.{Merges}
 use Rattle.model.specs.declared.Status.{Status}
 use Rattle.model.specs.declared.Status.the-variants.{Election, Reorganization, Normal}
@@ -240,20 +240,19 @@ pub record NoLowerFirst : Type 0 where
 
 -- ── 02, T-03: an invitation that arrives twice ──
 
--- "From now on an invitation to the group a cabinet already holds gets a plain reply and changes nothing else." In every table in range:
+-- "From now on an invitation to the group a cabinet already holds gets a plain reply and changes nothing else."
 pub record NoJoiningAgain : Type 0 where
-  -- no machine turns its delivery away
-  pub turns-away : (t : Table) (a b : ℕ) → InvitationWaits (view t) a b → nodeAt (view t) b .group .number ≡ oldest a b (view t .queue) .group .number
-      → {r : Outcome} → Stepped t (Deliver a b) r → (r .answer ≡ Accepted → ⊥) → ⊥
-  -- none changes a record, of the receiver or of another
-  pub changes-records : (t : Table) (a b : ℕ) → InvitationWaits (view t) a b → nodeAt (view t) b .group .number ≡ oldest a b (view t .queue) .group .number
+  -- at its delivery no machine changes a record, of the receiver or of another, in any table
+  pub changes-records : (t : Table) (a b : ℕ) → oldest a b (view t .queue) .kind ≡ 3 → Holds (view t) a b
       → {r : Outcome} → Stepped t (Deliver a b) r → (view (r .table) .nodes ≡ view t .nodes → ⊥) → ⊥
-  -- and none puts anything behind the queue but the one reply, yes, with the number of the call
-  pub replies-otherwise : (t : Table) (a b : ℕ) → InvitationWaits (view t) a b → nodeAt (view t) b .group .number ≡ oldest a b (view t .queue) .group .number
-      → {r : Outcome} → Stepped t (Deliver a b) r → (view (r .table) .queue ≡ plainlyReplied (view t) a b .queue → ⊥) → ⊥
-  -- nor does a Normal node stay so that is invited to another group, of the same coordinator or not, and does not own it
-  pub stays-normal : (t : Table) (a b : ℕ) → InvitationWaits (view t) a b → isNormal (nodeAt (view t) b .status) ≡ true
-      → (ownerOf (oldest a b (view t .queue) .group .number) ≡ b → ⊥) → (nodeAt (view t) b .group .number ≡ oldest a b (view t .queue) .group .number → ⊥)
+  -- in a table in range no machine refuses it
+  pub refuses : (t : Table) (a b : ℕ) → InvitationReaches (view t) a b → Holds (view t) a b
+      → {r : Outcome} → Stepped t (Deliver a b) r → (r .answer ≡ Accepted → ⊥) → ⊥
+  -- or leaves other messages than those that waited, without the invitation and with the one reply, yes and with the call's number, behind them
+  pub other-messages : (t : Table) (a b : ℕ) → InvitationReaches (view t) a b → Holds (view t) a b
+      → {r : Outcome} → Stepped t (Deliver a b) r → (view (r .table) .queue ≡ withPlainReply (view t) a b .queue → ⊥) → ⊥
+  -- an accepted invitation to another group, of the same coordinator or not, leaves no node Normal that does not own it
+  pub stays-normal : (t : Table) (a b : ℕ) → oldest a b (view t .queue) .kind ≡ 3 → NoPlainReply (view t) a b
       → {r : Outcome} → Stepped t (Deliver a b) r → r .answer ≡ Accepted → isNormal (nodeAt (view (r .table)) b .status) ≡ true → ⊥
-  -- for one: 02's story. "It came when the cabinet was Normal in the new group and put it back": node 1 is Normal after it.
-  pub put-back : {u : Table} → Folded (startingTable 3) (beforeForwarded ++ (Deliver 2 1 ∷ [])) u → (nodeAt (view u) 1 .status ≡ Normal → ⊥) → ⊥
+  -- for one: 02's story. After the invitation that came late node 1 is Normal; 02: it "put it back into Reorganization".
+  pub leaves-normal : {u : Table} → Folded (startingTable 3) (invitedOnce ++ (Deliver 2 1 ∷ [])) u → (nodeAt (view u) 1 .status ≡ Normal → ⊥) → ⊥

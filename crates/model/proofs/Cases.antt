@@ -12,7 +12,7 @@ use Rattle.model.specs.Range.{activityInRange, nodeInRange, messageInRan
 use Rattle.model.specs.State.{State, start, waits, oldest, withoutOldest, every, inRange}
 use Rattle.model.specs.Step.{reactionTo, remaining, effect, wrongNumber, wrongTask, wrongStatus, wrongActivity, noneWaits, grounds, judged, step, runFrom, run}
 use Rattle.model.specs.History.{updated, historyFrom}
-use Rattle.model.specs.Cases.{NamedCases, WrongTurnings, FurtherCases, setOf, none, node, three, formerGroup, inFormerGroup, newCoordinator, withNewCoordinator, bothInvite, invitedByBoth, newGroup, inNewGroup, beforeForwarded, InvitedTwice, HeldGroupCases, RangeCases}
+use Rattle.model.specs.Cases.{NamedCases, WrongTurnings, FurtherCases, setOf, none, node, three, joinsFormer, inFormerGroup, newMerges, afterMerge, bothInvite, invitedByBoth, joinsNew, inNewGroup, invitedOnce, InvitedTwice, HeldGroupCases, RangeCases}
 use Rattle.model.proofs.Whole.{run-append}
 use Rattle.model.specs.declared.Status.the-variants.{Election, Reorganization}
 use Rattle.model.specs.declared.Activity.the-variants.{Idle, Collecting}
@@ -126,6 +126,8 @@ further-cases =
       there-no-member = refl;
       invited-forwards = refl;
       invited-accepts = refl;
+      invited-asking = refl;
+      invited-waiting = refl;
       accepted-replies = refl;
       forwarded-accepts = refl;
       accepting-expires = refl;
@@ -147,6 +149,10 @@ further-cases =
       accept-no = refl;
       ready-normal = refl;
       ready-busy = refl;
+      fields-asks = refl;
+      fields-calls = refl;
+      fields-readies = refl;
+      fields-replies = refl;
       range-node = refl;
       range-message = refl;
       range-queue = refl;
@@ -181,7 +187,7 @@ further-cases =
       ends-pass = refl;
     }
 
--- `newGroup` in two: 1 accepts, so that 3 collects; 3 hands Ready to both
+-- `joinsNew` in two: 1 accepts, so that 3 collects; 3 hands Ready to both
 abbrev accepting : List Event
 accepting = Deliver 3 1 ∷ Deliver 1 3 ∷ Deliver 3 1 ∷ Deliver 1 3 ∷ []
 
@@ -195,9 +201,9 @@ handing = Finish 3 (record { number = 300 }) ∷ Deliver 3 2 ∷ Deliver 2 3 ∷
 
 -- the parts of the story, each from the table before it
 record Parts : Type 0 where
-  pub former : run 3 formerGroup ≡ inFormerGroup
-  pub new : runFrom inFormerGroup newCoordinator ≡ withNewCoordinator
-  pub both : runFrom withNewCoordinator bothInvite ≡ invitedByBoth
+  pub former : run 3 joinsFormer ≡ inFormerGroup
+  pub merges : runFrom inFormerGroup newMerges ≡ afterMerge
+  pub both : runFrom afterMerge bothInvite ≡ invitedByBoth
   pub joins : runFrom invitedByBoth accepting ≡ accepted
   pub plays : runFrom accepted handing ≡ inNewGroup (calls 2 3 1 (record { number = 5 }) (record { number = 34 }) ∷ [])
   pub again : runFrom (inNewGroup (calls 2 3 1 (record { number = 5 }) (record { number = 34 }) ∷ [])) (Deliver 2 1 ∷ []) ≡ inNewGroup (replies 1 2 (record { number = 5 }) true ∷ [])
@@ -205,37 +211,37 @@ record Parts : Type 0 where
 
 parts : Parts
 unfolding pick onesIn ones leadingZeros bitAnd bitOr inviteNext merges handNext finishes forwardNext askedAll askAt askAfter checked timedOut ticked expired resumed onAreYouCoordinator onAreYouThere onInvitation onAccept onReady onReply received react activityInRange nodeInRange messageInRange waits oldest withoutOldest every inRange reactionTo remaining effect wrongNumber wrongTask wrongStatus wrongActivity noneWaits grounds judged step runFrom updated historyFrom
-parts = record { former = refl; new = refl; both = refl; joins = refl; plays = refl; again = refl; dropped = refl }
+parts = record { former = refl; merges = refl; both = refl; joins = refl; plays = refl; again = refl; dropped = refl }
 
 onward : (s t u : State) (es fs : List Event) → runFrom s es ≡ t → runFrom t fs ≡ u → runFrom s (es ++ fs) ≡ u
 onward s t u es fs p q = run-append s es fs ∙ ap (λ (v : State). runFrom v fs) p ∙ q
 
-story : (es : List Event) (u : State) → runFrom inFormerGroup es ≡ u → run 3 (formerGroup ++ es) ≡ u
-story es u = onward (start 3) inFormerGroup u formerGroup es (parts .former)
+story : (es : List Event) (u : State) → runFrom inFormerGroup es ≡ u → run 3 (joinsFormer ++ es) ≡ u
+story es u = onward (start 3) inFormerGroup u joinsFormer es (parts .former)
 
 pub invited-twice : InvitedTwice
 invited-twice =
     record {
       former = parts .former;
-      new = story newCoordinator _ (parts .new);
-      invited = story (newCoordinator ++ bothInvite) _ (onward _ _ _ newCoordinator bothInvite (parts .new) (parts .both));
+      merges = story newMerges _ (parts .merges);
+      both = story (newMerges ++ bothInvite) _ (onward _ _ _ newMerges bothInvite (parts .merges) (parts .both));
       normal = normal;
-      only-messages = onward _ _ _ beforeForwarded (Deliver 2 1 ∷ []) normal (parts .again);
-      reply-dropped = onward _ _ _ beforeForwarded (Deliver 2 1 ∷ Deliver 1 2 ∷ []) normal (parts .dropped);
+      only-messages = onward _ _ _ invitedOnce (Deliver 2 1 ∷ []) normal (parts .again);
+      reply-dropped = onward _ _ _ invitedOnce (Deliver 2 1 ∷ Deliver 1 2 ∷ []) normal (parts .dropped);
     }
   where
-    normal : run 3 beforeForwarded ≡ inNewGroup (calls 2 3 1 (record { number = 5 }) (record { number = 34 }) ∷ [])
-    normal = story _ _ (onward _ _ _ newCoordinator (bothInvite ++ newGroup) (parts .new) (onward _ _ _ bothInvite newGroup (parts .both) (onward _ _ _ accepting handing (parts .joins) (parts .plays))))
+    normal : run 3 invitedOnce ≡ inNewGroup (calls 2 3 1 (record { number = 5 }) (record { number = 34 }) ∷ [])
+    normal = story _ _ (onward _ _ _ newMerges (bothInvite ++ joinsNew) (parts .merges) (onward _ _ _ bothInvite joinsNew (parts .both) (onward _ _ _ accepting handing (parts .joins) (parts .plays))))
 
 pub held-group-cases : HeldGroupCases
 unfolding pick onesIn ones leadingZeros bitAnd bitOr inviteNext merges handNext finishes forwardNext askedAll askAt askAfter checked timedOut ticked expired resumed onAreYouCoordinator onAreYouThere onInvitation onAccept onReady onReply received react activityInRange nodeInRange messageInRange waits oldest withoutOldest every inRange reactionTo remaining effect wrongNumber wrongTask wrongStatus wrongActivity noneWaits grounds judged step runFrom updated historyFrom
 held-group-cases =
     record {
-      busy = refl;
+      contacting = refl;
       reorganizing = refl;
       election = refl;
       calls-end = refl;
-      full = refl;
+      queue-full = refl;
       older-group = refl;
       newer-group = refl;
     }

@@ -1,12 +1,12 @@
 -- The grounds for a plain reply to an invitation: where one applies, and what holds where none does.
 use Prim.Native.Nat.{ℕ}
 use mathlib.Core.Bool.{Bool, true, false, true≢false}
-use mathlib.Core.Path.{_≡_, refl, sym, _∙_}
+use mathlib.Core.Path.{_≡_, refl, sym, _∙_, ap}
 use lib.Dec.{eqb}
 use borrow.Author.Tests.{eqb-true, eq-eqb, ne-eqb}
-use Rattle.model.specs.Node.{isNormal, ownerOf}
-use Rattle.model.specs.Pick.{pick}
-use Rattle.model.specs.Procedures.{answers}
+use Rattle.model.specs.Node.{isNormal, ownerOf, invited}
+use Rattle.model.specs.Pick.{pick, pick-false}
+use Rattle.model.specs.Procedures.{answers, forwardNext}
 use Rattle.model.specs.React.{onlyReplies, onInvitation, received}
 use Rattle.model.specs.declared.Node.{Node}
 use Rattle.model.specs.declared.GroupNo.{GroupNo}
@@ -49,6 +49,13 @@ module _ (i : ℕ) (c : Node) (g : GroupNo) where
 pub plain-reply : (i : ℕ) (c : Node) (m : Message) → onlyReplies i c (m .group) ≡ true → onInvitation i c m ≡ answers i c m true
 unfolding onInvitation pick
 plain-reply i c m e = rw e
+
+pub acted-on : (i : ℕ) (c : Node) (m : Message) → onlyReplies i c (m .group) ≡ false
+    → onInvitation i c m ≡ forwardNext i (invited c (m .group)) (pick (eqb (c .coordinator) i) (c .members) 0) (m .sender) (m .call)
+unfolding onInvitation
+acted-on i c m e =
+    ap (λ (t : Bool). pick t (answers i c m true) (forwardNext i (invited c (m .group)) (pick (eqb (c .coordinator) i) (c .members) 0) (m .sender) (m .call))) e
+    ∙ pick-false _ _
 
 -- a message of kind 3 that is delivered is an invitation
 pub kind-three : (n i : ℕ) (c : Node) (m : Message) → m .kind ≡ 3 → received n i c m ≡ onInvitation i c m

@@ -14,4 +14,4 @@ pub mod Range
 pub mod InRange
 pub mod Refusals
 pub mod CallOrder
-pub mod PlainReplies
+pub mod InvitationRules

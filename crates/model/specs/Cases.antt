@@ -1,6 +1,6 @@
 -- "Named cases": what is claimed of K1 to K13, jointly, over the definitions. Where 01 names one side of a rule, the other side stands beside it. "Wrong
--- turnings in this protocol" follow, then further cases, and then the ends of what is in range. The tables are in range where nothing else is said; not each of
--- them is one that a run reaches.
+-- turnings in this protocol" follow, then further cases, those of 02's T-03, and the ends of what is in range. The tables are in range where nothing else is said;
+-- not each of them is one that a run reaches.
 use Prim.Native.Nat.{ℕ}
 use mathlib.Core.Bool.{Bool, true, false}
 use mathlib.Core.Path.{_≡_}
@@ -188,10 +188,10 @@ pub record NamedCases : Type 0 where
   pub k7-invites : run 3 (foundThree ++ (Tick 1 ∷ Tick 1 ∷ [])) .queue ≡ asks 1 2 (callNo 1) ∷ calls 1 3 3 (callNo 3) (groupNo 32) ∷ []
   -- "K8 an invitation to a cabinet in Election changes nothing but the messages."
   pub k8 : after (pair Election (setOf (1 ∷ [])) Collecting (invitation 16)) (Deliver 1 2) ≡ pair Election (setOf (1 ∷ [])) Collecting plain
-  -- nor to one in Reorganization, nor to one that owns the group
+  -- nor to one in Reorganization, nor to one that owns the group (nor, by T-03, to one that holds it: HeldGroupCases)
   pub k8-reorganizing : after (pair Reorganization (setOf (1 ∷ [])) Collecting (invitation 16)) (Deliver 1 2) ≡ pair Reorganization (setOf (1 ∷ [])) Collecting plain
   pub k8-owner : after (pair Normal (setOf (1 ∷ [])) Collecting (invitation 17)) (Deliver 1 2) ≡ pair Normal (setOf (1 ∷ [])) Collecting plain
-  -- a Normal one acts on it: it forwards the invitation to its member
+  -- a Normal one of another group acts on it: it forwards the invitation to its member
   pub k8-normal : after (pair Normal (setOf (1 ∷ [])) Collecting (invitation 16)) (Deliver 1 2)
       ≡ beside (follower Election 16 100 (setOf (1 ∷ [])) 3 (Forwarding none 1 1 (callNo 3))) (calls 2 3 1 (callNo 3) (groupNo 16) ∷ [])
   -- with no member, or where another leads it, it calls Accept at once
@@ -283,7 +283,7 @@ pub record WrongTurnings : Type 0 where
         activity = Idle;
       }) []) Recovers
 
--- ── tables of the further cases ──
+-- ── tables of the cases that follow ──
 
 -- a node with, in 01's order, the status s, counter k, group g, coordinator o, task t, members m, last call number l and activity a
 abbrev pub node : Status → ℕ → ℕ → ℕ → ℕ → ℕ → ℕ → Activity → Node
@@ -425,6 +425,11 @@ pub record FurtherCases : Type 0 where
   -- "the new group and its owner as coordinator": node 2's caller is 3 and its coordinator is 1; "then it calls Accept on the new coordinator"
   pub invited-accepts : step (merging (filled Normal 18 3 100 none 9 Idle) forwarder (calls 3 3 2 (callNo 5) (groupNo 32) ∷ [])) (Deliver 3 2)
       ≡ accepted (merging (filled Election 32 1 100 none 10 (Accepting 3 (callNo 5))) forwarder (calls 2 4 1 (callNo 10) (groupNo 32) ∷ [])) Plain
+  -- "its activity stops": node 2 asks, or waits for its last tick, when node 1 invites it; it forwards the invitation to its member
+  pub invited-asking : step (beside (node Normal 2 33 2 100 (setOf (1 ∷ [])) 6 (Asking 1 none)) (invitation 16)) (Deliver 1 2)
+      ≡ accepted (beside (node Election 2 16 1 100 (setOf (1 ∷ [])) 7 (Forwarding none 1 1 (callNo 3))) (calls 2 3 1 (callNo 7) (groupNo 16) ∷ [])) Plain
+  pub invited-waiting : step (beside (node Normal 2 33 2 100 (setOf (1 ∷ [])) 6 (Waiting 1 (setOf (1 ∷ [])))) (invitation 16)) (Deliver 1 2)
+      ≡ accepted (beside (node Election 2 16 1 100 (setOf (1 ∷ [])) 7 (Forwarding none 1 1 (callNo 3))) (calls 2 3 1 (callNo 7) (groupNo 16) ∷ [])) Plain
   -- "accepting turns to Reorganization, replies to its caller and is idle": with the number of the caller's call
   pub accepted-replies : step (merging (filled Election 32 1 100 none 10 (Accepting 3 (callNo 5))) forwarder (replies 1 2 (callNo 10) true ∷ [])) (Deliver 1 2)
       ≡ accepted (merging (filled Reorganization 32 1 100 none 10 Idle) forwarder (replies 2 3 (callNo 5) true ∷ [])) Plain
@@ -511,6 +516,15 @@ pub record FurtherCases : Type 0 where
   pub ready-normal : step (beside (follower Normal 32 100 none 2 Idle) (ready 32 200)) (Deliver 1 2) ≡ accepted (beside (follower Normal 32 100 none 2 Idle) plain) Plain
   pub ready-busy : step (beside (follower Reorganization 32 100 none 2 Contacting) (ready 32 200)) (Deliver 1 2)
       ≡ accepted (beside (follower Normal 32 200 none 2 Contacting) plain) Plain
+  -- the messages, field by field: "1 AreYouCoordinator; 2 AreYouThere (group); 3 Invitation (group); 4 Accept (group); 5 Ready (group, task); 6 reply (yes or no ..)"
+  pub fields-asks : asks 1 2 (callNo 3)
+      ≡ record { sender = 1; receiver = 2; kind = 1; call = callNo 3; group = groupNo 0; task = taskNo 0; yes = false }
+  pub fields-calls : calls 1 4 2 (callNo 3) (groupNo 33)
+      ≡ record { sender = 1; receiver = 2; kind = 4; call = callNo 3; group = groupNo 33; task = taskNo 0; yes = false }
+  pub fields-readies : readies 1 2 (callNo 3) (groupNo 33) (taskNo 100)
+      ≡ record { sender = 1; receiver = 2; kind = 5; call = callNo 3; group = groupNo 33; task = taskNo 100; yes = false }
+  pub fields-replies : replies 1 2 (callNo 3) true
+      ≡ record { sender = 1; receiver = 2; kind = 6; call = callNo 3; group = groupNo 0; task = taskNo 0; yes = true }
   -- 1 "not in range", before 7: a coordinator that does not own the group; a message of group 0; 65 waiting; no node
   pub range-node : step (beside (follower Normal 33 100 none 2 Idle) []) (Crash 9) ≡ refused 1
   pub range-message : step (pair Normal none Idle (invitation 0)) (Crash 9) ≡ refused 1
@@ -565,8 +579,8 @@ pub record FurtherCases : Type 0 where
 -- ── 02, T-03: "An invitation that arrives twice." The events of its story, with the table that each part of them leads to ──
 
 -- nodes 1 and 2 recover, and 2 takes 1 into its group 33, with task 250; its question to 3, which is Down, is lost
-abbrev pub formerGroup : List Event
-formerGroup =
+abbrev pub joinsFormer : List Event
+joinsFormer =
     Recover 1
     ∷ Recover 2
     ∷ Check 2
@@ -586,16 +600,16 @@ formerGroup =
 abbrev pub inFormerGroup : State
 inFormerGroup = three (node Normal 1 33 2 250 none 1 Idle) (node Normal 2 33 2 250 (setOf (1 ∷ [])) 4 Idle) startingNode []
 
--- node 1 loses power and is then alone; 3 recovers, asks 1 and 2, which say yes, and merges: it invites 2
-abbrev pub newCoordinator : List Event
-newCoordinator = Crash 1 ∷ Recover 1 ∷ Recover 3 ∷ Check 3 ∷ Deliver 3 1 ∷ Deliver 1 3 ∷ Deliver 3 2 ∷ Deliver 2 3 ∷ []
+-- node 1 crashes, and recovers into a group of its own; 3 recovers, asks 1 and 2, which say yes, and merges: it invites 2
+abbrev pub newMerges : List Event
+newMerges = Crash 1 ∷ Recover 1 ∷ Recover 3 ∷ Check 3 ∷ Deliver 3 1 ∷ Deliver 1 3 ∷ Deliver 3 2 ∷ Deliver 2 3 ∷ []
 
-abbrev pub withNewCoordinator : State
-withNewCoordinator =
+abbrev pub afterMerge : State
+afterMerge =
     three (node Normal 2 32 1 1 none 1 Idle) (node Normal 2 33 2 250 (setOf (1 ∷ [])) 4 Idle) (node Election 2 34 3 3 none 3 (Inviting (setOf (1 ∷ [])) none 2))
     (calls 3 3 2 (callNo 3) (groupNo 34) ∷ [])
 
--- 2 forwards the invitation to 1, its member, and gives up waiting for the answer; it accepts, and 3 invites 1
+-- 2 forwards the invitation to 1, which it still has as a member, and gives up waiting for the answer; it accepts, and 3 invites 1
 abbrev pub bothInvite : List Event
 bothInvite = Deliver 3 2 ∷ Expire 2 ∷ Deliver 2 3 ∷ Deliver 3 2 ∷ Deliver 2 3 ∷ []
 
@@ -605,8 +619,8 @@ invitedByBoth =
     (calls 2 3 1 (callNo 5) (groupNo 34) ∷ calls 3 3 1 (callNo 4) (groupNo 34) ∷ [])
 
 -- 1 gets the invitation of 3 and accepts, and 3 hands task 300 to both
-abbrev pub newGroup : List Event
-newGroup =
+abbrev pub joinsNew : List Event
+joinsNew =
     Deliver 3 1
     ∷ Deliver 1 3
     ∷ Deliver 3 1
@@ -618,42 +632,42 @@ newGroup =
     ∷ Deliver 1 3
     ∷ []
 
--- with the messages q
+-- with the messages q: all three are Normal in the group 34 of node 3
 abbrev pub inNewGroup : List Message → State
 inNewGroup q =
     three (node Normal 2 34 3 300 none 2 Idle) (node Normal 2 34 3 300 (setOf (1 ∷ [])) 6 Idle) (node Normal 2 34 3 300 (setOf (1 ∷ 2 ∷ [])) 6 Idle) q
 
--- all of them, before the invitation that 2 forwarded comes
-abbrev pub beforeForwarded : List Event
-beforeForwarded = formerGroup ++ (newCoordinator ++ (bothInvite ++ newGroup))
+-- all of them: node 1 has had the invitation once, and the one that 2 forwarded is still to come
+abbrev pub invitedOnce : List Event
+invitedOnce = joinsFormer ++ (newMerges ++ (bothInvite ++ joinsNew))
 
 pub record InvitedTwice : Type 0 where
   -- "its former coordinator"
-  pub former : run 3 formerGroup ≡ inFormerGroup
-  -- "invited by a new coordinator"
-  pub new : run 3 (formerGroup ++ newCoordinator) ≡ withNewCoordinator
+  pub former : run 3 joinsFormer ≡ inFormerGroup
+  -- "a new coordinator"
+  pub merges : run 3 (joinsFormer ++ newMerges) ≡ afterMerge
   -- "A cabinet was invited by a new coordinator, and the same invitation was also forwarded to it by its former coordinator."
-  pub invited : run 3 (formerGroup ++ (newCoordinator ++ bothInvite)) ≡ invitedByBoth
+  pub both : run 3 (joinsFormer ++ (newMerges ++ bothInvite)) ≡ invitedByBoth
   -- "The forwarded one was slow. It came when the cabinet was Normal in the new group": it alone still waits
-  pub normal : run 3 beforeForwarded ≡ inNewGroup (calls 2 3 1 (callNo 5) (groupNo 34) ∷ [])
+  pub normal : run 3 invitedOnce ≡ inNewGroup (calls 2 3 1 (callNo 5) (groupNo 34) ∷ [])
   -- "an invitation to the group a cabinet already holds gets a plain reply and changes nothing else": before and after it only the messages differ
-  pub only-messages : run 3 (beforeForwarded ++ (Deliver 2 1 ∷ [])) ≡ inNewGroup (replies 1 2 (callNo 5) true ∷ [])
+  pub only-messages : run 3 (invitedOnce ++ (Deliver 2 1 ∷ [])) ≡ inNewGroup (replies 1 2 (callNo 5) true ∷ [])
   -- node 2 no longer waits for the reply, and drops it
-  pub reply-dropped : run 3 (beforeForwarded ++ (Deliver 2 1 ∷ Deliver 1 2 ∷ [])) ≡ inNewGroup []
+  pub reply-dropped : run 3 (invitedOnce ++ (Deliver 2 1 ∷ Deliver 1 2 ∷ [])) ≡ inNewGroup []
 
 -- "an invitation to the group a cabinet already holds", and to another: node 2 is in the group 32 of node 1, which invites it
 pub record HeldGroupCases : Type 0 where
-  -- whatever its status, activity and members
-  pub busy : step (beside (follower Normal 32 100 (setOf (1 ∷ [])) 2 Contacting) (invitation 32)) (Deliver 1 2)
+  -- in each status: activity, members and all else of the record are kept
+  pub contacting : step (beside (follower Normal 32 100 (setOf (1 ∷ [])) 2 Contacting) (invitation 32)) (Deliver 1 2)
       ≡ accepted (beside (follower Normal 32 100 (setOf (1 ∷ [])) 2 Contacting) plain) Plain
   pub reorganizing : step (beside (follower Reorganization 32 100 none 2 Contacting) (invitation 32)) (Deliver 1 2)
       ≡ accepted (beside (follower Reorganization 32 100 none 2 Contacting) plain) Plain
-  pub election : step (beside (follower Election 32 100 none 2 (Accepting 1 (callNo 3))) (invitation 32)) (Deliver 1 2)
-      ≡ accepted (beside (follower Election 32 100 none 2 (Accepting 1 (callNo 3))) plain) Plain
+  pub election : step (beside (follower Election 32 100 none 2 (Accepting 1 (callNo 2))) (invitation 32)) (Deliver 1 2)
+      ≡ accepted (beside (follower Election 32 100 none 2 (Accepting 1 (callNo 2))) plain) Plain
   -- a reply is no call, and the message delivered is out: neither 13 nor 14 is met
   pub calls-end : step (beside (follower Normal 32 100 none 16777215 Idle) (invitation 32)) (Deliver 1 2)
       ≡ accepted (beside (follower Normal 32 100 none 16777215 Idle) plain) Plain
-  pub full : step (beside (follower Normal 32 100 none 2 Idle) (invitation 32 ++ queued 63)) (Deliver 1 2)
+  pub queue-full : step (beside (follower Normal 32 100 none 2 Idle) (invitation 32 ++ queued 63)) (Deliver 1 2)
       ≡ accepted (beside (follower Normal 32 100 none 2 Idle) (queued 63 ++ plain)) Plain
   -- another group of the same coordinator is another group, be it older or newer: it goes into Election and calls Accept
   pub older-group : step (beside (follower Normal 32 100 none 2 Contacting) (invitation 16)) (Deliver 1 2)

@@ -1,14 +1,14 @@
 -- What is claimed of the definitions. The proofs are in proofs/.
-use Prim.Native.Nat.{ℕ, _+_, _^_, _≤_, _<_}
+use Prim.Native.Nat.{ℕ, _+_, _-_, _^_, _≤_, _<_}
 use mathlib.Core.Bool.{Bool, true, false}
 use mathlib.Core.Path.{_≡_}
 use mathlib.Core.Logic.{_⊎_}
 use mathlib.Core.List.{List, [], _∷_, _++_}
-use lib.ListN.{length}
-use Rattle.node_set.specs.NodeSet.{has}
-use Rattle.model.specs.Limits.{nodeLimit}
-use Rattle.model.specs.Node.{isDown, isNormal, ownerOf, replies}
-use Rattle.model.specs.Procedures.{inviteNext, handNext, forwardNext}
+use lib.ListN.{length, set}
+use Rattle.node_set.specs.NodeSet.{has, without}
+use Rattle.model.specs.Limits.{nodeLimit, callEnd}
+use Rattle.model.specs.Node.{isDown, isNormal, ownerOf, nextCall, calls, replies}
+use Rattle.model.specs.Procedures.{next, inviteNext, handNext, forwardNext}
 use Rattle.model.specs.React.{leads, checked, expired, resumed}
 use Rattle.model.specs.Range.{carriesGroup}
 use Rattle.model.specs.State.{State, start, nodeAt, goes, waits, oldest, withoutOldest, inRange}
@@ -316,39 +316,78 @@ pub record CallOrder : Type 0 where
 
 -- ── 02, T-03: an invitation that arrives twice ──
 
--- an invitation can be delivered from a to b: the table is in range, b is not Down, and the oldest message that waits from a to b is of kind 3
-pub record InvitationWaits (s : State) (a b : ℕ) : Type 0 where
+-- the delivery from a to b brings an invitation to b: the table is in range, b is not Down, and the oldest message from a to b is of kind 3 (where none waits,
+-- `oldest` has kind 0)
+pub record InvitationReaches (s : State) (a b : ℕ) : Type 0 where
   pub in-range : inRange s ≡ true
-  pub up : isDown (nodeAt s b .status) ≡ false
-  pub waiting : waits a b (s .queue) ≡ true
+  pub not-down : isDown (nodeAt s b .status) ≡ false
   pub kind : oldest a b (s .queue) .kind ≡ 3
 
--- "gets a plain reply and changes nothing else": all records are as they were; the oldest message from a to b is out, and behind the others is one reply from b
--- to a, yes, with the number of the call
-abbrev pub plainlyReplied : State → ℕ → ℕ → State
-plainlyReplied s a b = record {
+-- b owns the group of that message; b holds it
+abbrev pub Owns : State → ℕ → ℕ → Type 0
+Owns s a b = ownerOf (oldest a b (s .queue) .group .number) ≡ b
+
+abbrev pub Holds : State → ℕ → ℕ → Type 0
+Holds s a b = nodeAt s b .group .number ≡ oldest a b (s .queue) .group .number
+
+-- none of the three grounds for a plain reply applies
+pub record NoPlainReply (s : State) (a b : ℕ) : Type 0 where
+  pub normal : isNormal (nodeAt s b .status) ≡ true
+  pub not-owned : Owns s a b → ⊥
+  pub not-held : Holds s a b → ⊥
+
+-- "a plain reply and changes nothing else": all records are as they were; the oldest message from a to b is out, and behind the others is one reply from b to a,
+-- yes, with the number of the call
+abbrev pub withPlainReply : State → ℕ → ℕ → State
+withPlainReply s a b = record {
   n = s .n;
   nodes = s .nodes;
   queue = withoutOldest a b (s .queue) ++ (replies b a (oldest a b (s .queue) .call) true ∷ []);
 }
 
--- The delivery of an invitation, in every table in range: the three grounds for a plain reply, and that there is no fourth.
-pub record PlainReplies : Type 0 where
-  -- 01: "if not Normal"
-  pub not-normal : (s : State) (a b : ℕ) → InvitationWaits s a b → isNormal (nodeAt s b .status) ≡ false
-      → step s (Deliver a b) ≡ accepted (plainlyReplied s a b) Plain
+-- the oldest message from a to b was an invitation, and b acted on it: b is in Election in the new group, with its owner as coordinator and the activity x; counter,
+-- task and members are kept; that message is out, and b's call m is behind the others
+abbrev pub withCall : State → ℕ → ℕ → Activity → Message → State
+withCall s a b x m = record {
+  n = s .n;
+  nodes = set (s .nodes) (b - 1)
+      (record {
+        status = Election;
+        counter = nodeAt s b .counter;
+        group = oldest a b (s .queue) .group;
+        coordinator = ownerOf (oldest a b (s .queue) .group .number);
+        task = nodeAt s b .task;
+        members = nodeAt s b .members;
+        last = nextCall (nodeAt s b);
+        activity = x;
+      });
+  queue = withoutOldest a b (s .queue) ++ (m ∷ []);
+}
+
+-- The delivery of an invitation, whole: every case of 01's kind 3 with T-03, in every table in range.
+pub record InvitationRules : Type 0 where
+  -- 01: "3: if not Normal"
+  pub not-normal : (s : State) (a b : ℕ) → InvitationReaches s a b → isNormal (nodeAt s b .status) ≡ false → step s (Deliver a b) ≡ accepted (withPlainReply s a b) Plain
   -- "or it owns that group"
-  pub owned : (s : State) (a b : ℕ) → InvitationWaits s a b → ownerOf (oldest a b (s .queue) .group .number) ≡ b
-      → step s (Deliver a b) ≡ accepted (plainlyReplied s a b) Plain
-  -- 02: "an invitation to the group a cabinet already holds", whatever its status
-  pub held : (s : State) (a b : ℕ) → InvitationWaits s a b → nodeAt s b .group .number ≡ oldest a b (s .queue) .group .number
-      → step s (Deliver a b) ≡ accepted (plainlyReplied s a b) Plain
-  -- 01: "Otherwise .. Election, the new group and its owner as coordinator", where it is not refused (13)
-  pub otherwise : (s : State) (a b : ℕ) → InvitationWaits s a b → isNormal (nodeAt s b .status) ≡ true
-      → (ownerOf (oldest a b (s .queue) .group .number) ≡ b → ⊥) → (nodeAt s b .group .number ≡ oldest a b (s .queue) .group .number → ⊥)
-      → (u : State) (k : Mark) → step s (Deliver a b) ≡ accepted u k
-      → (nodeAt u b .status ≡ Election) × (nodeAt u b .group ≡ oldest a b (s .queue) .group) × (nodeAt u b .coordinator ≡ ownerOf (oldest a b (s .queue) .group .number))
-  -- so in every run, whatever came before: an invitation to the group that its receiver holds
-  pub runs : (n : ℕ) → 1 ≤ n → n ≤ nodeLimit → (es : List Event) (a b : ℕ) → isDown (nodeAt (run n es) b .status) ≡ false → waits a b (run n es .queue) ≡ true
-      → oldest a b (run n es .queue) .kind ≡ 3 → nodeAt (run n es) b .group .number ≡ oldest a b (run n es .queue) .group .number
-      → run n (es ++ (Deliver a b ∷ [])) ≡ plainlyReplied (run n es) a b
+  pub owned : (s : State) (a b : ℕ) → InvitationReaches s a b → Owns s a b → step s (Deliver a b) ≡ accepted (withPlainReply s a b) Plain
+  -- 02: "an invitation to the group a cabinet already holds": whatever else is in its record
+  pub held : (s : State) (a b : ℕ) → InvitationReaches s a b → Holds s a b → step s (Deliver a b) ≡ accepted (withPlainReply s a b) Plain
+  -- 01: "Otherwise .. If it was its own coordinator, it forwards the invitation to each member": to the first of them
+  pub forwards : (s : State) (a b : ℕ) → InvitationReaches s a b → NoPlainReply s a b → nodeAt s b .last .number < callEnd
+      → nodeAt s b .coordinator ≡ b → 0 < nodeAt s b .members
+      → step s (Deliver a b)
+      ≡ accepted (withCall s a b
+      (Forwarding (without (nodeAt s b .members) (next (nodeAt s b .members))) (next (nodeAt s b .members)) a (oldest a b (s .queue) .call))
+      (calls b 3 (next (nodeAt s b .members)) (nextCall (nodeAt s b)) (oldest a b (s .queue) .group))) Plain
+  -- "then it calls Accept on the new coordinator": at once where another leads it, or where it has no member
+  pub accepts : (s : State) (a b : ℕ) → InvitationReaches s a b → NoPlainReply s a b → nodeAt s b .last .number < callEnd
+      → (nodeAt s b .coordinator ≡ b → nodeAt s b .members ≡ 0)
+      → step s (Deliver a b)
+      ≡ accepted (withCall s a b (Accepting a (oldest a b (s .queue) .call))
+      (calls b 4 (ownerOf (oldest a b (s .queue) .group .number)) (nextCall (nodeAt s b)) (oldest a b (s .queue) .group))) Plain
+  -- 13: "a call is needed, last call number 16,777,215"
+  pub calls-end : (s : State) (a b : ℕ) → InvitationReaches s a b → NoPlainReply s a b → nodeAt s b .last .number ≡ callEnd → step s (Deliver a b) ≡ refused 13
+  -- an invitation to the group that a node holds gets its plain reply in every run
+  pub runs : (n : ℕ) → 1 ≤ n → n ≤ nodeLimit → (es : List Event) (a b : ℕ)
+      → isDown (nodeAt (run n es) b .status) ≡ false → oldest a b (run n es .queue) .kind ≡ 3 → Holds (run n es) a b
+      → run n (es ++ (Deliver a b ∷ [])) ≡ withPlainReply (run n es) a b

@@ -2,7 +2,7 @@
 -- Where Step refuses an event by its numbers, the node's status or activity, or for want of a message (7 to 11), what is written here does not matter.
 -- Grounds 12 to 14 are read off what is written here.
 use Prim.Native.Nat.{ℕ, _-_}
-use mathlib.Core.Bool.{Bool, true, false, not, _&&_, _||_}
+use mathlib.Core.Bool.{Bool, true, not, _&&_, _||_}
 use lib.Dec.{eqb, ltb}
 use Rattle.node_set.specs.NodeSet.{has, with}
 use Rattle.model.specs.Pick.{pick}
@@ -88,19 +88,18 @@ unfoldable pub onAreYouThere : ℕ → Node → Message → Reaction
 onAreYouThere i c m =
     answers i c m (eqb (c .group .number) (m .group .number) && eqb (c .coordinator) i && has (c .members) (m .sender))
 
--- 3: node i only replies to an invitation to group g. 01: "if not Normal, or it owns that group, plain reply and no change." 02, T-03: "From now on an invitation to
--- the group a cabinet already holds gets a plain reply and changes nothing else. This amends the delivery of kind 3."
+-- the grounds for a plain reply to an invitation to group g: two of 01, and that of 02, T-03, which "amends the delivery of kind 3"
 abbrev pub onlyReplies : ℕ → Node → GroupNo → Bool
 onlyReplies i c g =
-    -- "not Normal"
+    -- "3: if not Normal,
     not (isNormal (c .status))
-    -- "or it owns that group"
+    -- or it owns that group, plain reply and no change."
     || eqb (ownerOf (g .number)) i
-    -- "the group a cabinet already holds"
+    -- 02: "From now on an invitation to the group a cabinet already holds gets a plain reply and changes nothing else."
     || eqb (c .group .number) (g .number)
 
--- "Otherwise its activity stops; Election, the new group and its owner as coordinator. If it was its own coordinator, it forwards the invitation to each member;
--- then it calls Accept on the new coordinator."
+-- 3: "Otherwise its activity stops; Election, the new group and its owner as coordinator. If it was its own coordinator, it forwards the invitation to each member;
+-- then it calls Accept on the new coordinator. The member set is kept."
 unfoldable pub onInvitation : ℕ → Node → Message → Reaction
 onInvitation i c m =
     pick (onlyReplies i c (m .group))

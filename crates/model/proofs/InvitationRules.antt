@@ -1,0 +1,197 @@
+-- The delivery of an invitation in every table in range: a plain reply on each of three grounds; else it is forwarded, accepted, or refused for want of a call number.
+use Prim.Native.Nat.{ℕ, zero, suc, _-_, _<_}
+use native.Mathlib.Omega.{arith}
+use mathlib.Core.Bool.{Bool, true, false, not, _&&_, _||_, true≢false}
+use mathlib.Core.Path.{_≡_, refl, sym, _∙_, ap, subst}
+use mathlib.Core.List.{List, [], _∷_, _++_}
+use lib.Dec.{eqb}
+use lib.ListN.{length, getD, set}
+use borrow.Author.Tests.{eqb-true, eq-eqb, le-leb, ne-eqb}
+use Rattle.node_set.specs.NodeSet.{without}
+use Rattle.model.specs.Pick.{pick, pick-true, pick-false, by-test}
+use Rattle.model.specs.Limits.{queueLimit, counterEnd, callEnd}
+use Rattle.model.specs.Node.{ownerOf, nextCall, invited, calling, calls, replies}
+use Rattle.model.specs.Procedures.{next, reaction, forwardNext}
+use Rattle.model.specs.React.{onlyReplies, onInvitation, react}
+use Rattle.model.specs.State.{State, start, startingNode, nodeAt, goes, waits, oldest, withoutOldest}
+use Rattle.model.specs.Step.{reactionTo, remaining, sent, effect, wrongNumber, forms, isCalling, isSending, grounds, refused, accepted, judged, step, kept, runFrom, run}
+use Rattle.model.specs.Claims.{InvitationReaches, NoPlainReply, withPlainReply, withCall, InvitationRules}
+use Rattle.model.proofs.Judged.{Clear, clear-accepts}
+use Rattle.model.proofs.Local.{both-left, both-right}
+use Rattle.model.proofs.Whole.{run-append}
+use Rattle.model.proofs.Fields.{IsNode, IsOther, MessageFacts, message-facts, in-range-size, in-range-oldest, oldest-goes}
+use Rattle.model.proofs.InRange.{without-length, stays-in-range}
+use Rattle.model.proofs.Invitation.{where-not-normal, where-owned, where-held, where-none, plain-reply, acted-on, kind-three}
+use Rattle.model.specs.declared.Status.{Status}
+use Rattle.model.specs.declared.Status.the-variants.{Election}
+use Rattle.model.specs.declared.Activity.{Activity}
+use Rattle.model.specs.declared.Activity.the-variants.{Forwarding, Accepting}
+use Rattle.model.specs.declared.Node.{Node}
+use Rattle.model.specs.declared.Message.{Message}
+use Rattle.model.specs.declared.Outgoing.the-variants.{Send}
+use Rattle.model.specs.declared.Mark.the-variants.{Plain}
+use Rattle.model.specs.declared.Reaction.{Reaction}
+use Rattle.model.specs.declared.Event.{Event}
+use Rattle.model.specs.declared.Event.the-variants.{Deliver}
+
+-- what stands at a place is stored there
+set-same : {A : Type 0} (l : List A) (k : ℕ) (d : A) → set l k (getD l k d) ≡ l
+set-same [] k d = refl
+set-same (x ∷ l) zero d = refl
+set-same (x ∷ l) (suc k) d = ap (λ (r : List _). x ∷ r) (set-same l k d)
+
+-- a message of kind 3 waits
+kind-waits : (a b : ℕ) (q : List Message) → oldest a b q .kind ≡ 3 → waits a b q ≡ true
+unfolding waits oldest
+kind-waits a b [] k = let z : _≡_ {A = ℕ} 0 3 = k in absurd (omega arith)
+kind-waits a b (m ∷ ms) k = by-test (λ (x : Message). x .kind ≡ 3 → goes a b m || waits a b ms ≡ true) (λ t _. rw t) (λ t h. rw t (kind-waits a b ms h)) k
+
+-- what a node does with an invitation, whatever the table
+module _ (s : State) (a b : ℕ) (k : oldest a b (s .queue) .kind ≡ 3) where
+  abbrev m : Message
+  m = oldest a b (s .queue)
+
+  abbrev c : Node
+  c = nodeAt s b
+
+  reacts : reactionTo s (Deliver a b) ≡ onInvitation b c m
+  unfolding reactionTo react
+  reacts = kind-three (s .n) b c m k
+
+  -- those to whom it forwards
+  abbrev rest : ℕ
+  rest = pick (eqb (c .coordinator) b) (c .members) 0
+
+  module _ (x : NoPlainReply s a b) where
+    acts : reactionTo s (Deliver a b) ≡ forwardNext b (invited c (m .group)) rest (m .sender) (m .call)
+    acts = reacts ∙ acted-on b c m (where-none b c (m .group) (x .normal) (x .not-owned) (x .not-held))
+
+    pub acts-election : reactionTo s (Deliver a b) .node .status ≡ Election
+    unfolding forwardNext
+    acts-election = ap (λ (r : Reaction). r .node .status) acts ∙ by-test (λ (r : Reaction). r .node .status ≡ Election) (λ _. refl) (λ _. refl)
+
+    acts-plain : forms (reactionTo s (Deliver a b) .mark) ≡ false
+    unfolding forwardNext
+    acts-plain = ap (λ (r : Reaction). forms (r .mark)) acts ∙ by-test (λ (r : Reaction). forms (r .mark) ≡ false) (λ _. refl) (λ _. refl)
+
+    acts-calling : isCalling (reactionTo s (Deliver a b) .outgoing) ≡ true
+    unfolding forwardNext
+    acts-calling = ap (λ (r : Reaction). isCalling (r .outgoing)) acts ∙ by-test (λ (r : Reaction). isCalling (r .outgoing) ≡ true) (λ _. refl) (λ _. refl)
+
+-- in a table in range
+module _ (s : State) (a b : ℕ) (x : InvitationReaches s a b) where
+  waiting : waits a b (s .queue) ≡ true
+  waiting = kind-waits a b (s .queue) (x .kind)
+
+  facts : MessageFacts (s .n) (oldest a b (s .queue))
+  facts = message-facts (s .n) (oldest a b (s .queue)) (in-range-oldest s a b (x .in-range) waiting)
+
+  from : oldest a b (s .queue) .sender ≡ a
+  from = eqb-true _ a (both-left (eqb (oldest a b (s .queue) .sender) a) _ (oldest-goes a b (s .queue) waiting))
+
+  to : oldest a b (s .queue) .receiver ≡ b
+  to = eqb-true _ b (both-right (eqb (oldest a b (s .queue) .sender) a) _ (oldest-goes a b (s .queue) waiting))
+
+  numbers : wrongNumber (s .n) (Deliver a b) ≡ false
+  numbers =
+      let f : IsNode (s .n) a = subst (IsNode (s .n)) from (facts .sender) in
+      let t : IsOther (s .n) a b = subst (λ (j : ℕ). IsOther (s .n) j b) from (subst (IsOther (s .n) (oldest a b (s .queue) .sender)) to (facts .receiver)) in
+      simp (le-leb 1 a (f .low), le-leb a (s .n) (f .high), le-leb 1 b (t .low), le-leb b (s .n) (t .high), ne-eqb b a (t .other))
+
+  -- it is accepted where what the node does needs no group and no call that is not to be had
+  clear : forms (reactionTo s (Deliver a b) .mark) ≡ false → isCalling (reactionTo s (Deliver a b) .outgoing) && eqb (nodeAt s b .last .number) callEnd ≡ false
+      → Clear s (Deliver a b)
+  unfolding remaining
+  clear f h =
+      record {
+        in-range = x .in-range;
+        number = numbers;
+        task = refl;
+        status = x .not-down;
+        activity = refl;
+        waiting = ap not waiting;
+        counter = ap (λ (t : Bool). t && eqb (nodeAt s b .counter) counterEnd) f;
+        calls = h;
+        room = off (isSending (reactionTo s (Deliver a b) .outgoing))
+            (ne-eqb (length (withoutOldest a b (s .queue))) queueLimit (λ q. omega (arith, q, without-length a b (s .queue) waiting, in-range-size s (x .in-range) .3)));
+      }
+    where
+      off : (t : Bool) {y : Bool} → y ≡ false → t && y ≡ false
+      off true e = e
+      off false e = refl
+
+  -- what the node does says what the step is
+  leaves : (d : Node) (y : Message) → reactionTo s (Deliver a b) ≡ reaction d (Send y) Plain → Clear s (Deliver a b)
+      → step s (Deliver a b) ≡ accepted (record { n = s .n; nodes = set (s .nodes) (b - 1) d; queue = withoutOldest a b (s .queue) ++ (y ∷ []) }) Plain
+  unfolding effect remaining
+  leaves d y e h =
+      clear-accepts s (Deliver a b) h
+      ∙ ap (λ (r : Reaction). accepted (record { n = s .n; nodes = set (s .nodes) (b - 1) (r .node); queue = withoutOldest a b (s .queue) ++ sent (r .outgoing) }) (r .mark)) e
+
+  plainly : onlyReplies b (nodeAt s b) (oldest a b (s .queue) .group) ≡ true → step s (Deliver a b) ≡ accepted (withPlainReply s a b) Plain
+  plainly e =
+      leaves (nodeAt s b) (replies b a (oldest a b (s .queue) .call) true) answer
+      (clear (ap (λ (r : Reaction). forms (r .mark)) answer) (ap (λ (r : Reaction). isCalling (r .outgoing) && eqb (nodeAt s b .last .number) callEnd) answer))
+      ∙ ap (λ (l : List Node). accepted (record { n = s .n; nodes = l; queue = withPlainReply s a b .queue }) Plain) (set-same (s .nodes) (b - 1) startingNode)
+    where
+      answer : reactionTo s (Deliver a b) ≡ reaction (nodeAt s b) (Send (replies b a (oldest a b (s .queue) .call) true)) Plain
+      answer =
+          reacts s a b (x .kind)
+          ∙ plain-reply b (nodeAt s b) (oldest a b (s .queue)) e
+          ∙ ap (λ (j : ℕ). reaction (nodeAt s b) (Send (replies b j (oldest a b (s .queue) .call) true)) Plain) from
+
+  module _ (y : NoPlainReply s a b) where
+    calling-clear : nodeAt s b .last .number < callEnd → Clear s (Deliver a b)
+    calling-clear l =
+        clear (acts-plain s a b (x .kind) y)
+        (ap (λ (t : Bool). t && eqb (nodeAt s b .last .number) callEnd) (acts-calling s a b (x .kind) y) ∙ ne-eqb (nodeAt s b .last .number) callEnd (λ q. omega arith))
+
+    abbrev joins : ℕ → Reaction
+    joins r = forwardNext b (invited (nodeAt s b) (oldest a b (s .queue) .group)) r a (oldest a b (s .queue) .call)
+
+    acting : (r : ℕ) → rest s a b (x .kind) ≡ r → reactionTo s (Deliver a b) ≡ joins r
+    acting r e =
+        acts s a b (x .kind) y
+        ∙ ap (λ (j : ℕ). forwardNext b (invited (nodeAt s b) (oldest a b (s .queue) .group)) (rest s a b (x .kind)) j (oldest a b (s .queue) .call)) from
+        ∙ ap joins e
+
+    accepts : nodeAt s b .last .number < callEnd → rest s a b (x .kind) ≡ 0
+        → step s (Deliver a b)
+        ≡ accepted (withCall s a b (Accepting a (oldest a b (s .queue) .call))
+        (calls b 4 (ownerOf (oldest a b (s .queue) .group .number)) (nextCall (nodeAt s b)) (oldest a b (s .queue) .group))) Plain
+    unfolding forwardNext
+    accepts l e = leaves _ _ (acting 0 e ∙ pick-true _ _) (calling-clear l)
+
+    forwards : nodeAt s b .last .number < callEnd → rest s a b (x .kind) ≡ nodeAt s b .members → 0 < nodeAt s b .members
+        → step s (Deliver a b)
+        ≡ accepted (withCall s a b
+        (Forwarding (without (nodeAt s b .members) (next (nodeAt s b .members))) (next (nodeAt s b .members)) a (oldest a b (s .queue) .call))
+        (calls b 3 (next (nodeAt s b .members)) (nextCall (nodeAt s b)) (oldest a b (s .queue) .group))) Plain
+    unfolding forwardNext pick
+    forwards l e p = leaves _ _ (acting (nodeAt s b .members) e ∙ rw (ne-eqb (nodeAt s b .members) 0 (λ q. omega arith))) (calling-clear l)
+
+    calls-end : nodeAt s b .last .number ≡ callEnd → step s (Deliver a b) ≡ refused 13
+    unfolding step grounds judged pick
+    calls-end l =
+        rw (x .in-range, numbers, x .not-down, waiting, acts-plain s a b (x .kind) y, acts-calling s a b (x .kind) y, eq-eqb _ _ l)
+
+pub invitation-rules : InvitationRules
+unfolding runFrom
+invitation-rules =
+    record {
+      not-normal = λ s a b x e. plainly s a b x (where-not-normal b (nodeAt s b) _ e);
+      owned = λ s a b x e. plainly s a b x (where-owned b (nodeAt s b) _ e);
+      held = λ s a b x e. plainly s a b x (where-held b (nodeAt s b) _ e);
+      forwards = λ s a b x y l o p. forwards s a b x y l (own s b o) p;
+      accepts = λ s a b x y l o. accepts s a b x y l (none s b o);
+      calls-end = calls-end;
+      runs = λ n l h es a b u k g.
+          run-append (start n) es (Deliver a b ∷ [])
+          ∙ ap (kept (run n es)) (plainly (run n es) a b (record { in-range = stays-in-range .runs n l h es; not-down = u; kind = k }) (where-held b (nodeAt (run n es) b) _ g));
+    }
+  where
+    own : (s : State) (b : ℕ) → nodeAt s b .coordinator ≡ b → pick (eqb (nodeAt s b .coordinator) b) (nodeAt s b .members) 0 ≡ nodeAt s b .members
+    own s b o = ap (λ (t : Bool). pick t (nodeAt s b .members) 0) (eq-eqb _ _ o) ∙ pick-true _ _
+
+    none : (s : State) (b : ℕ) → (nodeAt s b .coordinator ≡ b → nodeAt s b .members ≡ 0) → pick (eqb (nodeAt s b .coordinator) b) (nodeAt s b .members) 0 ≡ 0
+    none s b o = by-test (λ (r : ℕ). r ≡ 0) (λ t. o (eqb-true _ b t)) (λ _. refl)
