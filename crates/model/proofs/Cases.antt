@@ -240,10 +240,12 @@ held-group-cases =
       contacting = refl;
       reorganizing = refl;
       election = refl;
+      owner = refl;
       calls-end = refl;
       queue-full = refl;
       older-group = refl;
       newer-group = refl;
+      other-calls-end = refl;
     }
 
 pub range-cases : RangeCases

@@ -664,16 +664,20 @@ pub record HeldGroupCases : Type 0 where
       ≡ accepted (beside (follower Reorganization 32 100 none 2 Contacting) plain) Plain
   pub election : step (beside (follower Election 32 100 none 2 (Accepting 1 (callNo 2))) (invitation 32)) (Deliver 1 2)
       ≡ accepted (beside (follower Election 32 100 none 2 (Accepting 1 (callNo 2))) plain) Plain
+  -- where it owns the group as well: its own group 33
+  pub owner : step (pair Normal none Idle (invitation 33)) (Deliver 1 2) ≡ accepted (pair Normal none Idle plain) Plain
   -- a reply is no call, and the message delivered is out: neither 13 nor 14 is met
   pub calls-end : step (beside (follower Normal 32 100 none 16777215 Idle) (invitation 32)) (Deliver 1 2)
       ≡ accepted (beside (follower Normal 32 100 none 16777215 Idle) plain) Plain
   pub queue-full : step (beside (follower Normal 32 100 none 2 Idle) (invitation 32 ++ queued 63)) (Deliver 1 2)
       ≡ accepted (beside (follower Normal 32 100 none 2 Idle) (queued 63 ++ plain)) Plain
   -- another group of the same coordinator is another group, be it older or newer: it goes into Election and calls Accept
-  pub older-group : step (beside (follower Normal 32 100 none 2 Contacting) (invitation 16)) (Deliver 1 2)
-      ≡ accepted (beside (follower Election 16 100 none 3 (Accepting 1 (callNo 3))) (calls 2 4 1 (callNo 3) (groupNo 16) ∷ [])) Plain
-  pub newer-group : step (beside (follower Normal 32 100 none 2 Contacting) (invitation 48)) (Deliver 1 2)
-      ≡ accepted (beside (follower Election 48 100 none 3 (Accepting 1 (callNo 3))) (calls 2 4 1 (callNo 3) (groupNo 48) ∷ [])) Plain
+  pub older-group : step (beside (follower Normal 32 100 none 5 Contacting) (invitation 16)) (Deliver 1 2)
+      ≡ accepted (beside (follower Election 16 100 none 6 (Accepting 1 (callNo 3))) (calls 2 4 1 (callNo 6) (groupNo 16) ∷ [])) Plain
+  pub newer-group : step (beside (follower Normal 32 100 none 5 Contacting) (invitation 48)) (Deliver 1 2)
+      ≡ accepted (beside (follower Election 48 100 none 6 (Accepting 1 (callNo 3))) (calls 2 4 1 (callNo 6) (groupNo 48) ∷ [])) Plain
+  -- for which it needs a call number
+  pub other-calls-end : step (beside (follower Normal 32 100 none 16777215 Idle) (invitation 16)) (Deliver 1 2) ≡ refused 13
 
 -- ── records, messages and tables at the ends of what is in range, and just outside: node 2 of three, and messages among three ──
 
