@@ -309,18 +309,21 @@ pub fn shortest_run(library: &impl Library, n: u8, events: &[Event]) -> (u8, Vec
         run_difference(library, n, events, None).is_some()
             || list_difference(library, &write_list(n, events)).is_some()
     };
-    let mut events = events.to_vec();
+    let (mut n, mut events) = (n, events.to_vec());
     if let Some(found) = run_difference(library, n, &events, None) {
         events.truncate(found.events);
     }
-    let n = (1..n).find(|&fewer| differs(fewer, &events)).unwrap_or(n);
-    let events = shortest(events, |events| differs(n, events));
-    let (fewer, renamed) = renumbered(n, &events);
-    if differs(fewer, &renamed) {
-        return (fewer, renamed);
+    // With fewer nodes fewer events may do.
+    loop {
+        n = (1..n).find(|&fewer| differs(fewer, &events)).unwrap_or(n);
+        events = shortest(events, |events| differs(n, events));
+        let (fewer, renamed) = renumbered(n, &events);
+        if fewer < n && differs(fewer, &renamed) {
+            (n, events) = (fewer, renamed);
+        } else if !(1..n).any(|fewer| differs(fewer, &events)) {
+            return (n, events);
+        }
     }
-    let n = (1..n).find(|&fewer| differs(fewer, &events)).unwrap_or(n);
-    (n, events)
 }
 
 /// The same events with the nodes that they name numbered from 1 in their order, and how many they are.

@@ -1,8 +1,10 @@
-//! Counts what the compared events met: refusals, kinds delivered, activities, transitions and picks of
-//! the next node, so that a corner that was never met shows. What document 01 and T-02 of document 02
-//! make possible is written out here.
+//! Counts what the compared events met: refusals, kinds delivered, activities, transitions, picks of the
+//! next node and invitations, so that a corner that was never met shows. What document 01 and T-02 and
+//! T-03 of document 02 make possible is written out here, apart from the machine.
 
-use crate::machine::{only, Activity, Body, Event, Message, Node, Set, Table};
+use crate::machine::{
+    only, owner, Activity, Body, Event, Message, Node, Set, Status, Table, MAX_CALL, MAX_MESSAGES,
+};
 use crate::proved::tag;
 use std::fmt::Write;
 
@@ -32,7 +34,7 @@ const KINDS: [&str; 6] =
     ["AreYouCoordinator", "AreYouThere", "Invitation", "Accept", "Ready", "reply"];
 
 /// What an accepted event did, finer than its name.
-const DEEDS: [&str; 21] = [
+const DEEDS: [&str; 22] = [
     "crash",
     "recover",
     "check",
@@ -47,6 +49,8 @@ const DEEDS: [&str; 21] = [
     "deliver 2, no",
     "deliver 3, no change",
     "deliver 3, new group",
+    // The receiver is Normal, and not the owner.
+    "deliver 3, group held",
     "deliver 4, joins",
     "deliver 4, no change",
     "deliver 5, task taken",
@@ -78,6 +82,53 @@ const PICKS: [&str; 17] = [
     "handing, next lower",
     "inviting, next higher set aside",
     "inviting, the second time",
+];
+
+/// What an invitation meets: the receiver's status, and what the group is to it.
+const INVITED: [&str; 10] = [
+    "invited, Down, group held",
+    "invited, Down, another group",
+    "invited, Election, group held",
+    "invited, Election, another group",
+    "invited, Reorganization, group held",
+    "invited, Reorganization, another group",
+    "invited, Normal, group held",
+    "invited, Normal, group held and owned",
+    "invited, Normal, group owned",
+    "invited, Normal, another group",
+];
+
+/// An invitation to the group that a node holds, which is Normal and not the owner: T-03's.
+const TWICE: [&str; 8] = [
+    // Which no run has: it comes before the owner's Ready, without which nobody else is Normal there.
+    "invited twice, by the owner",
+    "invited twice, forwarded",
+    "invited twice, call open",
+    "invited twice, call given up",
+    "invited twice, with members",
+    // No run here is so long.
+    "invited twice, no call number left",
+    "invited twice, 64 wait",
+    "invited twice, others wait behind it",
+];
+
+/// An invitation to a group that a node neither holds nor owns, which is Normal: it joins as before.
+const ELSEWHERE: [&str; 6] = [
+    "invited elsewhere, its own coordinator",
+    "invited elsewhere, a member",
+    "invited elsewhere, newer group of its coordinator",
+    "invited elsewhere, older group of its coordinator",
+    "invited elsewhere, equal counter",
+    // No run here is so long.
+    "invited elsewhere, no call number left",
+];
+
+/// What no invitation does.
+const WRONG_INVITATIONS: [&str; 4] = [
+    "invited, group held, refused",
+    "invited, group held, a node changes",
+    "invited, group held, not one plain reply behind the rest",
+    "invited elsewhere, does not join",
 ];
 
 /// What no call shows, for each of those who pick.
@@ -131,6 +182,7 @@ fn possible(deed: usize, before: usize) -> &'static [usize] {
         | "deliver 1, no"
         | "deliver 2, no"
         | "deliver 3, no change"
+        | "deliver 3, group held"
         | "deliver 4, no change"
         | "deliver 5, task taken"
         | "deliver 5, no change"
@@ -160,6 +212,8 @@ fn refusable(event: usize, number: usize) -> bool {
 pub struct Before {
     node: Option<Node>,
     message: Option<Message>,
+    /// All of it, where the message is an invitation to the group that its receiver holds.
+    held: Option<Table>,
 }
 
 impl Before {
@@ -171,7 +225,14 @@ impl Before {
             }
             _ => None,
         };
-        Before { node: (1..=table.n.min(16)).contains(&i).then(|| *table.node(i)), message }
+        let node = (1..=table.n.min(16)).contains(&i).then(|| *table.node(i));
+        let held = match (&node, message.map(|m| m.body)) {
+            (Some(node), Some(Body::Invitation { group })) if node.group == group => {
+                Some(table.clone())
+            }
+            _ => None,
+        };
+        Before { node, message, held }
     }
 }
 
@@ -215,11 +276,15 @@ pub struct Corners {
     other_refusals: [u64; 16],
     kinds: [Count; 6],
     activities: [Count; 9],
-    transitions: Box<[[[Count; 9]; 9]; 21]>,
+    transitions: Box<[[[Count; 9]; 9]; 22]>,
     picks: [Count; 17],
     wrong_picks: [Count; 5],
+    invited: [Count; 10],
+    twice: [Count; 8],
+    elsewhere: [Count; 6],
+    wrong_invitations: [Count; 4],
     /// Whom each inviting node has called since it merged, as far as it was seen.
-    invited: [Set; 16],
+    called: [Set; 16],
 }
 
 impl Default for Corners {
@@ -229,10 +294,14 @@ impl Default for Corners {
             other_refusals: [0; 16],
             kinds: [[0; 2]; 6],
             activities: [[0; 2]; 9],
-            transitions: Box::new([[[[0; 2]; 9]; 9]; 21]),
+            transitions: Box::new([[[[0; 2]; 9]; 9]; 22]),
             picks: [[0; 2]; 17],
             wrong_picks: [[0; 2]; 5],
-            invited: [0; 16],
+            invited: [[0; 2]; 10],
+            twice: [[0; 2]; 8],
+            elsewhere: [[0; 2]; 6],
+            wrong_invitations: [[0; 2]; 4],
+            called: [0; 16],
         }
     }
 }
@@ -240,7 +309,7 @@ impl Default for Corners {
 impl Corners {
     /// The events that follow are those of another run, or begin on another table.
     pub fn begin(&mut self) {
-        self.invited = [0; 16];
+        self.called = [0; 16];
     }
 
     /// Counts an event with what followed.
@@ -254,6 +323,9 @@ impl Corners {
     ) {
         let source = source as usize;
         let place = event_place(event);
+        if answer != Err(1) {
+            self.invitation(source, before, answer, after);
+        }
         if let Err(number) = answer {
             self.refused[place][usize::from(number.min(15))][source] += 1;
             return;
@@ -311,9 +383,9 @@ impl Corners {
             }
         }
         if let Activity::Inviting { .. } = after.activity {
-            let invited = &mut self.invited[usize::from(i) - 1];
-            *invited = if goes_on { *invited | only(last) } else { 0 };
-            if picker == 2 && *invited & only(now) != 0 {
+            let called = &mut self.called[usize::from(i) - 1];
+            *called = if goes_on { *called | only(last) } else { 0 };
+            if picker == 2 && *called & only(now) != 0 {
                 met(16);
             }
         }
@@ -322,6 +394,52 @@ impl Corners {
             _ => left > only(now),
         };
         self.wrong_picks[picker][source] += u64::from(wrong);
+    }
+
+    /// Counts what an invitation meets at its receiver, if it is one, on a table in range.
+    fn invitation(
+        &mut self,
+        source: usize,
+        before: &Before,
+        answer: Result<(), u8>,
+        after: &Table,
+    ) {
+        let (Some(node), Some(m)) = (&before.node, &before.message) else {
+            return;
+        };
+        let Body::Invitation { group } = m.body else {
+            return;
+        };
+        let owned = owner(group) == m.receiver;
+        let is = match (node.status, &before.held) {
+            (Status::Normal, Some(_)) => 6 + usize::from(owned),
+            (Status::Normal, None) => 9 - usize::from(owned),
+            (status, held) => 2 * status as usize + usize::from(held.is_none()),
+        };
+        self.invited[is][source] += 1;
+        let normal = node.status == Status::Normal && !owned;
+        let wrong = match &before.held {
+            _ if node.status == Status::Down => [false; 4],
+            // "gets a plain reply and changes nothing else", whatever the status and whoever owns the
+            // group
+            Some(table) => {
+                if normal {
+                    add(&mut self.twice, source, twice(table, m));
+                }
+                let other_nodes = after.nodes != table.nodes;
+                let other_messages = answer.is_ok() && !replied(table, m, after);
+                [answer.is_err(), other_nodes, other_messages, false]
+            }
+            None if normal => {
+                add(&mut self.elsewhere, source, elsewhere(node, m.receiver, group));
+                let now = after.node(m.receiver);
+                let joined = (now.status, now.group) == (Status::Election, group);
+                let right = if node.last_call == MAX_CALL { answer == Err(13) } else { joined };
+                [false, false, false, !right]
+            }
+            None => [false; 4],
+        };
+        add(&mut self.wrong_invitations, source, wrong);
     }
 
     /// Counts a refusal of a list or of a line.
@@ -360,7 +478,9 @@ impl Corners {
                 }
             }
         }
-        for (name, count) in PICKS.iter().zip(self.picks) {
+        let named = PICKS.iter().zip(self.picks).chain(INVITED.iter().zip(self.invited));
+        let named = named.chain(TWICE.iter().zip(self.twice));
+        for (name, count) in named.chain(ELSEWHERE.iter().zip(self.elsewhere)) {
             corners.push((name.to_string(), count));
         }
         corners
@@ -388,8 +508,9 @@ impl Corners {
                 }
             }
         }
-        let wrong = WRONG_PICKS.iter().zip(self.wrong_picks).filter(|&(_, count)| met(count));
-        found.extend(wrong.map(|(name, _)| name.to_string()));
+        let picks = WRONG_PICKS.iter().zip(self.wrong_picks);
+        let wrong = picks.chain(WRONG_INVITATIONS.iter().zip(self.wrong_invitations));
+        found.extend(wrong.filter(|&(_, count)| met(count)).map(|(name, _)| name.to_string()));
         found
     }
 
@@ -419,12 +540,63 @@ impl Corners {
     }
 }
 
+/// Adds one to the counts of all that was met.
+fn add<const K: usize>(counts: &mut [Count; K], source: usize, met: [bool; K]) {
+    for (count, met) in counts.iter_mut().zip(met) {
+        count[source] += u64::from(met);
+    }
+}
+
+/// The place of a message that is the oldest of its pair.
+fn place(table: &Table, m: &Message) -> usize {
+    table.messages.iter().position(|other| other == m).expect("it waits")
+}
+
+/// Which of `TWICE` an invitation meets.
+fn twice(table: &Table, m: &Message) -> [bool; 8] {
+    let node = table.node(m.receiver);
+    let forwarded = m.sender != node.coordinator;
+    let open = table.node(m.sender).open_call() == Some(m.call);
+    [
+        !forwarded,
+        forwarded,
+        open,
+        !open,
+        node.members != 0,
+        node.last_call == MAX_CALL,
+        table.messages.len() == MAX_MESSAGES,
+        place(table, m) + 1 < table.messages.len(),
+    ]
+}
+
+/// Which of `ELSEWHERE` an invitation to a group meets at node i.
+fn elsewhere(node: &Node, i: u8, group: u32) -> [bool; 6] {
+    if node.last_call == MAX_CALL {
+        return [false, false, false, false, false, true];
+    }
+    let member = node.coordinator != i;
+    let same_owner = owner(group) == node.coordinator;
+    let newer = group > node.group;
+    let equal_counter = group / 16 == node.group / 16;
+    [!member, member, same_owner && newer, same_owner && !newer, equal_counter, false]
+}
+
+/// Whether the messages after are those before without the oldest of a pair, and behind them one reply to
+/// it, yes, with its call's number.
+fn replied(before: &Table, m: &Message, after: &Table) -> bool {
+    let mut messages = before.messages.clone();
+    messages.remove(place(before, m));
+    let body = Body::Reply { yes: true };
+    messages.push(Message { sender: m.receiver, receiver: m.sender, call: m.call, body });
+    messages == after.messages
+}
+
 fn activity_place(activity: &Activity) -> usize {
     usize::from(tag(activity))
 }
 
 /// Whom an activity that picks its nodes calls now.
-fn called(activity: &Activity) -> Option<u8> {
+pub fn called(activity: &Activity) -> Option<u8> {
     match *activity {
         Activity::Asking { asked: now, .. }
         | Activity::Inviting { now, .. }
@@ -442,11 +614,18 @@ fn delivered(message: &Message, before: &Node, now: &Node, after: &Table) -> usi
     match message.body {
         Body::AreYouCoordinator => either(says_yes, 8),
         Body::AreYouThere { .. } => either(says_yes, 10),
+        Body::Invitation { group }
+            if before.status == Status::Normal
+                && before.group == group
+                && owner(group) != message.receiver =>
+        {
+            14
+        }
         Body::Invitation { .. } => either(now.status == before.status, 12),
-        Body::Accept { .. } => either(now.members != before.members, 14),
-        Body::Ready { .. } => either(now.status != before.status, 16),
-        Body::Reply { .. } if before.open_call() != Some(message.call) => 20,
-        Body::Reply { yes } => either(yes, 18),
-        Body::Unknown { .. } => 20,
+        Body::Accept { .. } => either(now.members != before.members, 15),
+        Body::Ready { .. } => either(now.status != before.status, 17),
+        Body::Reply { .. } if before.open_call() != Some(message.call) => 21,
+        Body::Reply { yes } => either(yes, 19),
+        Body::Unknown { .. } => 21,
     }
 }

@@ -4,6 +4,7 @@
 use crate::list::MAX_LIST;
 use crate::machine::{advance, Activity, Event, Set, Status, Table, MAX_MESSAGES, MIN_TASK};
 use crate::numbers::Numbers;
+use crate::slow_invitation::slow_invitation;
 
 /// How often each thing is tried, when it can be done.
 #[derive(Clone, Copy, Debug)]
@@ -66,18 +67,18 @@ pub fn any_manner(numbers: &mut Numbers) -> Manner {
 
 /// Which nodes each thing can be tried on.
 #[derive(Clone, Copy, Default)]
-struct Ready {
-    down: Set,
-    up: Set,
-    check: Set,
-    timeout: Set,
-    tick: Set,
-    expire: Set,
-    finish: Set,
+pub struct Ready {
+    pub down: Set,
+    pub up: Set,
+    pub check: Set,
+    pub timeout: Set,
+    pub tick: Set,
+    pub expire: Set,
+    pub finish: Set,
 }
 
 impl Ready {
-    fn of(table: &Table) -> Ready {
+    pub fn of(table: &Table) -> Ready {
         let mut ready = Ready::default();
         for i in 1..=table.n.min(16) {
             let (node, bit) = (table.node(i), 1 << (i - 1));
@@ -100,7 +101,7 @@ impl Ready {
 }
 
 /// One node of a set, which must not be empty.
-fn member(set: Set, numbers: &mut Numbers) -> u8 {
+pub fn member(set: Set, numbers: &mut Numbers) -> u8 {
     let mut rest = set;
     for _ in 0..numbers.below(set.count_ones()) {
         rest &= rest - 1;
@@ -155,7 +156,8 @@ fn waiting_pair(table: &Table, numbers: &mut Numbers) -> (u8, u8) {
     (m.sender, m.receiver)
 }
 
-fn task(numbers: &mut Numbers) -> u16 {
+/// A task that a finish can have.
+pub fn task(numbers: &mut Numbers) -> u16 {
     match numbers.below(8) {
         0 => MIN_TASK,
         1 => u16::MAX,
@@ -190,20 +192,37 @@ pub fn any_event(n: u8, numbers: &mut Numbers) -> Event {
     }
 }
 
-/// A run of so many events from the starting table of n; its manner changes now and then.
+/// A run from the starting table: its events so far, and the table that they lead to.
+pub struct Run {
+    pub table: Table,
+    pub events: Vec<Event>,
+}
+
+impl Run {
+    pub fn go(&mut self, event: Event) {
+        let _ = advance(&mut self.table, &event);
+        self.events.push(event);
+    }
+}
+
+/// A run of so many events from the starting table of n; its manner changes now and then. In half of them
+/// an invitation is slow now and then.
 pub fn run(n: u8, length: usize, numbers: &mut Numbers) -> Vec<Event> {
-    let mut table = Table::start(n);
+    let slow = numbers.one_in(2);
     let mut manner = any_manner(numbers);
-    let mut events = Vec::with_capacity(length);
-    for _ in 0..length {
+    let mut run = Run { table: Table::start(n), events: Vec::with_capacity(length) };
+    while run.events.len() < length {
         if numbers.one_in(300) {
             manner = any_manner(numbers);
         }
-        let event = pick(&table, &manner, numbers);
-        let _ = advance(&mut table, &event);
-        events.push(event);
+        if slow && numbers.one_in(25) {
+            slow_invitation(&mut run, numbers);
+        }
+        let event = pick(&run.table, &manner, numbers);
+        run.go(event);
     }
-    events
+    run.events.truncate(length);
+    run.events
 }
 
 /// A run in one manner whose list is as long as a list may be.

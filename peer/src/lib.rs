@@ -1,4 +1,4 @@
-//! A second implementation of document 01 (coordinator election among cabinets) and of T-01 and T-02 of
+//! A second implementation of document 01 (coordinator election among cabinets) and of T-01 to T-03 of
 //! document 02, written from the papers alone, so that other implementations can be compared with it.
 //! Document 01's cabinet is called node here, and its book history.
 
@@ -17,6 +17,7 @@ pub mod proved;
 pub mod sha256;
 pub mod short;
 pub mod shortest;
+pub mod slow_invitation;
 pub mod spread;
 pub mod tables;
 pub mod tuned;

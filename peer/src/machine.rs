@@ -1,6 +1,6 @@
 //! The reference machine: the table, when it is in range, and what each of the nine events does to
-//! it. T-02 of document 02 is in it. Words in quotation marks in the comments are document 01's, or
-//! T-02's where that is said; their cabinet is called node here.
+//! it. T-02 and T-03 of document 02 are in it. Words in quotation marks in the comments are document
+//! 01's, or those of T-02 or T-03 where that is said; their cabinet is called node here.
 
 pub const MAX_NODES: u8 = 16;
 pub const MAX_COUNTER: u32 = 1_048_575;
@@ -615,9 +615,13 @@ impl Turn {
                     && self.node.members & only(from) != 0;
                 self.reply(from, call, yes)
             }
-            // "if not Normal, or it owns that group, plain reply and no change"
+            // "if not Normal, or it owns that group, plain reply and no change." T-03: "an invitation
+            // to the group a cabinet already holds gets a plain reply and changes nothing else"
             Body::Invitation { group } => {
-                if self.node.status != Status::Normal || owner(group) == self.i {
+                if self.node.status != Status::Normal
+                    || owner(group) == self.i
+                    || self.node.group == group
+                {
                     self.reply(from, call, true)
                 } else {
                     self.join(group, from, call)

@@ -174,6 +174,11 @@ fn message(table: &Table, numbers: &mut Numbers) -> Message {
         (5, Status::Normal) if own => {
             Body::Invitation { group: group_number(near_ends(1, MAX_COUNTER, numbers), sender) }
         }
+        // One to the group that its receiver holds, or to another of its coordinator's.
+        (5, Status::Normal) => {
+            let other = group_number(near_ends(1, MAX_COUNTER, numbers), to.coordinator);
+            Body::Invitation { group: numbers.of(&[to.group, to.group, other]) }
+        }
         (5, Status::Election) if own => Body::Accept { group: to.group },
         (5, Status::Reorganization) => Body::Ready { group: to.group, task: any_task(numbers) },
         _ => Body::Reply { yes: numbers.one_in(2) },

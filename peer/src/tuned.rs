@@ -1,7 +1,7 @@
-//! Document 01's list program, with T-02 of document 02, written for speed alone, as the second baseline
-//! of the benchmark: the bytes of a list in, the printed text out, into a lent buffer, and nothing
-//! allocated. Words in quotation marks in the comments are document 01's, or T-02's where that is said;
-//! their cabinet is called node here.
+//! Document 01's list program, with T-02 and T-03 of document 02, written for speed alone, as the second
+//! baseline of the benchmark: the bytes of a list in, the printed text out, into a lent buffer, and
+//! nothing allocated. Words in quotation marks in the comments are document 01's, or those of T-02 or
+//! T-03 where that is said; their cabinet is called node here.
 //!
 //! What it does otherwise than `machine`:
 //! - Nothing of a run shows in which order messages of different pairs were sent. So the messages of
@@ -448,9 +448,13 @@ impl Table {
                 self.walk(k, HANDING, members, None);
             }
             LOSE => self.release(Some(oldest)),
+            // "if not Normal", which is no INVITED, "or it owns that group, plain reply and no change."
+            // T-03: "an invitation to the group a cabinet already holds gets a plain reply and changes
+            // nothing else"
             INVITED => {
-                // "or it owns that group"
-                if (message.group & 15) as usize == k {
+                let owned = (message.group & 15) as usize == k;
+                let held = message.group == node.group;
+                if owned | held {
                     self.take_out(oldest);
                     self.put(k, sender, YES, oldest.slot);
                     return 0;

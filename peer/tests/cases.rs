@@ -1,6 +1,9 @@
 //! Document 01's named cases K1 to K13, on the machine and on the printed text, and cases of T-02 of
-//! document 02, "Higher numbers first".
+//! document 02, "Higher numbers first", and T-03, "An invitation that arrives twice".
 
+mod common;
+
+use common::{invited_twice, LATE, NODES};
 use peer::list::write_list;
 use peer::machine::*;
 use peer::print::run_list;
@@ -303,4 +306,161 @@ fn t02_all_sixteen() {
     let messages = deliver_all(&mut table);
     assert_eq!(called(&messages, 8, 3), down);
     assert_eq!(called(&messages, 8, 4), [11]);
+}
+
+fn invitation(sender: u8, receiver: u8, call: u32, group: u32) -> Message {
+    Message { sender, receiver, call, body: Body::Invitation { group } }
+}
+
+/// What must follow on a plain reply and nothing else: the oldest message from a to b is gone, and a reply
+/// to it, yes, stands behind the rest.
+fn with_plain_reply(table: &Table, a: u8, b: u8) -> Table {
+    let mut after = table.clone();
+    let place = after.messages.iter().position(|m| (m.sender, m.receiver) == (a, b)).unwrap();
+    let call = after.messages.remove(place).call;
+    let body = Body::Reply { yes: true };
+    after.messages.push(Message { sender: b, receiver: a, call, body });
+    after
+}
+
+/// Node 1 of four, with members and task 300, in a group of another's. It has no call number left.
+fn member_of(group: u32, status: Status, activity: Activity) -> Table {
+    let mut table = recovered(4);
+    let node = &mut table.nodes[0];
+    (node.status, node.activity, node.last_call) = (status, activity, MAX_CALL);
+    (node.group, node.coordinator) = (group, owner(group));
+    (node.members, node.task) = (set(&[2, 4]), 300);
+    table
+}
+
+/// "From now on an invitation to the group a cabinet already holds gets a plain reply and changes nothing
+/// else": whatever the status and the activity are, whoever sent it, alone or among 64.
+#[test]
+fn t03_group_held() {
+    let (held, call) = (group_number(7, 3), 9);
+    let activities = [
+        Activity::Idle,
+        Activity::Asking { asked: 2, found: only(3) },
+        Activity::Waiting { ticks: 3, found: only(4) },
+        Activity::Inviting { found: only(2), former: only(3), now: 4 },
+        Activity::Collecting,
+        Activity::Handing { rest: only(2), now: 3 },
+        Activity::Contacting,
+        Activity::Forwarding { rest: only(2), now: 4, caller: 3, call },
+        Activity::Accepting { caller: 3, call },
+    ];
+    for status in [Status::Election, Status::Reorganization, Status::Normal] {
+        for activity in activities {
+            for sender in [2, 3, 4] {
+                for (older, newer) in [(0, 0), (0, 63), (31, 32), (63, 0), (2, 3)] {
+                    let mut table = member_of(held, status, activity);
+                    table.messages = vec![invitation(1, sender, 5, held); older];
+                    table.messages.push(invitation(sender, 1, call, held));
+                    table.messages.extend(vec![invitation(sender, 1, 6, held); newer]);
+                    let expected = with_plain_reply(&table, sender, 1);
+                    assert_eq!(step(&mut table, &Deliver(sender, 1)), Ok(()));
+                    assert_eq!(table, expected);
+                }
+            }
+        }
+    }
+}
+
+/// An invitation to any other group is as before: a Normal node joins, and others reply. "equal numbers":
+/// neither the owner alone nor the counter alone.
+#[test]
+fn t03_other_groups() {
+    let held = group_number(7, 3);
+    for (counter, by) in [(8, 3), (6, 3), (1, 3), (MAX_COUNTER, 3), (7, 2), (7, 4)] {
+        let group = group_number(counter, by);
+        for sender in [2, 3, 4] {
+            for status in [Status::Election, Status::Reorganization, Status::Normal] {
+                let mut table = member_of(held, status, Activity::Contacting);
+                table.messages = vec![invitation(sender, 1, 9, group)];
+                let expected = with_plain_reply(&table, sender, 1);
+                if status != Status::Normal {
+                    step(&mut table, &Deliver(sender, 1)).unwrap();
+                    assert_eq!(table, expected);
+                    continue;
+                }
+                refused(&table, Deliver(sender, 1), 13);
+                table.nodes[0].last_call = 40;
+                let mut expected = table.clone();
+                let node = &mut expected.nodes[0];
+                (node.status, node.group, node.coordinator) = (Status::Election, group, by);
+                node.activity = Activity::Accepting { caller: sender, call: 9 };
+                node.last_call = 41;
+                let body = Body::Accept { group };
+                expected.messages = vec![Message { sender: 1, receiver: by, call: 41, body }];
+                step(&mut table, &Deliver(sender, 1)).unwrap();
+                assert_eq!(table, expected);
+            }
+        }
+    }
+}
+
+/// The grounds above it stay above it: a table not in range, whose node is its own coordinator in another's
+/// group, and a Down receiver, which holds a group too.
+#[test]
+fn t03_grounds_before_it() {
+    let held = group_number(7, 3);
+    let mut table = member_of(held, Status::Down, Activity::Idle);
+    table.messages = vec![invitation(2, 1, 9, held)];
+    refused(&table, Deliver(2, 1), 9);
+    table.nodes[0].status = Status::Normal;
+    table.nodes[0].coordinator = 1;
+    refused(&table, Deliver(2, 1), 1);
+    table.nodes[0].coordinator = 3;
+    refused(&table, Deliver(3, 1), 11);
+    step(&mut table, &Deliver(2, 1)).unwrap();
+}
+
+/// "it owns that group" is as before, held or not.
+#[test]
+fn t03_owned_groups() {
+    for group in [group_number(1, 1), group_number(7, 1)] {
+        for status in [Status::Election, Status::Reorganization, Status::Normal] {
+            let mut table = recovered(4);
+            (table.nodes[0].status, table.nodes[0].last_call) = (status, MAX_CALL);
+            table.messages = vec![invitation(2, 1, 9, group)];
+            let expected = with_plain_reply(&table, 2, 1);
+            step(&mut table, &Deliver(2, 1)).unwrap();
+            assert_eq!(table, expected);
+        }
+    }
+}
+
+/// 02's story from the starting table: "It came when the cabinet was Normal in the new group", and now only
+/// the messages differ. A message of node 3 waits behind it.
+#[test]
+fn t03_story() {
+    for given_up in [false, true] {
+        let mut table = after(NODES, &invited_twice(given_up));
+        let (node, group) = (*table.node(1), group_number(2, 3));
+        assert_eq!((node.status, node.group, node.task), (Status::Normal, group, 300));
+        let late = table.messages[0];
+        assert_eq!(table.messages, [invitation(2, 1, late.call, group)]);
+        assert_eq!(table.node(2).open_call() == Some(late.call), !given_up);
+        step(&mut table, &Check(3)).unwrap();
+        for contacting in [false, true] {
+            let mut table = table.clone();
+            if contacting {
+                step(&mut table, &Timeout(1)).unwrap();
+            }
+            let nodes = table.nodes;
+            let mut messages = table.messages.clone();
+            step(&mut table, &LATE).unwrap();
+            assert_eq!(table.nodes, nodes);
+            messages.remove(0);
+            let body = Body::Reply { yes: true };
+            messages.push(Message { sender: 1, receiver: 2, call: late.call, body });
+            assert_eq!(table.messages, messages);
+            // The reply is to the call that is open, or it is dropped.
+            let waiting = table.messages.len();
+            step(&mut table, &Deliver(1, 2)).unwrap();
+            let went_on = matches!(table.node(2).activity, Activity::Accepting { caller: 3, .. });
+            assert_eq!(went_on, !given_up);
+            assert_eq!(table.messages.len(), waiting - usize::from(given_up));
+        }
+    }
 }

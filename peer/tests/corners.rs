@@ -1,8 +1,14 @@
-//! The corners of T-02 are counted where the pick shows, and nowhere else.
+//! The corners of T-02 are counted where the pick shows, and nowhere else, and those of T-03 where an
+//! invitation comes to its receiver.
 
+mod common;
+
+use common::{invited_twice, LATE, NODES};
 use peer::compare::{run_difference, walk_difference};
 use peer::corners::{Before, Corners, Source};
+use peer::drive::run;
 use peer::machine::*;
+use peer::numbers::Numbers;
 use peer::proved::Own;
 use Event::*;
 
@@ -190,5 +196,251 @@ fn wrong_picks_are_told() {
         table.nodes[0].activity = wrong;
         corners.event(Source::Table, &remembered, &event, answer, &table);
         assert_eq!(corners.impossible(), [words]);
+    }
+}
+
+/// The corners of invitations that were met.
+fn invited(corners: &Corners) -> Vec<(String, u64, u64)> {
+    met(corners, &["deliver 3, group held", "invited"])
+}
+
+/// T-03's story: the last delivery is the one that is told apart.
+#[test]
+fn invitations_in_runs() {
+    let count = |events: &[Event], expected: &[(&str, u64)]| {
+        let mut corners = Corners::default();
+        assert!(run_difference(&Own, NODES, events, Some(&mut corners)).is_none());
+        assert_eq!(invited(&corners), in_runs(expected));
+    };
+    let another = ("invited, Normal, another group", 3);
+    // Nodes 1 and 2 are in the second group of 2 when they are invited to the second of 3.
+    let elsewhere = [
+        ("invited elsewhere, its own coordinator", 2),
+        ("invited elsewhere, a member", 1),
+        ("invited elsewhere, equal counter", 2),
+    ];
+    for (given_up, call) in
+        [(false, "invited twice, call open"), (true, "invited twice, call given up")]
+    {
+        let mut events = invited_twice(given_up);
+        count(&events, &[&[another], &elsewhere[..]].concat());
+        let twice = [another, ("invited twice, forwarded", 1), (call, 1)];
+        events.push(LATE);
+        let held = [("deliver 3, group held: idle -> idle", 1), ("invited, Normal, group held", 1)];
+        count(&events, &[&held[..], &twice, &elsewhere].concat());
+        events.pop();
+        events.extend([Timeout(1), LATE]);
+        let held = [
+            ("deliver 3, group held: contacting -> contacting", 1),
+            ("invited, Normal, group held", 1),
+        ];
+        let behind = [("invited twice, others wait behind it", 1)];
+        count(&events, &[&held[..], &twice, &behind, &elsewhere].concat());
+    }
+}
+
+/// Random runs meet each corner of invitations that a run can have, and not too seldom, and no other.
+#[test]
+fn invitations_in_random_runs() {
+    let mut numbers = Numbers::new(1);
+    let mut corners = Corners::default();
+    for _ in 0..600 {
+        let n = numbers.between(2, 8) as u8;
+        let events = run(n, 500, &mut numbers);
+        assert!(run_difference(&Own, n, &events, Some(&mut corners)).is_none());
+    }
+    let met = invited(&corners);
+    let names: Vec<&str> = met.iter().map(|(name, ..)| name.as_str()).collect();
+    let expected = [
+        "deliver 3, group held: idle -> idle",
+        "deliver 3, group held: contacting -> contacting",
+        "invited, Down, group held",
+        "invited, Down, another group",
+        "invited, Election, group held",
+        "invited, Election, another group",
+        "invited, Reorganization, group held",
+        "invited, Reorganization, another group",
+        "invited, Normal, group held",
+        "invited, Normal, group held and owned",
+        "invited, Normal, group owned",
+        "invited, Normal, another group",
+        "invited twice, forwarded",
+        "invited twice, call open",
+        "invited twice, call given up",
+        "invited twice, with members",
+        "invited twice, 64 wait",
+        "invited twice, others wait behind it",
+        "invited elsewhere, its own coordinator",
+        "invited elsewhere, a member",
+        "invited elsewhere, newer group of its coordinator",
+        "invited elsewhere, older group of its coordinator",
+        "invited elsewhere, equal counter",
+    ];
+    assert_eq!(names, expected);
+    assert!(met.iter().all(|&(_, runs, _)| runs >= 40), "{met:?}");
+}
+
+/// What an invitation from node 2 is to node 1 of four, which holds a group of node 3.
+fn invited_in_a_table(group: u32, change: impl Fn(&mut Table)) -> Vec<(String, u64, u64)> {
+    let mut table = recovered(4);
+    (table.nodes[0].group, table.nodes[0].coordinator) = (group_number(7, 3), 3);
+    let body = Body::Invitation { group };
+    table.messages.push(Message { sender: 2, receiver: 1, call: 1, body });
+    change(&mut table);
+    let mut corners = Corners::default();
+    assert!(walk_difference(&Own, &table, &[Deliver(2, 1)], None, Some(&mut corners)).is_none());
+    assert_eq!(corners.impossible(), [""; 0]);
+    invited(&corners)
+}
+
+#[test]
+fn invitations_in_tables() {
+    let (held, owned) = (group_number(7, 3), group_number(7, 1));
+    for (status, name) in [
+        (Status::Down, "Down"),
+        (Status::Election, "Election"),
+        (Status::Reorganization, "Reorganization"),
+        (Status::Normal, "Normal"),
+    ] {
+        let one = |group: u32, own: bool, words: &str| {
+            let counts = invited_in_a_table(group, |table| {
+                table.nodes[0].status = status;
+                if own {
+                    (table.nodes[0].group, table.nodes[0].coordinator) = (owned, 1);
+                }
+            });
+            let name = format!("invited, {name}, {words}");
+            assert_eq!(counts, in_tables(&[(name.as_str(), 1)]));
+        };
+        if status == Status::Normal {
+            one(owned, true, "group held and owned");
+            one(owned, false, "group owned");
+        } else {
+            one(held, false, "group held");
+            one(owned, true, "group held");
+            one(owned, false, "another group");
+            one(group_number(8, 3), false, "another group");
+        }
+    }
+    let twice = |more: &[(&'static str, u64)], change: fn(&mut Table)| {
+        let mut all =
+            vec![("deliver 3, group held: idle -> idle", 1), ("invited, Normal, group held", 1)];
+        all.extend(more);
+        assert_eq!(invited_in_a_table(held, change), in_tables(&all));
+    };
+    let (forwarded, given_up) =
+        (("invited twice, forwarded", 1), ("invited twice, call given up", 1));
+    twice(&[forwarded, given_up], |_| {});
+    twice(&[forwarded, ("invited twice, call open", 1)], |table| {
+        (table.nodes[1].activity, table.nodes[1].last_call) = (Activity::Contacting, 1);
+    });
+    twice(&[("invited twice, by the owner", 1), given_up], |table| {
+        // The same group, of node 2.
+        (table.nodes[0].group, table.nodes[0].coordinator) = (group_number(7, 2), 2);
+        table.messages[0].body = Body::Invitation { group: group_number(7, 2) };
+    });
+    twice(&[forwarded, given_up, ("invited twice, with members", 1)], |table| {
+        table.nodes[0].members = only(4);
+    });
+    twice(&[forwarded, given_up, ("invited twice, no call number left", 1)], |table| {
+        table.nodes[0].last_call = MAX_CALL;
+    });
+    let behind = ("invited twice, others wait behind it", 1);
+    twice(&[forwarded, given_up, ("invited twice, 64 wait", 1), behind], |table| {
+        table.messages = vec![table.messages[0]; 64];
+    });
+    let elsewhere = |group: u32, more: &[(&'static str, u64)], change: fn(&mut Table)| {
+        let mut all = vec![("invited, Normal, another group", 1)];
+        all.extend(more);
+        assert_eq!(invited_in_a_table(group, change), in_tables(&all));
+    };
+    let member = ("invited elsewhere, a member", 1);
+    elsewhere(group_number(9, 2), &[member], |_| {});
+    elsewhere(group_number(9, 2), &[("invited elsewhere, its own coordinator", 1)], |table| {
+        (table.nodes[0].group, table.nodes[0].coordinator) = (group_number(3, 1), 1);
+    });
+    let newer = ("invited elsewhere, newer group of its coordinator", 1);
+    elsewhere(group_number(8, 3), &[member, newer], |_| {});
+    let older = ("invited elsewhere, older group of its coordinator", 1);
+    elsewhere(group_number(6, 3), &[member, older], |_| {});
+    elsewhere(group_number(7, 4), &[member, ("invited elsewhere, equal counter", 1)], |_| {});
+    elsewhere(group_number(8, 3), &[("invited elsewhere, no call number left", 1)], |table| {
+        table.nodes[0].last_call = MAX_CALL;
+    });
+}
+
+/// A change of what follows on an invitation.
+type Change = fn(&mut Result<(), u8>, &mut Table);
+
+/// Of the machine's own answers to invitations nothing is told; of others it is.
+#[test]
+fn wrong_answers_to_invitations_are_told() {
+    let held = group_number(7, 3);
+    let refused = "invited, group held, refused";
+    let changes = "invited, group held, a node changes";
+    let reply = "invited, group held, not one plain reply behind the rest";
+    let joins = "invited elsewhere, does not join";
+    let twice: [(Change, &str); 12] = [
+        (|answer, _| *answer = Err(13), refused),
+        (|answer, _| *answer = Err(9), refused),
+        (
+            |_, after| {
+                let status = &mut after.nodes[0].status;
+                let back = *status != Status::Reorganization;
+                *status = if back { Status::Reorganization } else { Status::Normal };
+            },
+            changes,
+        ),
+        (|_, after| after.nodes[0].activity = Activity::Idle, changes),
+        (|_, after| after.nodes[0].last_call += 1, changes),
+        (|_, after| after.nodes[2].members = only(1), changes),
+        (|_, after| after.messages.truncate(2), reply),
+        (|_, after| after.messages.push(after.messages[2]), reply),
+        (|_, after| after.messages.swap(1, 2), reply),
+        (|_, after| after.messages[2].body = Body::Reply { yes: false }, reply),
+        (|_, after| after.messages[2].call += 1, reply),
+        (|_, after| after.messages[2].receiver = 3, reply),
+    ];
+    let elsewhere: [(Change, &str); 2] = [
+        (|_, after| after.nodes[0].group = group_number(7, 3), joins),
+        (|answer, _| *answer = Err(13), joins),
+    ];
+    let told = |status: Status, group: u32, change: Option<Change>| {
+        let mut table = recovered(4);
+        let node = &mut table.nodes[0];
+        (node.group, node.coordinator, node.status) = (held, 3, status);
+        node.activity = Activity::Contacting;
+        let call =
+            |sender: u8, receiver: u8, body: Body| Message { sender, receiver, call: 8, body };
+        table.messages = vec![
+            call(4, 1, Body::AreYouCoordinator),
+            call(2, 1, Body::Invitation { group }),
+            call(3, 2, Body::AreYouCoordinator),
+        ];
+        let event = Deliver(2, 1);
+        let remembered = Before::of(&table, &event);
+        let mut after = table.clone();
+        let mut answer = step(&mut after, &event);
+        if let Some(change) = change {
+            change(&mut answer, &mut after);
+        }
+        if answer.is_err() {
+            after = table;
+        }
+        let mut corners = Corners::default();
+        corners.event(Source::Table, &remembered, &event, answer, &after);
+        corners.impossible()
+    };
+    for status in [Status::Election, Status::Reorganization, Status::Normal] {
+        assert_eq!(told(status, held, None), [""; 0]);
+        for (change, words) in twice {
+            let told = told(status, held, Some(change));
+            assert!(told.iter().any(|told| told == words), "{words}: {told:?}");
+        }
+    }
+    let another = group_number(8, 3);
+    assert_eq!(told(Status::Normal, another, None), [""; 0]);
+    for (change, words) in elsewhere {
+        assert_eq!(told(Status::Normal, another, Some(change)), [words]);
     }
 }

@@ -1,5 +1,8 @@
 //! The comparison finds machines that are wrong on purpose, and the search shortens what they show.
 
+mod common;
+
+use common::{invited_twice, LATE, NODES};
 use peer::compare::{
     list_difference, run_difference, shortest_run, tell_list, tell_run, tell_walk, walk_difference,
 };
@@ -15,9 +18,9 @@ use std::time::Duration;
 use Event::*;
 
 /// A machine that may be wrong, behind the boundary of the library.
-struct Machine(fn(&mut Table, &Event) -> Result<(), u8>);
+struct Machine<M>(M);
 
-impl Library for Machine {
+impl<M: Fn(&mut Table, &Event) -> Result<(), u8>> Library for Machine<M> {
     fn print(&self, list: &[u8], out: &mut [u8]) -> Option<usize> {
         let Ok(read) = read_list(list) else {
             return Own.print(list, out);
@@ -135,7 +138,8 @@ fn right_machine_shows_no_difference() {
     for _ in 0..50 {
         let n = numbers.between(1, 16) as u8;
         let events = run(n, 500, &mut numbers);
-        for library in [Machine(step), Machine(advance)] {
+        for machine in [step, advance] {
+            let library = Machine(machine);
             assert!(run_difference(&library, n, &events, None).is_none());
             assert_eq!(list_difference(&library, &write_list(n, &events)), None);
         }
@@ -417,6 +421,156 @@ fn wrong_picks_show_in_runs() {
         let (n, events) = shortest_run(&library, n, &events);
         assert!(n >= least, "{name}: n {n}, {events:?}");
         assert_least(&library, n, &events);
+    }
+}
+
+/// The invitation that an event delivers to a Normal node which doesn't own the group: the node's place, the
+/// sender, and the group.
+fn invited(table: &Table, event: &Event) -> Option<(usize, u8, u32)> {
+    let Deliver(a, b) = *event else {
+        return None;
+    };
+    let m = table.messages.iter().find(|m| m.sender == a && m.receiver == b)?;
+    match m.body {
+        Body::Invitation { group }
+            if owner(group) != b && table.node(b).status == Status::Normal =>
+        {
+            Some((usize::from(b) - 1, a, group))
+        }
+        _ => None,
+    }
+}
+
+/// Where T-03's test is to say no of a node that holds the group, or yes of one that doesn't.
+type Misread = fn(node: &Node, sender: u8, group: u32) -> bool;
+
+/// A machine with another test than T-03's: it takes the group held for another one, or for the one of the
+/// invitation.
+fn misreads(table: &mut Table, event: &Event, misread: Misread) -> Result<(), u8> {
+    let Some((k, sender, group)) = invited(table, event) else {
+        return step(table, event);
+    };
+    let held = table.nodes[k].group;
+    if !misread(&table.nodes[k], sender, group) {
+        return step(table, event);
+    }
+    let mut other = table.clone();
+    other.nodes[k].group = if held != group { group } else { held ^ 16 };
+    advance(&mut other, event)?;
+    other.nodes[k].group = held;
+    *table = other;
+    Ok(())
+}
+
+/// What an answer to an invitation does beside, or instead: the table after it, the node's place, and the
+/// place that the invitation had.
+type Beside = fn(&mut Table, usize, usize);
+
+/// A machine that does something else where T-03's test holds.
+fn answers(table: &mut Table, event: &Event, beside: Beside) -> Result<(), u8> {
+    let twice = invited(table, event).filter(|&(k, _, group)| table.nodes[k].group == group);
+    let place = table.messages.iter().position(|m| *event == Deliver(m.sender, m.receiver));
+    step(table, event)?;
+    if let (Some((k, ..)), Some(place)) = (twice, place) {
+        beside(table, k, place);
+    }
+    Ok(())
+}
+
+/// Document 01 alone.
+fn joins_again(table: &mut Table, event: &Event) -> Result<(), u8> {
+    misreads(table, event, |node, _, group| node.group == group)
+}
+
+/// T-03's story is where document 01 alone differs, and not before the last delivery; the listing shows it
+/// too.
+#[test]
+fn document_01_alone_differs_in_the_story() {
+    let library = Machine(joins_again);
+    for given_up in [false, true] {
+        let mut events = invited_twice(given_up);
+        assert!(run_difference(&library, NODES, &events, None).is_none());
+        assert_eq!(list_difference(&library, &write_list(NODES, &events)), None);
+        events.push(LATE);
+        let found = run_difference(&library, NODES, &events, None).unwrap();
+        assert_eq!(found.events, events.len(), "{}", found.words);
+        assert!(list_difference(&library, &write_list(NODES, &events)).is_some());
+    }
+}
+
+/// The n of the shortest run found that shows a wrong machine; it ends with a delivery.
+fn least_nodes(name: &str, library: &impl Library) -> u8 {
+    let (n, events) = first_difference(library);
+    let (n, events) = shortest_run(library, n, &events);
+    assert!(matches!(events.last(), Some(Deliver(..))), "{name}: {events:?}");
+    assert_least(library, n, &events);
+    n
+}
+
+/// Machines that test something else than T-03 does, named after that.
+#[test]
+fn misread_tests_show_in_runs() {
+    let misreadings: [(&str, Misread); 5] = [
+        ("never", |node, _, group| node.group == group),
+        ("idle", |node, _, group| node.group == group && node.activity != Activity::Idle),
+        ("coordinator", |node, _, group| node.group != group && node.coordinator == owner(group)),
+        ("not newer", |node, _, group| node.group > group && node.coordinator == owner(group)),
+        ("counter", |node, _, group| node.group != group && node.group / 16 == group / 16),
+    ];
+    for (name, misread) in misreadings {
+        let machine = |table: &mut Table, event: &Event| misreads(table, event, misread);
+        least_nodes(name, &Machine(machine));
+    }
+}
+
+/// Machines that do something else than T-03 says. Two nodes alone have no invitation that arrives twice.
+#[test]
+fn misread_answers_show_in_runs() {
+    let answered: [(&str, Beside); 8] = [
+        ("back into Reorganization", |table, k, _| {
+            table.nodes[k].status = Status::Reorganization;
+        }),
+        ("the activity stops", |table, k, _| table.nodes[k].activity = Activity::Idle),
+        ("a call is counted", |table, k, _| table.nodes[k].last_call += 1),
+        ("no reply", |table, _, _| table.messages.truncate(table.messages.len() - 1)),
+        ("reply no", |table, _, _| {
+            table.messages.last_mut().unwrap().body = Body::Reply { yes: false };
+        }),
+        ("its own call number", |table, k, _| {
+            table.messages.last_mut().unwrap().call = table.nodes[k].last_call;
+        }),
+        ("reply to the coordinator", |table, k, _| {
+            table.messages.last_mut().unwrap().receiver = table.nodes[k].coordinator;
+        }),
+        ("reply in the invitation's place", |table, _, place| {
+            table.messages[place..].rotate_right(1);
+        }),
+    ];
+    for (name, beside) in answered {
+        let machine = |table: &mut Table, event: &Event| answers(table, event, beside);
+        assert!(least_nodes(name, &Machine(machine)) >= 3, "{name}");
+    }
+}
+
+/// What only tables show, the fuzzer finds there: no run comes to the end of the call numbers, and none has
+/// an owner's invitation behind its Ready.
+#[test]
+fn misread_tests_show_in_tables() {
+    let misreadings: [(&str, Misread); 2] = [
+        ("forwarded", |node, sender, group| node.group == group && sender == owner(group)),
+        ("call left", |node, _, group| node.group == group && node.last_call == MAX_CALL),
+    ];
+    for (name, misread) in misreadings {
+        let library = Machine(|table: &mut Table, event: &Event| misreads(table, event, misread));
+        let mut numbers = Numbers::new(6);
+        for _ in 0..300 {
+            let n = numbers.between(2, 6) as u8;
+            let events = run(n, 1000, &mut numbers);
+            assert!(run_difference(&library, n, &events, None).is_none(), "{name}");
+        }
+        let mut fuzz = Fuzz::new(library, 1);
+        fuzz.go_on(Duration::from_secs(60));
+        assert!(fuzz.tell().1 > 0, "{name}");
     }
 }
 

@@ -1,6 +1,9 @@
 //! The program written for speed prints what the machine prints: on random runs, damaged lists, short ones
 //! of every n, and into every room. The fuzzer compares it on each of its lists too.
 
+mod common;
+
+use common::{invited_twice, LATE, NODES};
 use peer::compare::printed_difference;
 use peer::damage::damage;
 use peer::drive::{full_run, run, FULL, QUIET, REFUSED};
@@ -177,4 +180,39 @@ fn higher_numbers_first() {
     let list = write_list(5, &events);
     assert_eq!(String::from_utf8(printed(&list)).unwrap(), text);
     assert_eq!(String::from_utf8(run_list(&list)).unwrap(), text);
+}
+
+/// T-03 of document 02: the text is the same before and after the late delivery. What follows shows the
+/// reply and its call's number, and that the node is still doing what it did.
+#[test]
+fn invited_twice_as_text() {
+    use Event::*;
+    let text = |events: &[Event]| {
+        let list = write_list(NODES, events);
+        assert_same(&list);
+        String::from_utf8(printed(&list)).unwrap()
+    };
+    let told = |nodes: &str, messages: u8| format!("cabinets 3\n{nodes}messages {messages}\n");
+    for (given_up, nodes) in [
+        (false, "1 3 3 34 300 1 0\n2 1 3 34 250 2 1\n3 3 3 34 300 2 1\n"),
+        (true, "1 3 3 34 300 1 0\n2 3 3 34 300 2 1\n3 3 3 34 300 2 2\n"),
+    ] {
+        let mut events = invited_twice(given_up);
+        assert_eq!(text(&events), told(nodes, 1));
+        events.push(LATE);
+        assert_eq!(text(&events), told(nodes, 1));
+        // Node 2 goes on and calls Accept, if its call is open. There is no second reply.
+        events.push(Deliver(1, 2));
+        assert_eq!(text(&events), told(nodes, u8::from(!given_up)));
+        events.push(Deliver(1, 2));
+        let refused = format!("refused {} 11\n", events.len());
+        assert_eq!(text(&events), told(&(refused + nodes), u8::from(!given_up)));
+        // A contacting node still is one, with its call open and its answer to come.
+        let mut events = invited_twice(given_up);
+        events.extend([Timeout(1), LATE, Timeout(1)]);
+        let refused = format!("refused {} 10\n", events.len());
+        assert_eq!(text(&events), told(&(refused.clone() + nodes), 2));
+        events.extend([Deliver(1, 3), Deliver(3, 1), Timeout(1)]);
+        assert_eq!(text(&events), told(&(refused + nodes), 2));
+    }
 }
