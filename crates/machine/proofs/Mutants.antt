@@ -29,7 +29,7 @@ use Rattle.model.proofs.InRange.{delivery-never-full, stays-in-range}
 use Rattle.model.proofs.Cases.{invited-twice}
 use Rattle.model.proofs.CallOrder.{call-order}
 use Rattle.model.proofs.Invitation.{kind-three}
-use Rattle.model.proofs.InvitationRules.{acts-election, invitation-rules}
+use Rattle.model.proofs.InvitationRules.{acts-not-normal, invitation-rules}
 use Rattle.model.specs.Cases.{invitedOnce}
 use Rattle.model.specs.declared.Status.the-variants.{Election}
 use Rattle.model.specs.declared.Activity.{Activity}
@@ -377,8 +377,8 @@ no-joining-again =
       refuses = λ t a b w g {r} x h. h (accepted-alike .code-accepts x _ _ (invitation-rules .held (view t) a b w g));
       other-messages = λ t a b w g {r} x h.
           h (ap (λ (s : State). s .queue) (x .table) ∙ ap (λ (q : Result). kept (view t) q .queue) (invitation-rules .held (view t) a b w g));
-      stays-normal = λ t a b k n {r} x y h.
-          true≢false (sym h ∙ ap (λ (c : Node). isNormal (c .status)) (accepted-record t (Deliver a b) x y) ∙ ap isNormal (acts-election (view t) a b k n));
+      stays-normal = λ t a b k o g {r} x y h.
+          true≢false (sym h ∙ ap (λ (c : Node). isNormal (c .status)) (accepted-record t (Deliver a b) x y) ∙ acts-not-normal (view t) a b k o g);
       leaves-normal = λ {u} f h.
           h (ap (λ (s : State). nodeAt s 1 .status)
           (code-runs .from-any _ _ _ f ∙ ap (λ (s : State). runFrom s (invitedOnce ++ (Deliver 2 1 ∷ []))) (start-is 3) ∙ invited-twice .only-messages));

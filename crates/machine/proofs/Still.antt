@@ -9,7 +9,7 @@ use lib.Dec.{eqb, ltb}
 use lib.ListN.{length, length-append}
 use borrow.Author.Tests.{not-false, not-true, eqb-true, eqb-false, eq-eqb, le-leb, ltb-true}
 use Rattle.model.specs.Pick.{pick, by-test}
-use Rattle.model.specs.Node.{isDown, isNormal, isWaiting, isCollecting, hasOpenCall, ownerOf, merged, invited}
+use Rattle.model.specs.Node.{isDown, isWaiting, isCollecting, hasOpenCall, merged, invited}
 use Rattle.model.specs.Procedures.{inviteNext, merges, handNext, finishes, forwardNext, askedAll, askAt, askAfter}
 use Rattle.model.specs.React.{leads, checked, timedOut, ticked, expired, resumed, onAreYouCoordinator, onAreYouThere, onInvitation, onAccept, onReady, onReply, received, react}
 use Rattle.model.specs.Range.{isNode, isOther}

@@ -13,14 +13,12 @@ use Rattle.model.specs.React.{leads}
 use Rattle.model.specs.State.{State, nodeAt, waits, oldest, inRange, view, tableOf}
 use Rattle.model.specs.Step.{actor, reactionTo, remaining}
 use Rattle.model.specs.Answers.{answerNumber}
-use Rattle.model.specs.Claims.{isActive, Lacks, whomNow, whomStill, whomAside, InvitationReaches, Holds, NoPlainReply, withPlainReply}
+use Rattle.model.specs.Claims.{isActive, Lacks, whomNow, whomStill, whomAside, InvitationReaches, Owns, Holds, withPlainReply}
 use Rattle.model.specs.Cases.{setOf, none, node, invitedOnce}
 use Rattle.model.specs.declared.Mark.the-variants.{Merges}
-use Rattle.model.specs.declared.Status.{Status}
 use Rattle.model.specs.declared.Status.the-variants.{Election, Reorganization, Normal}
 use Rattle.model.specs.declared.Activity.{Activity}
 use Rattle.model.specs.declared.Activity.the-variants.{Idle, Asking, Waiting, Inviting, Collecting, Handing, Contacting, Forwarding, Accepting}
-use Rattle.model.specs.declared.Node.{Node}
 use Rattle.model.specs.declared.Message.{Message}
 use Rattle.model.specs.declared.Table.{Table}
 use Rattle.model.specs.declared.Event.{Event}
@@ -245,14 +243,14 @@ pub record NoJoiningAgain : Type 0 where
   -- at its delivery no machine changes a record, of the receiver or of another, in any table
   pub changes-records : (t : Table) (a b : ℕ) → oldest a b (view t .queue) .kind ≡ 3 → Holds (view t) a b
       → {r : Outcome} → Stepped t (Deliver a b) r → (view (r .table) .nodes ≡ view t .nodes → ⊥) → ⊥
-  -- in a table in range no machine refuses it
+  -- where the table is in range and the receiver not Down, no machine refuses it
   pub refuses : (t : Table) (a b : ℕ) → InvitationReaches (view t) a b → Holds (view t) a b
       → {r : Outcome} → Stepped t (Deliver a b) r → (r .answer ≡ Accepted → ⊥) → ⊥
-  -- or leaves other messages than those that waited, without the invitation and with the one reply, yes and with the call's number, behind them
+  -- nor leaves other messages than `withPlainReply` has
   pub other-messages : (t : Table) (a b : ℕ) → InvitationReaches (view t) a b → Holds (view t) a b
       → {r : Outcome} → Stepped t (Deliver a b) r → (view (r .table) .queue ≡ withPlainReply (view t) a b .queue → ⊥) → ⊥
-  -- an accepted invitation to another group, of the same coordinator or not, leaves no node Normal that does not own it
-  pub stays-normal : (t : Table) (a b : ℕ) → oldest a b (view t .queue) .kind ≡ 3 → NoPlainReply (view t) a b
+  -- the opposite mistake: by an invitation to a group that it neither owns nor holds, be it of the same coordinator, the receiver is not Normal, where it is accepted
+  pub stays-normal : (t : Table) (a b : ℕ) → oldest a b (view t .queue) .kind ≡ 3 → (Owns (view t) a b → ⊥) → (Holds (view t) a b → ⊥)
       → {r : Outcome} → Stepped t (Deliver a b) r → r .answer ≡ Accepted → isNormal (nodeAt (view (r .table)) b .status) ≡ true → ⊥
-  -- for one: 02's story. After the invitation that came late node 1 is Normal; 02: it "put it back into Reorganization".
+  -- for one: 02's story. The invitation that came late had "put it back into Reorganization"; now node 1 is Normal after it.
   pub leaves-normal : {u : Table} → Folded (startingTable 3) (invitedOnce ++ (Deliver 2 1 ∷ [])) u → (nodeAt (view u) 1 .status ≡ Normal → ⊥) → ⊥

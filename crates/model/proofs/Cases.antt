@@ -237,15 +237,16 @@ pub held-group-cases : HeldGroupCases
 unfolding pick onesIn ones leadingZeros bitAnd bitOr inviteNext merges handNext finishes forwardNext askedAll askAt askAfter checked timedOut ticked expired resumed onAreYouCoordinator onAreYouThere onInvitation onAccept onReady onReply received react activityInRange nodeInRange messageInRange waits oldest withoutOldest every inRange reactionTo remaining effect wrongNumber wrongTask wrongStatus wrongActivity noneWaits grounds judged step runFrom updated historyFrom
 held-group-cases =
     record {
-      contacting = refl;
+      normal = refl;
       reorganizing = refl;
       election = refl;
       owner = refl;
-      calls-end = refl;
+      down = refl;
+      no-call-needed = refl;
       queue-full = refl;
       older-group = refl;
       newer-group = refl;
-      other-calls-end = refl;
+      call-needed = refl;
     }
 
 pub range-cases : RangeCases

@@ -235,7 +235,7 @@ start-in n l h =
           activity = tt;
         }
 
-run-in : (s : State) (es : List Event) → inRange s ≡ true → inRange (runFrom s es) ≡ true
+pub run-in : (s : State) (es : List Event) → inRange s ≡ true → inRange (runFrom s es) ≡ true
 unfolding runFrom
 run-in s [] r = r
 run-in s (e ∷ es) r = run-in (after s e) es (by-step (λ x. inRange (kept s x) ≡ true) s e (λ _. r) (λ c. effect-in s e c))

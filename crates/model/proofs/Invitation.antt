@@ -1,4 +1,4 @@
--- The grounds for a plain reply to an invitation: where one applies, and what holds where none does.
+-- The conditions for a plain reply to an invitation: where one holds, and what is known where none does.
 use Prim.Native.Nat.{ℕ}
 use mathlib.Core.Bool.{Bool, true, false, true≢false}
 use mathlib.Core.Path.{_≡_, refl, sym, _∙_, ap}
@@ -31,7 +31,7 @@ module _ (i : ℕ) (c : Node) (g : GroupNo) where
       by true false p q = simp (p, q, eq-eqb _ _ e)
       by false y p q = where-not-normal p
 
-  -- none of the three applies
+  -- none of the three holds
   pub where-none : isNormal (c .status) ≡ true → (ownerOf (g .number) ≡ i → ⊥) → (c .group .number ≡ g .number → ⊥) → onlyReplies i c g ≡ false
   where-none e o h = simp (e, ne-eqb _ _ o, ne-eqb _ _ h)
 

@@ -1,4 +1,4 @@
--- The delivery of an invitation in every table in range: a plain reply on each of three grounds; else it is forwarded, accepted, or refused for want of a call number.
+-- The delivery of an invitation in every table in range: a plain reply on each of three conditions; else it is forwarded, accepted, or refused for want of a call number.
 use Prim.Native.Nat.{ℕ, zero, suc, _-_, _<_}
 use native.Mathlib.Omega.{arith}
 use mathlib.Core.Bool.{Bool, true, false, not, _&&_, _||_, true≢false}
@@ -8,23 +8,21 @@ use lib.Dec.{eqb}
 use lib.ListN.{length, getD, set}
 use borrow.Author.Tests.{eqb-true, eq-eqb, le-leb, ne-eqb}
 use Rattle.node_set.specs.NodeSet.{without}
-use Rattle.model.specs.Pick.{pick, pick-true, pick-false, by-test}
+use Rattle.model.specs.Pick.{pick, pick-true, by-test}
 use Rattle.model.specs.Limits.{queueLimit, counterEnd, callEnd}
-use Rattle.model.specs.Node.{ownerOf, nextCall, invited, calling, calls, replies}
+use Rattle.model.specs.Node.{isNormal, ownerOf, nextCall, invited, calls, replies}
 use Rattle.model.specs.Procedures.{next, reaction, forwardNext}
 use Rattle.model.specs.React.{onlyReplies, onInvitation, react}
-use Rattle.model.specs.State.{State, start, startingNode, nodeAt, goes, waits, oldest, withoutOldest}
-use Rattle.model.specs.Step.{reactionTo, remaining, sent, effect, wrongNumber, forms, isCalling, isSending, grounds, refused, accepted, judged, step, kept, runFrom, run}
-use Rattle.model.specs.Claims.{InvitationReaches, NoPlainReply, withPlainReply, withCall, InvitationRules}
-use Rattle.model.proofs.Judged.{Clear, clear-accepts}
+use Rattle.model.specs.State.{State, start, startingNode, nodeAt, goes, waits, oldest, withoutOldest, inRange}
+use Rattle.model.specs.Step.{reactionTo, remaining, sent, effect, wrongNumber, forms, isCalling, isSending, grounds, Result, refused, accepted, judged, step, kept, runFrom, run}
+use Rattle.model.specs.Claims.{InvitationReaches, Owns, Holds, NoPlainReply, withPlainReply, withCall, InvitationRules}
+use Rattle.model.proofs.Judged.{Clear, by-step, clear-accepts}
 use Rattle.model.proofs.Local.{both-left, both-right}
 use Rattle.model.proofs.Whole.{run-append}
 use Rattle.model.proofs.Fields.{IsNode, IsOther, MessageFacts, message-facts, in-range-size, in-range-oldest, oldest-goes}
-use Rattle.model.proofs.InRange.{without-length, stays-in-range}
+use Rattle.model.proofs.InRange.{without-length, run-in}
 use Rattle.model.proofs.Invitation.{where-not-normal, where-owned, where-held, where-none, plain-reply, acted-on, kind-three}
-use Rattle.model.specs.declared.Status.{Status}
 use Rattle.model.specs.declared.Status.the-variants.{Election}
-use Rattle.model.specs.declared.Activity.{Activity}
 use Rattle.model.specs.declared.Activity.the-variants.{Forwarding, Accepting}
 use Rattle.model.specs.declared.Node.{Node}
 use Rattle.model.specs.declared.Message.{Message}
@@ -66,7 +64,7 @@ module _ (s : State) (a b : ℕ) (k : oldest a b (s .queue) .kind ≡ 3) where
     acts : reactionTo s (Deliver a b) ≡ forwardNext b (invited c (m .group)) rest (m .sender) (m .call)
     acts = reacts ∙ acted-on b c m (where-none b c (m .group) (x .normal) (x .not-owned) (x .not-held))
 
-    pub acts-election : reactionTo s (Deliver a b) .node .status ≡ Election
+    acts-election : reactionTo s (Deliver a b) .node .status ≡ Election
     unfolding forwardNext
     acts-election = ap (λ (r : Reaction). r .node .status) acts ∙ by-test (λ (r : Reaction). r .node .status ≡ Election) (λ _. refl) (λ _. refl)
 
@@ -77,6 +75,15 @@ module _ (s : State) (a b : ℕ) (k : oldest a b (s .queue) .kind ≡ 3) where
     acts-calling : isCalling (reactionTo s (Deliver a b) .outgoing) ≡ true
     unfolding forwardNext
     acts-calling = ap (λ (r : Reaction). isCalling (r .outgoing)) acts ∙ by-test (λ (r : Reaction). isCalling (r .outgoing) ≡ true) (λ _. refl) (λ _. refl)
+
+-- it does not become Normal, nor stay so, by an invitation to a group that it neither owns nor holds
+pub acts-not-normal : (s : State) (a b : ℕ) → oldest a b (s .queue) .kind ≡ 3 → (Owns s a b → ⊥) → (Holds s a b → ⊥) → isNormal (reactionTo s (Deliver a b) .node .status) ≡ false
+acts-not-normal s a b k o h = by (isNormal (nodeAt s b .status)) refl
+  where
+    by : (t : Bool) → isNormal (nodeAt s b .status) ≡ t → isNormal (reactionTo s (Deliver a b) .node .status) ≡ false
+    by true e = ap isNormal (acts-election s a b k (record { normal = e; not-owned = o; not-held = h }))
+    by false e =
+        ap (λ (r : Reaction). isNormal (r .node .status)) (reacts s a b k ∙ plain-reply b (nodeAt s b) (oldest a b (s .queue)) (where-not-normal b (nodeAt s b) _ e)) ∙ e
 
 -- in a table in range
 module _ (s : State) (a b : ℕ) (x : InvitationReaches s a b) where
@@ -175,6 +182,24 @@ module _ (s : State) (a b : ℕ) (x : InvitationReaches s a b) where
     calls-end l =
         rw (x .in-range, numbers, x .not-down, waiting, acts-plain s a b (x .kind) y, acts-calling s a b (x .kind) y, eq-eqb _ _ l)
 
+-- a run from a table that is not in range leaves it as it is
+out-of-range : (s : State) (es : List Event) → inRange s ≡ false → runFrom s es ≡ s
+unfolding runFrom
+out-of-range s [] r = refl
+out-of-range s (e ∷ es) r =
+    ap (λ (u : State). runFrom u es) (by-step (λ (x : Result). kept s x ≡ s) s e (λ _. refl) (λ c. absurd (true≢false (sym (c .in-range) ∙ r)))) ∙ out-of-range s es r
+
+-- where a message waits, the table of a run is in range, whatever n is
+kind-in-range : (n : ℕ) (es : List Event) (a b : ℕ) → oldest a b (run n es .queue) .kind ≡ 3 → inRange (run n es) ≡ true
+unfolding oldest
+kind-in-range n es a b k = by (inRange (start n)) refl
+  where
+    by : (t : Bool) → inRange (start n) ≡ t → inRange (run n es) ≡ true
+    by true r = run-in (start n) es r
+    by false r =
+        let z : _≡_ {A = ℕ} 0 3 = sym (ap (λ (s : State). oldest a b (s .queue) .kind) (out-of-range (start n) es r)) ∙ k in
+        absurd (omega arith)
+
 pub invitation-rules : InvitationRules
 unfolding runFrom
 invitation-rules =
@@ -185,9 +210,9 @@ invitation-rules =
       forwards = λ s a b x y l o p. forwards s a b x y l (own s b o) p;
       accepts = λ s a b x y l o. accepts s a b x y l (none s b o);
       calls-end = calls-end;
-      runs = λ n l h es a b u k g.
+      runs = λ n es a b u k g.
           run-append (start n) es (Deliver a b ∷ [])
-          ∙ ap (kept (run n es)) (plainly (run n es) a b (record { in-range = stays-in-range .runs n l h es; not-down = u; kind = k }) (where-held b (nodeAt (run n es) b) _ g));
+          ∙ ap (kept (run n es)) (plainly (run n es) a b (record { in-range = kind-in-range n es a b k; not-down = u; kind = k }) (where-held b (nodeAt (run n es) b) _ g));
     }
   where
     own : (s : State) (b : ℕ) → nodeAt s b .coordinator ≡ b → pick (eqb (nodeAt s b .coordinator) b) (nodeAt s b .members) 0 ≡ nodeAt s b .members

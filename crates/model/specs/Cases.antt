@@ -371,7 +371,7 @@ denial = replies 2 1 (callNo 3) false ∷ []
 abbrev pub twoOfPair : List Message
 twoOfPair = asks 1 2 (callNo 2) ∷ asks 2 1 (callNo 1) ∷ asks 1 2 (callNo 3) ∷ []
 
--- ── further cases: rules of 01, and of 02's T-02, that the named cases leave open ──
+-- ── further cases: rules of 01, and of 02's T-02, that the named cases leave open, and the fields of messages ──
 
 pub record FurtherCases : Type 0 where
   -- "let p be the highest found": of 1 and 3, so that node 2 waits one tick
@@ -637,7 +637,7 @@ abbrev pub inNewGroup : List Message → State
 inNewGroup q =
     three (node Normal 2 34 3 300 none 2 Idle) (node Normal 2 34 3 300 (setOf (1 ∷ [])) 6 Idle) (node Normal 2 34 3 300 (setOf (1 ∷ 2 ∷ [])) 6 Idle) q
 
--- all of them: node 1 has had the invitation once, and the one that 2 forwarded is still to come
+-- the four parts in a row: node 1 has had the invitation once, and the one that 2 forwarded is still to come
 abbrev pub invitedOnce : List Event
 invitedOnce = joinsFormer ++ (newMerges ++ (bothInvite ++ joinsNew))
 
@@ -655,29 +655,32 @@ pub record InvitedTwice : Type 0 where
   -- node 2 no longer waits for the reply, and drops it
   pub reply-dropped : run 3 (invitedOnce ++ (Deliver 2 1 ∷ Deliver 1 2 ∷ [])) ≡ inNewGroup []
 
--- "an invitation to the group a cabinet already holds", and to another: node 2 is in the group 32 of node 1, which invites it
+-- "an invitation to the group a cabinet already holds", and to another: node 2 is in group 32, which node 1 owns, and node 1 invites it
 pub record HeldGroupCases : Type 0 where
-  -- in each status: activity, members and all else of the record are kept
-  pub contacting : step (beside (follower Normal 32 100 (setOf (1 ∷ [])) 2 Contacting) (invitation 32)) (Deliver 1 2)
+  -- Normal: activity, members and all else of the record are kept
+  pub normal : step (beside (follower Normal 32 100 (setOf (1 ∷ [])) 2 Contacting) (invitation 32)) (Deliver 1 2)
       ≡ accepted (beside (follower Normal 32 100 (setOf (1 ∷ [])) 2 Contacting) plain) Plain
+  -- in Reorganization and in Election, where 01 alone has a plain reply
   pub reorganizing : step (beside (follower Reorganization 32 100 none 2 Contacting) (invitation 32)) (Deliver 1 2)
       ≡ accepted (beside (follower Reorganization 32 100 none 2 Contacting) plain) Plain
   pub election : step (beside (follower Election 32 100 none 2 (Accepting 1 (callNo 2))) (invitation 32)) (Deliver 1 2)
       ≡ accepted (beside (follower Election 32 100 none 2 (Accepting 1 (callNo 2))) plain) Plain
-  -- where it owns the group as well: its own group 33
+  -- where it owns the group as well, its own group 33: the same
   pub owner : step (pair Normal none Idle (invitation 33)) (Deliver 1 2) ≡ accepted (pair Normal none Idle plain) Plain
+  -- Down: 9
+  pub down : step (beside (follower Down 32 100 none 2 Idle) (invitation 32)) (Deliver 1 2) ≡ refused 9
   -- a reply is no call, and the message delivered is out: neither 13 nor 14 is met
-  pub calls-end : step (beside (follower Normal 32 100 none 16777215 Idle) (invitation 32)) (Deliver 1 2)
+  pub no-call-needed : step (beside (follower Normal 32 100 none 16777215 Idle) (invitation 32)) (Deliver 1 2)
       ≡ accepted (beside (follower Normal 32 100 none 16777215 Idle) plain) Plain
   pub queue-full : step (beside (follower Normal 32 100 none 2 Idle) (invitation 32 ++ queued 63)) (Deliver 1 2)
       ≡ accepted (beside (follower Normal 32 100 none 2 Idle) (queued 63 ++ plain)) Plain
-  -- another group of the same coordinator is another group, be it older or newer: it goes into Election and calls Accept
+  -- to an older or a newer group of the same coordinator: the node goes into Election and calls Accept
   pub older-group : step (beside (follower Normal 32 100 none 5 Contacting) (invitation 16)) (Deliver 1 2)
       ≡ accepted (beside (follower Election 16 100 none 6 (Accepting 1 (callNo 3))) (calls 2 4 1 (callNo 6) (groupNo 16) ∷ [])) Plain
   pub newer-group : step (beside (follower Normal 32 100 none 5 Contacting) (invitation 48)) (Deliver 1 2)
       ≡ accepted (beside (follower Election 48 100 none 6 (Accepting 1 (callNo 3))) (calls 2 4 1 (callNo 6) (groupNo 48) ∷ [])) Plain
   -- for which it needs a call number
-  pub other-calls-end : step (beside (follower Normal 32 100 none 16777215 Idle) (invitation 16)) (Deliver 1 2) ≡ refused 13
+  pub call-needed : step (beside (follower Normal 32 100 none 16777215 Idle) (invitation 16)) (Deliver 1 2) ≡ refused 13
 
 -- ── records, messages and tables at the ends of what is in range, and just outside: node 2 of three, and messages among three ──
 

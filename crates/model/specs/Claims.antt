@@ -330,7 +330,7 @@ Owns s a b = ownerOf (oldest a b (s .queue) .group .number) ≡ b
 abbrev pub Holds : State → ℕ → ℕ → Type 0
 Holds s a b = nodeAt s b .group .number ≡ oldest a b (s .queue) .group .number
 
--- none of the three grounds for a plain reply applies
+-- none of the three conditions for a plain reply holds
 pub record NoPlainReply (s : State) (a b : ℕ) : Type 0 where
   pub normal : isNormal (nodeAt s b .status) ≡ true
   pub not-owned : Owns s a b → ⊥
@@ -345,8 +345,8 @@ withPlainReply s a b = record {
   queue = withoutOldest a b (s .queue) ++ (replies b a (oldest a b (s .queue) .call) true ∷ []);
 }
 
--- the oldest message from a to b was an invitation, and b acted on it: b is in Election in the new group, with its owner as coordinator and the activity x; counter,
--- task and members are kept; that message is out, and b's call m is behind the others
+-- the oldest message from a to b was an invitation, and b acted on it: b is in Election in the new group, with its owner as coordinator, the last call number plus
+-- one and the activity x; counter, task and members are kept; that message is out, and b's call m is behind the others
 abbrev pub withCall : State → ℕ → ℕ → Activity → Message → State
 withCall s a b x m = record {
   n = s .n;
@@ -364,13 +364,13 @@ withCall s a b x m = record {
   queue = withoutOldest a b (s .queue) ++ (m ∷ []);
 }
 
--- The delivery of an invitation, whole: every case of 01's kind 3 with T-03, in every table in range.
+-- The delivery of an invitation to a node that is not Down, in every table in range: all of 01's kind 3, with T-03. (To a Down one it meets 9.)
 pub record InvitationRules : Type 0 where
   -- 01: "3: if not Normal"
   pub not-normal : (s : State) (a b : ℕ) → InvitationReaches s a b → isNormal (nodeAt s b .status) ≡ false → step s (Deliver a b) ≡ accepted (withPlainReply s a b) Plain
   -- "or it owns that group"
   pub owned : (s : State) (a b : ℕ) → InvitationReaches s a b → Owns s a b → step s (Deliver a b) ≡ accepted (withPlainReply s a b) Plain
-  -- 02: "an invitation to the group a cabinet already holds": whatever else is in its record
+  -- 02: "an invitation to the group a cabinet already holds": whatever its record holds beside that
   pub held : (s : State) (a b : ℕ) → InvitationReaches s a b → Holds s a b → step s (Deliver a b) ≡ accepted (withPlainReply s a b) Plain
   -- 01: "Otherwise .. If it was its own coordinator, it forwards the invitation to each member": to the first of them
   pub forwards : (s : State) (a b : ℕ) → InvitationReaches s a b → NoPlainReply s a b → nodeAt s b .last .number < callEnd
@@ -387,7 +387,7 @@ pub record InvitationRules : Type 0 where
       (calls b 4 (ownerOf (oldest a b (s .queue) .group .number)) (nextCall (nodeAt s b)) (oldest a b (s .queue) .group))) Plain
   -- 13: "a call is needed, last call number 16,777,215"
   pub calls-end : (s : State) (a b : ℕ) → InvitationReaches s a b → NoPlainReply s a b → nodeAt s b .last .number ≡ callEnd → step s (Deliver a b) ≡ refused 13
-  -- an invitation to the group that a node holds gets its plain reply in every run
-  pub runs : (n : ℕ) → 1 ≤ n → n ≤ nodeLimit → (es : List Event) (a b : ℕ)
+  -- so it is in every run, where the node is not Down
+  pub runs : (n : ℕ) (es : List Event) (a b : ℕ)
       → isDown (nodeAt (run n es) b .status) ≡ false → oldest a b (run n es .queue) .kind ≡ 3 → Holds (run n es) a b
       → run n (es ++ (Deliver a b ∷ [])) ≡ withPlainReply (run n es) a b

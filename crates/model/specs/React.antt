@@ -88,7 +88,7 @@ unfoldable pub onAreYouThere : ℕ → Node → Message → Reaction
 onAreYouThere i c m =
     answers i c m (eqb (c .group .number) (m .group .number) && eqb (c .coordinator) i && has (c .members) (m .sender))
 
--- the grounds for a plain reply to an invitation to group g: two of 01, and that of 02, T-03, which "amends the delivery of kind 3"
+-- the conditions for a plain reply to an invitation to group g: two of 01, and that of 02, T-03, which "amends the delivery of kind 3"
 abbrev pub onlyReplies : ℕ → Node → GroupNo → Bool
 onlyReplies i c g =
     -- "3: if not Normal,

@@ -220,7 +220,7 @@ fn forwards_to(i: u8, c: Node) -> u16
     if c.coordinator == i { c.members } else { 0 }
 }
 
-// Whether node `i`, with record `c`, only replies to an invitation to group `g`: the three grounds, in the papers' order.
+// Whether node `i`, with record `c`, only replies to an invitation to group `g`: the three conditions, in the papers' order.
 fn only_replies(i: u8, c: Node, g: GroupNo) -> bool
     ensures { λ r. ⌜ r ≡ spec.onlyReplies i c g ⌝ }
 {
