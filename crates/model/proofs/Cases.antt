@@ -1,4 +1,4 @@
--- The named cases, the wrong turnings, the further cases and the ends of what is in range, computed over the definitions.
+-- The named cases, the wrong turnings, the further cases, those of T-03 and the ends of what is in range, computed over the definitions.
 use mathlib.Core.Bool.{true}
 use mathlib.Core.Path.{_≡_, refl, _∙_, ap}
 use mathlib.Core.List.{List, [], _∷_, _++_}
@@ -191,8 +191,8 @@ further-cases =
 abbrev accepting : List Event
 accepting = Deliver 3 1 ∷ Deliver 1 3 ∷ Deliver 3 1 ∷ Deliver 1 3 ∷ []
 
-abbrev accepted : State
-accepted =
+abbrev threeCollects : State
+threeCollects =
     three (node Reorganization 2 34 3 1 none 2 Idle) (node Reorganization 2 34 3 250 (setOf (1 ∷ [])) 6 Idle) (node Election 2 34 3 3 (setOf (1 ∷ 2 ∷ [])) 4 Collecting)
     (calls 2 3 1 (record { number = 5 }) (record { number = 34 }) ∷ [])
 
@@ -204,34 +204,34 @@ record Parts : Type 0 where
   pub former : run 3 joinsFormer ≡ inFormerGroup
   pub merges : runFrom inFormerGroup newMerges ≡ afterMerge
   pub both : runFrom afterMerge bothInvite ≡ invitedByBoth
-  pub joins : runFrom invitedByBoth accepting ≡ accepted
-  pub plays : runFrom accepted handing ≡ inNewGroup (calls 2 3 1 (record { number = 5 }) (record { number = 34 }) ∷ [])
+  pub joins : runFrom invitedByBoth accepting ≡ threeCollects
+  pub hands : runFrom threeCollects handing ≡ inNewGroup (calls 2 3 1 (record { number = 5 }) (record { number = 34 }) ∷ [])
   pub again : runFrom (inNewGroup (calls 2 3 1 (record { number = 5 }) (record { number = 34 }) ∷ [])) (Deliver 2 1 ∷ []) ≡ inNewGroup (replies 1 2 (record { number = 5 }) true ∷ [])
   pub dropped : runFrom (inNewGroup (calls 2 3 1 (record { number = 5 }) (record { number = 34 }) ∷ [])) (Deliver 2 1 ∷ Deliver 1 2 ∷ []) ≡ inNewGroup []
 
 parts : Parts
 unfolding pick onesIn ones leadingZeros bitAnd bitOr inviteNext merges handNext finishes forwardNext askedAll askAt askAfter checked timedOut ticked expired resumed onAreYouCoordinator onAreYouThere onInvitation onAccept onReady onReply received react activityInRange nodeInRange messageInRange waits oldest withoutOldest every inRange reactionTo remaining effect wrongNumber wrongTask wrongStatus wrongActivity noneWaits grounds judged step runFrom updated historyFrom
-parts = record { former = refl; merges = refl; both = refl; joins = refl; plays = refl; again = refl; dropped = refl }
+parts = record { former = refl; merges = refl; both = refl; joins = refl; hands = refl; again = refl; dropped = refl }
 
 onward : (s t u : State) (es fs : List Event) → runFrom s es ≡ t → runFrom t fs ≡ u → runFrom s (es ++ fs) ≡ u
 onward s t u es fs p q = run-append s es fs ∙ ap (λ (v : State). runFrom v fs) p ∙ q
 
-story : (es : List Event) (u : State) → runFrom inFormerGroup es ≡ u → run 3 (joinsFormer ++ es) ≡ u
-story es u = onward (start 3) inFormerGroup u joinsFormer es (parts .former)
+from-former : (es : List Event) (u : State) → runFrom inFormerGroup es ≡ u → run 3 (joinsFormer ++ es) ≡ u
+from-former es u = onward (start 3) inFormerGroup u joinsFormer es (parts .former)
 
 pub invited-twice : InvitedTwice
 invited-twice =
     record {
       former = parts .former;
-      merges = story newMerges _ (parts .merges);
-      both = story (newMerges ++ bothInvite) _ (onward _ _ _ newMerges bothInvite (parts .merges) (parts .both));
+      merges = from-former newMerges _ (parts .merges);
+      both = from-former (newMerges ++ bothInvite) _ (onward _ _ _ newMerges bothInvite (parts .merges) (parts .both));
       normal = normal;
       only-messages = onward _ _ _ invitedOnce (Deliver 2 1 ∷ []) normal (parts .again);
       reply-dropped = onward _ _ _ invitedOnce (Deliver 2 1 ∷ Deliver 1 2 ∷ []) normal (parts .dropped);
     }
   where
     normal : run 3 invitedOnce ≡ inNewGroup (calls 2 3 1 (record { number = 5 }) (record { number = 34 }) ∷ [])
-    normal = story _ _ (onward _ _ _ newMerges (bothInvite ++ joinsNew) (parts .merges) (onward _ _ _ bothInvite joinsNew (parts .both) (onward _ _ _ accepting handing (parts .joins) (parts .plays))))
+    normal = from-former _ _ (onward _ _ _ newMerges (bothInvite ++ joinsNew) (parts .merges) (onward _ _ _ bothInvite joinsNew (parts .both) (onward _ _ _ accepting handing (parts .joins) (parts .hands))))
 
 pub held-group-cases : HeldGroupCases
 unfolding pick onesIn ones leadingZeros bitAnd bitOr inviteNext merges handNext finishes forwardNext askedAll askAt askAfter checked timedOut ticked expired resumed onAreYouCoordinator onAreYouThere onInvitation onAccept onReady onReply received react activityInRange nodeInRange messageInRange waits oldest withoutOldest every inRange reactionTo remaining effect wrongNumber wrongTask wrongStatus wrongActivity noneWaits grounds judged step runFrom updated historyFrom
