@@ -249,7 +249,8 @@ pub record NoJoiningAgain : Type 0 where
   -- nor leaves other messages than `withPlainReply` has
   pub other-messages : (t : Table) (a b : ℕ) → InvitationReaches (view t) a b → Holds (view t) a b
       → {r : Outcome} → Stepped t (Deliver a b) r → (view (r .table) .queue ≡ withPlainReply (view t) a b .queue → ⊥) → ⊥
-  -- the opposite mistake: by an invitation to a group that it neither owns nor holds, be it of the same coordinator, the receiver is not Normal, where it is accepted
+  -- the opposite mistake: after an accepted delivery of an invitation to a group that the receiver neither owns nor holds, be it of the same coordinator, no machine has
+  -- it Normal
   pub stays-normal : (t : Table) (a b : ℕ) → oldest a b (view t .queue) .kind ≡ 3 → (Owns (view t) a b → ⊥) → (Holds (view t) a b → ⊥)
       → {r : Outcome} → Stepped t (Deliver a b) r → r .answer ≡ Accepted → isNormal (nodeAt (view (r .table)) b .status) ≡ true → ⊥
   -- for one: 02's story. The invitation that came late had "put it back into Reorganization"; now node 1 is Normal after it.

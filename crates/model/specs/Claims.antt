@@ -387,7 +387,7 @@ pub record InvitationRules : Type 0 where
       (calls b 4 (ownerOf (oldest a b (s .queue) .group .number)) (nextCall (nodeAt s b)) (oldest a b (s .queue) .group))) Plain
   -- 13: "a call is needed, last call number 16,777,215"
   pub calls-end : (s : State) (a b : ℕ) → InvitationReaches s a b → NoPlainReply s a b → nodeAt s b .last .number ≡ callEnd → step s (Deliver a b) ≡ refused 13
-  -- an invitation to the group that a node holds, in every run: where the node is not Down
+  -- so in every run: an invitation to the group that a node holds, where the node is not Down
   pub runs : (n : ℕ) (es : List Event) (a b : ℕ)
       → isDown (nodeAt (run n es) b .status) ≡ false → oldest a b (run n es .queue) .kind ≡ 3 → Holds (run n es) a b
       → run n (es ++ (Deliver a b ∷ [])) ≡ withPlainReply (run n es) a b
