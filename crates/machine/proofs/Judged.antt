@@ -107,7 +107,7 @@ module _ (n waiting k : ℕ) (c : Node) (m : Message) (e : Event) where
     by-ends going a r left hr hl h = record { answer = h ∙ rw (hr, hl) (sym (past-state going)); reaction = λ z. hr }
 
 -- ── a judgement on a table: c and m as read from the arrays ──
-seat-is : (i : ℕ) → 1 ≤ i → i ≤ 16 → (i + 15) % 16 ≡ i - 1
+pub seat-is : (i : ℕ) → 1 ≤ i → i ≤ 16 → (i + 15) % 16 ≡ i - 1
 seat-is i l h = omega arith
 
 module _ (t : Table) (z : Sized t) (ok : inRange (view t) ≡ true) (e : Event) (k : ℕ) (hk : k ≡ placeFor (view t .queue) e) (reach : k ≤ t .waiting) (at : ℕ) (ha : at ≡ (actor e + 15) % 16) (d : Node) (c : Node) (hc : c ≡ getD (t .nodes) at d) (f : Message) (m : Message) (hm : m ≡ getD (t .messages) (k % 64) f) where

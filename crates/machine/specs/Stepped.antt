@@ -1,19 +1,24 @@
 -- What the public functions promise, by the definitions of `model`.
 use Prim.Native.Nat.{ℕ}
 use mathlib.Core.Path.{_≡_}
+use mathlib.Core.List.{List}
 use lib.ListN.{replicate}
 use Rattle.model.specs.Pick.{pick}
 use Rattle.model.specs.Limits.{nodeLimit, queueLimit}
-use Rattle.model.specs.State.{startingNode, start, wrongCount, noMessage, view}
-use Rattle.model.specs.Step.{step, after}
+use Rattle.model.specs.Recovery.{recoveryRecords}
+use Rattle.model.specs.State.{State, startingNode, start, wrongCount, nodeAt, noMessage, view}
+use Rattle.model.specs.Step.{Result, refused, accepted, step, after}
 use Rattle.model.specs.Answers.{answerNumber, resultNumber}
+use Rattle.model.specs.declared.Node.{Node}
 use Rattle.model.specs.declared.Table.{Table}
 use Rattle.model.specs.declared.Event.{Event}
+use Rattle.model.specs.declared.Event.the-variants.{Recover}
 use Rattle.model.specs.declared.Answer.the-variants.{Accepted}
 use Rattle.model.specs.declared.Outcome.{Outcome}
 use Rattle.machine.specs.declared.StartAnswer.{StartAnswer}
 use Rattle.machine.specs.declared.StartAnswer.the-variants.{Started, WrongCount}
 use Rattle.machine.specs.declared.Start.{Start}
+use Rattle.machine.specs.declared.RecoveryRecords.{RecoveryRecords}
 
 -- the outcome r of event e on the table t. What the table holds past its n records and its waiting messages is free after an accepted event, and decides nothing.
 pub record Stepped (t : Table) (e : Event) (r : Outcome) : Type 0 where
@@ -41,3 +46,16 @@ pub record Begun (n : ℕ) (r : Start) : Type 0 where
   pub exact : r .table ≡ startingTable n
   -- so it is the model's
   pub table : view (r .table) ≡ start n
+
+-- ── 02, T-04: "A new entry takes what recover i takes, is refused as it is, and answers the eight records of cabinet i, one after each assignment" ──
+
+-- the records beside the result of recover i on the state s; beside a refusal there are none, and eight starting records stand in their places
+abbrev pub recordsBeside : State → ℕ → Result → List Node
+recordsBeside s i (refused r) = replicate 8 startingNode
+recordsBeside s i (accepted u k) = recoveryRecords i (nodeAt s i)
+
+-- What `recovery` answers for the table t and node i. Nothing of it is free, and the table, which it only reads, is the caller's.
+pub record Recorded (t : Table) (i : ℕ) (r : RecoveryRecords) : Type 0 where
+  -- "is refused as it is": the answer is the model's to recover i
+  pub answer : answerNumber (r .answer) ≡ resultNumber (step (view t) (Recover i))
+  pub records : r .records ≡ recordsBeside (view t) i (step (view t) (Recover i))

@@ -6,8 +6,8 @@ mod range;
 ghost use mathlib.Core.Path.{_≡_};
 ghost use mathlib.Core.Bool.{true};
 ghost use Prim.Native.Nat.{ℕ, _≤_, _<_};
-ghost use Rattle.model.specs.State.{view, inRange};
-ghost use Rattle.machine.specs.Stepped.{Stepped, startingTable, Begun};
+ghost use Rattle.model.specs.State.{startingNode, view, inRange};
+ghost use Rattle.machine.specs.Stepped.{Stepped, startingTable, Begun, Recorded};
 pub use grounds::actor;
 pub use grounds::answer_number;
 pub use grounds::is_accepted;
@@ -39,17 +39,23 @@ pub struct Start {
     pub table: Table,
 }
 
+// What `recovery` answers: the answer to recover i, and the eight records.
+pub struct RecoveryRecords {
+    pub answer: Answer,
+    pub records: [Node; 8],
+}
+
 // What is answered to an event, and what its node does where it is accepted.
 pub struct Verdict {
     pub answer: Answer,
     pub reaction: Reaction,
 }
 
-// The starting table of n nodes, whatever n is.
-fn blank(n: u8) -> Table
-    ensures { λ r. ⌜ r ≡ startingTable n ⌝ }
+// The record of every node at the start; it also stands in places that hold no record.
+pub fn starting_node() -> Node
+    ensures { λ r. ⌜ r ≡ startingNode ⌝ }
 {
-    let c = Node {
+    Node {
         status: Status::Down,
         counter: 0,
         group: GroupNo { number: 0 },
@@ -58,7 +64,14 @@ fn blank(n: u8) -> Table
         members: 0,
         last: CallNo { number: 0 },
         activity: Activity::Idle,
-    };
+    }
+}
+
+// The starting table of n nodes, whatever n is.
+fn blank(n: u8) -> Table
+    ensures { λ r. ⌜ r ≡ startingTable n ⌝ }
+{
+    let c = starting_node();
     let m = Message {
         sender: 0,
         receiver: 0,
@@ -137,4 +150,26 @@ pub fn step(t: Table, e: Event) -> Outcome
         };
     }
     advance(t, e)
+}
+
+// How node i of any table would recover, as document 002 prints it: refused as recover i is, with eight starting records; or the records after each assignment. The step
+// itself answers, so the two can't differ.
+pub fn recovery(t: Table, i: u8) -> RecoveryRecords
+    ensures { λ r. ⌜ Recorded t i r ⌝ }
+{
+    let o = step(t, Event::Recover(i));
+    let answer = o.answer;
+    if !grounds::is_accepted(answer) {
+        let none = starting_node();
+        return RecoveryRecords {
+            answer: answer,
+            records: [none; 8],
+        };
+    }
+    let at = (i as usize + 15) % 16;
+    let c = t.nodes[at];
+    RecoveryRecords {
+        answer: Answer::Accepted,
+        records: node_step::recovery_records(i, c),
+    }
 }

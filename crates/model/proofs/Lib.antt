@@ -15,3 +15,4 @@ pub mod InRange
 pub mod Refusals
 pub mod CallOrder
 pub mod InvitationRules
+pub mod Recovery

@@ -7,7 +7,7 @@ use lib.Dec.{eqb}
 use borrow.Author.Tests.{eqb-true}
 use Rattle.node_set.specs.NodeSet.{with}
 use Rattle.model.specs.Pick.{pick, by-test}
-use Rattle.model.specs.Node.{isDown, isElection, isReorganization, isNormal, isCollecting, ownerOf, groupOf, turned, calling, settled, tasked, joined, recovered, merged, invited, replies}
+use Rattle.model.specs.Node.{isDown, isElection, isReorganization, isNormal, isCollecting, ownerOf, groupOf, turned, calling, settled, tasked, joined, merged, invited, replies}
 use Rattle.model.specs.Procedures.{stays, answers, recovers, inviteNext, merges, handNext, finishes, forwardNext, askedAll, askAt, askAfter}
 use Rattle.model.specs.React.{checked, timedOut, ticked, expired, resumed, onAreYouCoordinator, onAreYouThere, onInvitation, onAccept, onReady, onReply, received, react}
 use Rattle.model.specs.History.{Entry, NotFormed, NoTask, Task, History, marked, newest, coming, formed}

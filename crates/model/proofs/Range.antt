@@ -10,7 +10,8 @@ use Rattle.node_set.specs.NodeSet.{with, without, highest}
 use Rattle.node_set.proofs.Laws.{within-word, empty-within, empty-lacks, highest-in, with-within, with-lacks, without-within, without-lacks}
 use Rattle.model.specs.Pick.{pick, by-test}
 use Rattle.model.specs.Limits.{counterEnd, callEnd, tickEnd, taskLow, taskEnd}
-use Rattle.model.specs.Node.{isDown, ownerOf, groupOf, nextCall, turned, calling, settled, tasked, joined, recovered, merged, invited, asks, calls, readies, replies}
+use Rattle.model.specs.Node.{isDown, ownerOf, groupOf, nextCall, turned, calling, settled, tasked, joined, merged, invited, asks, calls, readies, replies}
+use Rattle.model.specs.Recovery.{recovered}
 use Rattle.model.specs.Procedures.{reaction, stays, answers, recovers, next, inviteNext, merges, handNext, finishes, forwardNext, askedAll, askAt, askAfter}
 use Rattle.model.specs.React.{checked, timedOut, ticked, expired, resumed, onAreYouCoordinator, onAreYouThere, onInvitation, onAccept, onReady, onReply, received, react}
 use Rattle.model.specs.Range.{isOther, isSetOfOthers, isGroup, isGivenTask, isCall, activityInRange, nodeInRange, isGroupOrNone, isLed, carriesGroup, messageInRange}

@@ -1,18 +1,20 @@
 -- What is claimed of the definitions. The proofs are in proofs/.
 use Prim.Native.Nat.{ℕ, _+_, _-_, _^_, _≤_, _<_}
-use mathlib.Core.Bool.{Bool, true, false}
+use mathlib.Core.Bool.{Bool, true, false, not}
 use mathlib.Core.Path.{_≡_}
 use mathlib.Core.Logic.{_⊎_}
-use mathlib.Core.List.{List, [], _∷_, _++_}
-use lib.ListN.{length, set}
+use mathlib.Core.List.{List, [], _∷_, _++_, map}
+use lib.Dec.{eqb}
+use lib.ListN.{length, getD, set}
 use Rattle.node_set.specs.NodeSet.{has, without}
-use Rattle.model.specs.Limits.{nodeLimit, callEnd}
-use Rattle.model.specs.Node.{isDown, isNormal, ownerOf, nextCall, calls, replies}
+use Rattle.model.specs.Limits.{nodeLimit, counterEnd, callEnd}
+use Rattle.model.specs.Node.{isDown, isNormal, groupOf, ownerOf, nextCall, calls, replies}
+use Rattle.model.specs.Recovery.{recoveryRecords, stopped, recovered}
 use Rattle.model.specs.Procedures.{next, inviteNext, handNext, forwardNext}
 use Rattle.model.specs.React.{leads, checked, expired, resumed}
-use Rattle.model.specs.Range.{carriesGroup}
-use Rattle.model.specs.State.{State, start, nodeAt, goes, waits, oldest, withoutOldest, inRange}
-use Rattle.model.specs.Step.{actor, reactionTo, remaining, sent, forms, Ground, ground, grounds, Result, refused, accepted, step, after, run}
+use Rattle.model.specs.Range.{isNode, carriesGroup}
+use Rattle.model.specs.State.{State, startingNode, start, nodeAt, goes, waits, oldest, withoutOldest, inRange}
+use Rattle.model.specs.Step.{actor, reactionTo, remaining, sent, effect, forms, Ground, ground, grounds, Result, refused, accepted, judged, step, after, run}
 use Rattle.model.specs.History.{Entry, NotFormed, NoTask, Task, History, newest, coming, history}
 use Rattle.model.specs.Answers.{resultNumber}
 use Rattle.model.specs.declared.Status.{Status}
@@ -21,6 +23,7 @@ use Rattle.model.specs.declared.Activity.{Activity}
 use Rattle.model.specs.declared.Activity.the-variants.{Idle, Asking, Waiting, Inviting, Collecting, Handing, Contacting, Forwarding, Accepting}
 use Rattle.model.specs.declared.Node.{Node}
 use Rattle.model.specs.declared.CallNo.{CallNo}
+use Rattle.model.specs.declared.GroupNo.{GroupNo}
 use Rattle.model.specs.declared.TaskNo.{TaskNo}
 use Rattle.model.specs.declared.Message.{Message}
 use Rattle.model.specs.declared.Outgoing.{Outgoing}
@@ -391,3 +394,68 @@ pub record InvitationRules : Type 0 where
   pub runs : (n : ℕ) (es : List Event) (a b : ℕ)
       → isDown (nodeAt (run n es) b .status) ≡ false → oldest a b (run n es .queue) .kind ≡ 3 → Holds (run n es) a b
       → run n (es ++ (Deliver a b ∷ [])) ≡ withPlainReply (run n es) a b
+
+-- ── 02, T-04: recovery as the paper prints it ──
+
+-- a record of which the fields that a recovery sets are given, in the order of its assignments; the last call number and the activity are those of c
+abbrev pub fieldsOver : Node → Status → ℕ → GroupNo → ℕ → ℕ → TaskNo → Node
+fieldsOver c status counter group coordinator members task = record {
+  status = status;
+  counter = counter;
+  group = group;
+  coordinator = coordinator;
+  task = task;
+  members = members;
+  last = c .last;
+  activity = c .activity;
+}
+
+-- the group that node i's recovery forms, and its solo task
+abbrev pub recoveredGroup : ℕ → Node → GroupNo
+recoveredGroup i c = record { number = groupOf (c .counter + 1) i }
+
+abbrev pub soloTask : ℕ → TaskNo
+soloTask i = record { number = i }
+
+-- the grounds that recover i can meet, in the order of the table of grounds
+abbrev pub recoveryGrounds : State → ℕ → List Ground
+recoveryGrounds s i =
+    -- "not in range"
+    ground 1 (not (inRange s))
+    -- "cabinet outside 1 to n"
+    ∷ ground 7 (not (isNode (s .n) i))
+    -- "recover: not Down"
+    ∷ ground 9 (not (isDown (nodeAt s i .status)))
+    -- "a new group is needed, counter 1,048,575"
+    ∷ ground 12 (eqb (nodeAt s i .counter) counterEnd)
+    ∷ []
+
+-- the k-th of the eight records, counted from 1
+abbrev pub recordAfter : ℕ → List Node → Node
+recordAfter k l = getD l (k - 1) startingNode
+
+pub record RecoveryRules : Type 0 where
+  -- the eight records, field by field: status, counter, group, coordinator, members, task; "each sets that field alone in the one before"
+  pub written-out : (i : ℕ) (c : Node) → recoveryRecords i c
+      ≡ fieldsOver c Election (c .counter) (c .group) (c .coordinator) (c .members) (c .task)
+      ∷ fieldsOver c Election (c .counter + 1) (c .group) (c .coordinator) (c .members) (c .task)
+      ∷ fieldsOver c Election (c .counter + 1) (recoveredGroup i c) (c .coordinator) (c .members) (c .task)
+      ∷ fieldsOver c Election (c .counter + 1) (recoveredGroup i c) i (c .members) (c .task)
+      ∷ fieldsOver c Election (c .counter + 1) (recoveredGroup i c) i 0 (c .task)
+      ∷ fieldsOver c Reorganization (c .counter + 1) (recoveredGroup i c) i 0 (c .task)
+      ∷ fieldsOver c Reorganization (c .counter + 1) (recoveredGroup i c) i 0 (soloTask i)
+      ∷ fieldsOver c Normal (c .counter + 1) (recoveredGroup i c) i 0 (soloTask i)
+      ∷ []
+  -- "The table after it is the same as before": the record that a recovery leaves, as it was defined before T-04, in 01's words "counter plus one, group from it,
+  -- coordinator i, members empty, task i, Normal, idle"
+  pub same-as-before : (i : ℕ) (c : Node) → recovered i c
+      ≡ record { status = Normal; counter = c .counter + 1; group = recoveredGroup i c; coordinator = i; task = soloTask i; members = 0; last = c .last; activity = Idle }
+  -- "CALL STOP", wherever it stands: from there on the records are those of a node that was stopped before the first
+  pub stop-anywhere : (i : ℕ) (c : Node) → recoveryRecords i (stopped c) ≡ map stopped (recoveryRecords i c)
+  -- "is refused as it is": what recover i answers, by 1, 7, 9 and 12 alone
+  pub refused-by : (s : State) (i : ℕ) → step s (Recover i) ≡ judged (accepted (effect s (Recover i)) Recovers) (recoveryGrounds s i)
+  -- "and the last is the one recover i leaves"
+  pub last : (s : State) (i : ℕ) (u : State) (k : Mark) → step s (Recover i) ≡ accepted u k → recordAfter 8 (recoveryRecords i (nodeAt s i)) ≡ nodeAt u i
+  -- every other recovery leaves the last of the same eight, of the stopped node: whatever the event, where its node "recovers"
+  pub every-recovery : (s : State) (e : Event) (u : State) → step s e ≡ accepted u Recovers
+      → recordAfter 8 (recoveryRecords (actor e) (stopped (nodeAt s (actor e)))) ≡ nodeAt u (actor e)

@@ -2,6 +2,7 @@
 pub mod Pick
 pub mod Limits
 pub mod Node
+pub mod Recovery
 pub mod Procedures
 pub mod React
 pub mod Range

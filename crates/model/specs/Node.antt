@@ -166,19 +166,6 @@ joined c j = record {
   activity = c .activity;
 }
 
--- "counter plus one, group from it, coordinator i, members empty, task i, Normal, idle"
-abbrev pub recovered : ℕ → Node → Node
-recovered i c = record {
-  status = Normal;
-  counter = c .counter + 1;
-  group = record { number = groupOf (c .counter + 1) i };
-  coordinator = i;
-  task = record { number = i };
-  members = 0;
-  last = c .last;
-  activity = Idle;
-}
-
 -- "Election; counter plus one, new group, coordinator i; members are .. emptied"
 abbrev pub merged : ℕ → Node → Node
 merged i c = record {

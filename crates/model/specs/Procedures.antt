@@ -5,7 +5,8 @@ use mathlib.Core.Bool.{Bool, true, false, not}
 use lib.Dec.{eqb, leb, ltb}
 use Rattle.node_set.specs.NodeSet.{without, highest}
 use Rattle.model.specs.Pick.{pick}
-use Rattle.model.specs.Node.{nextCall, turned, calling, settled, tasked, recovered, merged, asks, calls, readies, replies}
+use Rattle.model.specs.Node.{nextCall, turned, calling, settled, tasked, merged, asks, calls, readies, replies}
+use Rattle.model.specs.Recovery.{recovered}
 use Rattle.model.specs.declared.Status.{Status}
 use Rattle.model.specs.declared.Status.the-variants.{Down, Election, Reorganization, Normal}
 use Rattle.model.specs.declared.Activity.{Activity}

@@ -3,6 +3,7 @@
 mod node;
 mod procedures;
 mod range;
+mod recovery;
 mod step;
 
 ghost use mathlib.Core.Path.{_≡_};
@@ -38,6 +39,7 @@ pub use range::is_node;
 pub use range::is_other;
 pub use range::message_in_range;
 pub use range::node_in_range;
+pub use recovery::recovery_records;
 pub use step::forms;
 pub use step::is_calling;
 pub use step::is_sending;

@@ -155,13 +155,12 @@ pub fn has_open_call(a: Activity) -> bool
     }
 }
 
-// The first group of `owner` after those that `counter` counts.
-pub fn new_group(counter: u32, owner: u8) -> GroupNo
-    requires { ⌜ (1 ≤ owner) × (counter ≤ counterEnd) ⌝ }
-    ensures { λ r. ⌜ r ≡ record { number = spec.groupOf (counter + 1) owner } ⌝ }
+pub fn group_of(counter: u32, owner: u8) -> GroupNo
+    requires { ⌜ (1 ≤ owner) × (counter ≤ counterEnd + 1) ⌝ }
+    ensures { λ r. ⌜ r ≡ record { number = spec.groupOf counter owner } ⌝ }
 {
     GroupNo {
-        number: (counter + 1) * 16 + (owner - 1) as u32,
+        number: counter * 16 + (owner - 1) as u32,
     }
 }
 
@@ -229,31 +228,15 @@ pub fn joined(c: Node, j: u8) -> Node
     }
 }
 
-pub fn recovered(i: u8, c: Node) -> Node
-    requires { ⌜ (1 ≤ i) × (c .counter ≤ counterEnd) ⌝ }
-    ensures { λ r. ⌜ r ≡ spec.recovered i c ⌝ }
-{
-    let group = new_group(c.counter, i);
-    Node {
-        status: Status::Normal,
-        counter: c.counter + 1,
-        group: group,
-        coordinator: i,
-        task: TaskNo { number: i as u16 },
-        members: 0,
-        activity: Activity::Idle, // "nothing further of the procedure runs"
-        ..c
-    }
-}
-
 pub fn merged(i: u8, c: Node) -> Node
     requires { ⌜ (1 ≤ i) × (c .counter ≤ counterEnd) ⌝ }
     ensures { λ r. ⌜ r ≡ spec.merged i c ⌝ }
 {
-    let group = new_group(c.counter, i);
+    let counter = c.counter + 1;
+    let group = group_of(counter, i);
     Node {
         status: Status::Election,
-        counter: c.counter + 1,
+        counter: counter,
         group: group,
         coordinator: i,
         members: 0,

@@ -6,6 +6,7 @@ ghost use Rattle.model.specs.Node.{nextCall, calling, calls};
 ghost use Rattle.model.specs.Procedures as spec;
 ghost use Rattle.node_step.specs.Fits.{Fits};
 use crate::node;
+use crate::recovery;
 use model::Activity;
 use model::CallNo;
 use model::Mark;
@@ -51,7 +52,7 @@ pub fn recovers(i: u8, c: Node) -> Reaction
     requires { ⌜ (1 ≤ i) × (c .counter ≤ counterEnd) ⌝ }
     ensures { λ r. ⌜ r ≡ spec.recovers i c ⌝ }
 {
-    reaction(node::recovered(i, c), Outgoing::Nothing, Mark::Recovers)
+    reaction(recovery::recovered(i, c), Outgoing::Nothing, Mark::Recovers)
 }
 
 // Node `i` calls node `to`, with its group, in activity `a`.

@@ -1,4 +1,4 @@
--- `merged` meets its contract: what `new_group` ensures.
+-- `merged` meets its contract: what `group_of` ensures.
 use borrow.Author.Needs.{needs}
 use Rattle.node_step.proofs.node.merged.Statement.{statement}
 use Rattle.node_step.proofs.node.merged.Tie as tie
@@ -8,4 +8,4 @@ merged-spec =
     tie.close
     (tie.spec
     (search needs) (search needs)
-    (λ c. rw (c .before .before .before .new-group .ensures)))
+    (λ c. rw (c .before .before .group-of .ensures)))

@@ -1,0 +1,62 @@
+-- What `recovery` comes to, by the outcome of the step: a refusal; or the record of node i, which is then one of the table and fits its words.
+use Prim.Native.Nat.{ℕ, _+_, _-_, _%_, _≤_}
+use native.Mathlib.Omega.{arith}
+use mathlib.Core.Bool.{true, false}
+use mathlib.Core.Path.{_≡_, refl, sym, _∙_, ap}
+use mathlib.Core.List.{List}
+use lib.ListN.{getD, replicate}
+use Rattle.model.specs.Pick.{pick}
+use Rattle.model.specs.Limits.{counterEnd}
+use Rattle.model.specs.Recovery.{recoveryRecords}
+use Rattle.model.specs.State.{State, startingNode, nodeAt, inRange, view}
+use Rattle.model.specs.Step.{Result, refused, accepted, step}
+use Rattle.model.specs.Answers.{answerNumber, resultNumber}
+use Rattle.model.specs.Claims.{Accepts}
+use Rattle.model.proofs.Judged.{Clear, accepted-is}
+use Rattle.model.proofs.Refusals.{refuses-by-ground}
+use Rattle.model.specs.declared.Node.{Node}
+use Rattle.model.specs.declared.Table.{Table}
+use Rattle.model.specs.declared.Event.the-variants.{Recover}
+use Rattle.model.specs.declared.Outcome.{Outcome}
+use Rattle.model.specs.declared.Answer.the-variants.{Accepted}
+use Rattle.machine.specs.Parts.{first, numberGrounds, isAccepted}
+use Rattle.machine.specs.Stepped.{Stepped, recordsBeside, Recorded}
+use Rattle.machine.proofs.Laws.{Sized}
+use Rattle.machine.proofs.Parts.{accepted-zero, refused-some}
+use Rattle.machine.proofs.Places.{small, actor-is, node-read, node-fits}
+use Rattle.machine.proofs.Judged.{seat-is}
+
+module _ (t : Table) (i : ℕ) (o : Outcome) (x : Stepped t (Recover i) o) where
+  pub refuses : isAccepted (o .answer) ≡ false → (c : Node) → c ≡ startingNode → Recorded t i (record { answer = o .answer; records = replicate 8 c })
+  refuses q c e = record { answer = x .answer; records = ap (replicate 8) e ∙ beside (step (view t) (Recover i)) refl }
+    where
+      beside : (y : Result) → step (view t) (Recover i) ≡ y → replicate 8 startingNode ≡ recordsBeside (view t) i y
+      beside (refused r) h = refl
+      beside (accepted u k) h = absurd (omega (arith, refused-some (o .answer) q, x .answer ∙ ap resultNumber h))
+
+  module _ (yes : isAccepted (o .answer) ≡ true) where
+    accepts : Accepts (view t) (Recover i)
+    accepts = refuses-by-ground .zero-accepts (view t) (Recover i) (sym (x .answer) ∙ accepted-zero (o .answer) yes)
+
+    clear : Clear (view t) (Recover i)
+    clear = accepted-is (view t) (Recover i) (accepts .state) (accepts .mark) (accepts .is) .clear
+
+    numbers : first (numberGrounds (t .n) (Recover i)) ≡ 0
+    unfolding first pick
+    numbers = rw (clear .number)
+
+    module _ (z : Sized t) (d : Node) where
+      read : getD (t .nodes) ((i + 15) % 16) d ≡ nodeAt (view t) i
+      read =
+          let a = actor-is t z (clear .in-range) (Recover i) numbers in
+          rw (seat-is i (a .0) (omega (arith, a .1, small t z (clear .in-range) (Recover i) .1))) (node-read t z (clear .in-range) (Recover i) numbers d)
+
+      pub fits : (1 ≤ i) × (getD (t .nodes) ((i + 15) % 16) d .counter ≤ counterEnd)
+      fits = let f = node-fits t z (clear .in-range) (Recover i) numbers _ read in (f .low, f .counter)
+
+      pub recorded : (l : List Node) → l ≡ recoveryRecords i (getD (t .nodes) ((i + 15) % 16) d) → Recorded t i (record { answer = Accepted; records = l })
+      recorded l e =
+          record {
+            answer = sym (ap resultNumber (accepts .is));
+            records = e ∙ ap (recoveryRecords i) read ∙ sym (ap (recordsBeside (view t) i) (accepts .is));
+          }
