@@ -85,7 +85,7 @@ answer-back CounterAtEnd = refl
 answer-back CallsAtEnd = refl
 answer-back QueueFull = refl
 
-answer-known : (a b : Answer) → answerNumber a ≡ answerNumber b → a ≡ b
+pub answer-known : (a b : Answer) → answerNumber a ≡ answerNumber b → a ≡ b
 answer-known a b e = sym (answer-back a) ∙ ap answerOf e ∙ answer-back b
 
 pub stepped-alike : SteppedAlike

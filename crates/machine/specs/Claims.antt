@@ -1,23 +1,27 @@
--- What is claimed of the tables that the code returns: they are those of the model's run, and demand 3, whole, holds of them. The proofs are in proofs/Runs.
+-- What is claimed of the tables that the code returns: they are those of the model's run, and demand 3, whole, holds of them; and of the records of a recovery. The proofs
+-- are in proofs/Runs and proofs/Recording.
 use Prim.Native.Nat.{ℕ, _≤_}
 use mathlib.Core.Bool.{Bool, true, false}
 use mathlib.Core.Path.{_≡_}
 use mathlib.Core.List.{List, _++_}
+use lib.ListN.{replicate}
 use Rattle.model.specs.Limits.{nodeLimit}
-use Rattle.model.specs.State.{State, nodeAt, inRange, view}
+use Rattle.model.specs.Recovery.{recoveryRecords}
+use Rattle.model.specs.State.{State, startingNode, nodeAt, inRange, view}
 use Rattle.model.specs.Step.{actor, reactionTo, forms, accepted, step, runFrom, run}
 use Rattle.model.specs.History.{NotFormed, NoTask, Task, newest, coming, history}
-use Rattle.model.specs.Claims.{isActive, Lacks, Fixes, EachGroup}
+use Rattle.model.specs.Claims.{isActive, Lacks, Fixes, EachGroup, recordAfter}
 use Rattle.model.specs.declared.Status.the-variants.{Normal}
 use Rattle.model.specs.declared.TaskNo.{TaskNo}
 use Rattle.model.specs.declared.Mark.{Mark}
 use Rattle.model.specs.declared.Event.{Event}
-use Rattle.model.specs.declared.Event.the-variants.{Finish}
+use Rattle.model.specs.declared.Event.the-variants.{Recover, Finish}
 use Rattle.model.specs.declared.Table.{Table}
 use Rattle.model.specs.declared.Outcome.{Outcome}
 use Rattle.model.specs.declared.Answer.the-variants.{Accepted}
 use Rattle.machine.specs.declared.Start.{Start}
-use Rattle.machine.specs.Stepped.{Stepped, Begun}
+use Rattle.machine.specs.declared.RecoveryRecords.{RecoveryRecords}
+use Rattle.machine.specs.Stepped.{Stepped, Begun, Recorded}
 
 -- Of any outcome that meets `Stepped`, what `step` and `apply` promise: the code answers Accepted exactly where the model accepts.
 pub record AcceptedAlike : Type 0 where
@@ -98,3 +102,21 @@ pub record CodeFixes (chain : Chain) (n : ℕ) : Type 0 where
   -- list for that group. That there is one such event only is said of the list alone, by `TaskFromList`.
   pub from-list : {es : List Event} {t : Table} → Reached chain n es t → (i : ℕ) → 1 ≤ i → i ≤ n → nodeAt (view t) i .status ≡ Normal
       → Fixes n es (nodeAt (view t) i .group .number) (nodeAt (view t) i .task .number)
+
+-- ── 02, T-04: recovery as the paper prints it ──
+
+-- Of any answer q that meets `Recorded`, what `recovery` promises for the table t and node i, and any outcome r that meets `Stepped` for recover i on the same table:
+-- the two can't drift apart.
+pub record RecordedAlike : Type 0 where
+  -- "is refused as it is"
+  pub answer : {t : Table} {i : ℕ} {r : Outcome} {q : RecoveryRecords} → Stepped t (Recover i) r → Recorded t i q → q .answer ≡ r .answer
+  -- "and answers the eight records of cabinet i"
+  pub records : {t : Table} {i : ℕ} {q : RecoveryRecords} → Recorded t i q → q .answer ≡ Accepted → q .records ≡ recoveryRecords i (nodeAt (view t) i)
+  -- "and the last is the one recover i leaves"
+  pub last : {t : Table} {i : ℕ} {r : Outcome} {q : RecoveryRecords} → Stepped t (Recover i) r → Recorded t i q → q .answer ≡ Accepted
+      → recordAfter 8 (q .records) ≡ nodeAt (view (r .table)) i
+  -- beside a refusal stand eight starting records
+  pub refused-records : {t : Table} {i : ℕ} {q : RecoveryRecords} → Recorded t i q → (q .answer ≡ Accepted → ⊥) → q .records ≡ replicate 8 startingNode
+  -- one answer meets the promise, with one list of records
+  pub same-answer : {t : Table} {i : ℕ} {p q : RecoveryRecords} → Recorded t i p → Recorded t i q → p .answer ≡ q .answer
+  pub same-records : {t : Table} {i : ℕ} {p q : RecoveryRecords} → Recorded t i p → Recorded t i q → p .records ≡ q .records

@@ -1,4 +1,4 @@
--- The named cases, the wrong turnings, the further cases, those of T-03 and the ends of what is in range, computed over the definitions.
+-- The named cases, the wrong turnings, the further cases, those of T-03 and T-04 and the ends of what is in range, computed over the definitions.
 use mathlib.Core.Bool.{true}
 use mathlib.Core.Path.{_≡_, refl, _∙_, ap}
 use mathlib.Core.List.{List, [], _∷_, _++_}
@@ -12,7 +12,7 @@ use Rattle.model.specs.Range.{activityInRange, nodeInRange, messageInRan
 use Rattle.model.specs.State.{State, start, waits, oldest, withoutOldest, every, inRange}
 use Rattle.model.specs.Step.{reactionTo, remaining, effect, wrongNumber, wrongTask, wrongStatus, wrongActivity, noneWaits, grounds, judged, step, runFrom, run}
 use Rattle.model.specs.History.{updated, historyFrom}
-use Rattle.model.specs.Cases.{NamedCases, WrongTurnings, FurtherCases, setOf, none, node, three, joinsFormer, inFormerGroup, newMerges, afterMerge, bothInvite, invitedByBoth, joinsNew, inNewGroup, invitedOnce, InvitedTwice, HeldGroupCases, RangeCases}
+use Rattle.model.specs.Cases.{NamedCases, WrongTurnings, FurtherCases, setOf, none, node, three, joinsFormer, inFormerGroup, newMerges, afterMerge, bothInvite, invitedByBoth, joinsNew, inNewGroup, invitedOnce, InvitedTwice, HeldGroupCases, RecoveryCases, RangeCases}
 use Rattle.model.proofs.Whole.{run-append}
 use Rattle.model.specs.declared.Status.the-variants.{Election, Reorganization}
 use Rattle.model.specs.declared.Activity.the-variants.{Idle, Collecting}
@@ -247,6 +247,24 @@ held-group-cases =
       older-group = refl;
       newer-group = refl;
       call-needed = refl;
+    }
+
+pub recovery-cases : RecoveryCases
+unfolding pick onesIn ones leadingZeros bitAnd bitOr inviteNext merges handNext finishes forwardNext askedAll askAt askAfter checked timedOut ticked expired resumed onAreYouCoordinator onAreYouThere onInvitation onAccept onReady onReply received react activityInRange nodeInRange messageInRange waits oldest withoutOldest every inRange reactionTo remaining effect wrongNumber wrongTask wrongStatus wrongActivity noneWaits grounds judged step runFrom updated historyFrom
+recovery-cases =
+    record {
+      k2 = refl;
+      each = refl;
+      left = refl;
+      k4 = refl;
+      k5 = refl;
+      range-number = refl;
+      range-status = refl;
+      range-counter = refl;
+      status-counter = refl;
+      number-none = refl;
+      number-above = refl;
+      inside = refl;
     }
 
 pub range-cases : RangeCases

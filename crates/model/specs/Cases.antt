@@ -1,14 +1,15 @@
 -- "Named cases": what is claimed of K1 to K13, jointly, over the definitions. Where 01 names one side of a rule, the other side stands beside it. "Wrong
--- turnings in this protocol" follow, then further cases, those of 02's T-03, and the ends of what is in range. The tables are in range where nothing else is said;
+-- turnings in this protocol" follow, then further cases, those of 02's T-03 and T-04, and the ends of what is in range. The tables are in range where nothing else is said;
 -- not each of them is one that a run reaches.
 use Prim.Native.Nat.{ℕ}
 use mathlib.Core.Bool.{Bool, true, false}
 use mathlib.Core.Path.{_≡_}
-use mathlib.Core.List.{List, [], _∷_, _++_}
+use mathlib.Core.List.{List, [], _∷_, _++_, map}
 use lib.ListN.{length, set, replicate}
 use Rattle.node_set.specs.NodeSet.{with, count}
 use Rattle.model.specs.Pick.{pick}
 use Rattle.model.specs.Node.{groupOf, asks, calls, readies, replies}
+use Rattle.model.specs.Recovery.{recoveryRecords, stopped}
 use Rattle.model.specs.Range.{nodeInRange, messageInRange}
 use Rattle.model.specs.State.{State, startingNode, start, wrongCount, nodeAt, inRange}
 use Rattle.model.specs.Step.{Result, refused, accepted, step, after, runFrom, run}
@@ -681,6 +682,64 @@ pub record HeldGroupCases : Type 0 where
       ≡ accepted (beside (follower Election 48 100 none 6 (Accepting 1 (callNo 3))) (calls 2 4 1 (callNo 6) (groupNo 48) ∷ [])) Plain
   -- for which it needs a call number
   pub call-needed : step (beside (follower Normal 32 100 none 16777215 Idle) (invitation 16)) (Deliver 1 2) ≡ refused 13
+
+-- ── 02, T-04: the records of a recovery; fields in 01's order ──
+
+-- node 2 as a Down follower of node 1, of three; every assignment of its recovery changes something
+abbrev pub leftBehind : Node
+leftBehind = node Down 5 48 1 300 (setOf (1 ∷ 3 ∷ [])) 9 Idle
+
+-- a table with it, in which node 3 is as at the start
+abbrev pub withLeftBehind : Node → State
+withLeftBehind c = record { n = 3; nodes = node Normal 3 48 1 300 (setOf (2 ∷ [])) 4 Idle ∷ c ∷ startingNode ∷ []; queue = invitation 48 }
+
+pub record RecoveryCases : Type 0 where
+  -- K2: the first recovery of node 1
+  pub k2 : recoveryRecords 1 (nodeAt (start 2) 1)
+      ≡ node Election 0 0 0 0 none 0 Idle
+      ∷ node Election 1 0 0 0 none 0 Idle
+      ∷ node Election 1 16 0 0 none 0 Idle
+      ∷ node Election 1 16 1 0 none 0 Idle
+      ∷ node Election 1 16 1 0 none 0 Idle
+      ∷ node Reorganization 1 16 1 0 none 0 Idle
+      ∷ node Reorganization 1 16 1 1 none 0 Idle
+      ∷ node Normal 1 16 1 1 none 0 Idle
+      ∷ []
+  -- eight different records; the last call number stays
+  pub each : recoveryRecords 2 leftBehind
+      ≡ node Election 5 48 1 300 (setOf (1 ∷ 3 ∷ [])) 9 Idle
+      ∷ node Election 6 48 1 300 (setOf (1 ∷ 3 ∷ [])) 9 Idle
+      ∷ node Election 6 97 1 300 (setOf (1 ∷ 3 ∷ [])) 9 Idle
+      ∷ node Election 6 97 2 300 (setOf (1 ∷ 3 ∷ [])) 9 Idle
+      ∷ node Election 6 97 2 300 none 9 Idle
+      ∷ node Reorganization 6 97 2 300 none 9 Idle
+      ∷ node Reorganization 6 97 2 2 none 9 Idle
+      ∷ node Normal 6 97 2 2 none 9 Idle
+      ∷ []
+  -- and recover 2 leaves the last of them, and nothing else changes
+  pub left : step (withLeftBehind leftBehind) (Recover 2) ≡ accepted (withLeftBehind (node Normal 6 97 2 2 none 9 Idle)) Recovers
+  -- K4: after a crash, the second recovery; K5: the last that the counter allows
+  pub k4 : map (λ c. c .group .number) (recoveryRecords 1 (nodeAt (run 2 (Recover 1 ∷ Crash 1 ∷ [])) 1)) ≡ 16 ∷ 16 ∷ 32 ∷ 32 ∷ 32 ∷ 32 ∷ 32 ∷ 32 ∷ []
+  pub k5 : map (λ c. c .group .number) (recoveryRecords 16 (nodeAt (counted Down Idle 1048574) 16))
+      ≡ 16777199 ∷ 16777199 ∷ 16777215 ∷ 16777215 ∷ 16777215 ∷ 16777215 ∷ 16777215 ∷ 16777215 ∷ []
+  -- the grounds in their order, where two apply: 1 before 7, 1 before 9, 1 before 12, 9 before 12; and where one does: 7 for no node, and above n
+  pub range-number : step (beside (follower Normal 33 100 none 2 Idle) []) (Recover 9) ≡ refused 1
+  pub range-status : step (beside (follower Normal 33 100 none 2 Idle) []) (Recover 1) ≡ refused 1
+  pub range-counter : step (beside (node Down 1048575 0 0 0 none 0 Idle) (invitation 0)) (Recover 2) ≡ refused 1
+  pub status-counter : step (counted Normal Idle 1048575) (Recover 16) ≡ refused 9
+  pub number-none : step (start 2) (Recover 0) ≡ refused 7
+  pub number-above : step (start 2) (Recover 3) ≡ refused 7
+  -- a recovery inside another procedure: contacting stops, and the record after each assignment is the one of an idle node
+  pub inside : recoveryRecords 2 (stopped (node Normal 5 48 1 300 none 9 Contacting))
+      ≡ node Election 5 48 1 300 none 9 Idle
+      ∷ node Election 6 48 1 300 none 9 Idle
+      ∷ node Election 6 97 1 300 none 9 Idle
+      ∷ node Election 6 97 2 300 none 9 Idle
+      ∷ node Election 6 97 2 300 none 9 Idle
+      ∷ node Reorganization 6 97 2 300 none 9 Idle
+      ∷ node Reorganization 6 97 2 2 none 9 Idle
+      ∷ node Normal 6 97 2 2 none 9 Idle
+      ∷ []
 
 -- ── records, messages and tables at the ends of what is in range, and just outside: node 2 of three, and messages among three ──
 
