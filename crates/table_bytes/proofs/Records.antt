@@ -39,11 +39,10 @@ all-long g size long [] = sym (zero-mul size)
 all-long g size long (x ∷ xs) = rw (length-append, long, all-long g size long xs, suc-mul) (omega arith)
 
 module _ {A : Type 0} (g : A → List ℕ) (size : ℕ) (long : (x : A) → length (g x) ≡ size) (xs : List A) (i : ℕ) where
-  pub all-turn : i < length xs → (from : ℕ) (d : A) (out o : List ℕ) → o ≡ written out (from + i * size) (g (getD xs i d)) → written out (from + i * size) (all g (drop i xs)) ≡ written o (from + (i + 1) * size) (all g (drop (i + 1) xs))
+  -- what is left from i on is written at `at`, and one record less right behind it
+  pub all-turn : i < length xs → (at next : ℕ) → next ≡ at + size → (d : A) (out o : List ℕ) → o ≡ written out at (g (getD xs i d)) → written out at (all g (drop i xs)) ≡ written o next (all g (drop (i + 1) xs))
   unfolding all
-  all-turn h from d out o e =
-      let f : from + suc i * size ≡ from + i * size + size = rw (suc-mul i size) (omega arith) in
-      rw (drop-cons xs i d h, written-append, long, ← e, add-one i, f)
+  all-turn h at next n d out o e = rw (drop-cons xs i d h, written-append, long, ← e, add-one i, n)
 
   pub all-end : length xs ≤ i → (at : ℕ) (out : List ℕ) → written out at (all g (drop i xs)) ≡ out
   unfolding all written

@@ -16,10 +16,10 @@ use Rattle.model.specs.declared.Activity.the-variants.{Idle, Asking, Waiting, I
 use Rattle.model.specs.declared.Node.{Node}
 use Rattle.model.specs.declared.Message.{Message}
 use Rattle.model.specs.declared.Table.{Table}
-use Rattle.table_bytes.specs.Bytes.{number, bytes, many, all, partsOf, activityOf, statusOf, nodeOf, messageOf, decoded, yesNumber, partsBytes, nodeBytes, messageBytes, size, encoded, written, Stored, NodeFits, MessageFits, Each, Fits}
+use Rattle.table_bytes.specs.Bytes.{number, bytes, many, all, partsOf, activityOf, statusOf, nodeOf, messageOf, decoded, yesNumber, partsBytes, nodeBytes, messageBytes, size, encoded, written, Stored, recordsSize, RecordsStored, NodeFits, MessageFits, Each, Fits}
 use Rattle.table_bytes.specs.Claims.{ReadBack}
 use Rattle.table_bytes.proofs.Numbers.{read, number-at, length-bytes, written-over}
-use Rattle.table_bytes.proofs.Records.{node-long, message-long, nodes-end, messages-end}
+use Rattle.table_bytes.proofs.Records.{all-long, node-long, message-long, nodes-end, messages-end}
 
 -- ── records of one size ──
 module _ {A : Type 0} (f : List ℕ → A) (g : A → List ℕ) (size : ℕ) (long : (x : A) → length (g x) ≡ size) (P : A → Type 0) (back : (x : A) → P x → (l : List ℕ) → f (g x ++ l) ≡ x) where
@@ -137,3 +137,20 @@ read-back = record { long = encoded-long; decode-encode = decode-encode; decode-
 -- what `encode` leaves in a buffer
 pub stored : (t : Table) → Fits t → (b o : List ℕ) → o ≡ written b 0 (encoded t) → Stored t b o
 stored t h b o e = record { bytes = e; whole = λ room. e ∙ over t h b room; back = λ room. ap decoded e ∙ round-trip t h b room }
+
+-- ── eight records ──
+
+-- what `encode_records` leaves in a buffer
+pub records-stored : (l : List Node) → length l ≡ 8 → Each NodeFits l → (b o : List ℕ) → o ≡ written b 0 (all nodeBytes l) → RecordsStored l b o
+records-stored l e h b o w =
+    record {
+      bytes = w;
+      whole = over;
+      back = λ room. ap (many nodeOf 29 8) (over room) ∙ many-back nodeOf nodeBytes 29 node-long NodeFits node-back 8 l e h (drop recordsSize b);
+    }
+  where
+    long : length (all nodeBytes l) ≡ recordsSize
+    long = rw (all-long nodeBytes 29 node-long, e)
+
+    over : recordsSize ≤ length b → o ≡ all nodeBytes l ++ drop recordsSize b
+    over room = w ∙ written-over b (all nodeBytes l) (rw long room) ∙ rw long

@@ -1,13 +1,14 @@
--- What owning a table tells of it: its arrays' lengths, and that each number fits its width. The paths below follow the order of the fields in crate model.
-use mathlib.Core.Path.{sym, _∙_}
+-- What owning a table, or eight records, tells of it: the arrays' lengths, and that each number fits its width. The paths below follow the order of the fields in crate model.
+use Prim.Native.Nat.{ℕ}
+use mathlib.Core.Path.{_≡_, refl, sym, _∙_, ap, subst}
 use mathlib.Core.List.{List, [], _∷_, map}
 use native.Mathlib.Omega.{arith}
-use lib.ListN.{length-map}
+use lib.ListN.{length, length-map}
 use mir.Val.{Val}
 use denote.Laws.{Is}
 use denote.Shadow.{shadow}
-use denote.Array.{each}
-use denote.Struct.Field.{Field}
+use denote.Array.{Array, each}
+use denote.RattleType.{RattleType}
 use denote.Struct.Declared as struct
 use denote.Enum.Declared as enum
 use Rattle.model.specs.declared.Activity.{Activity}
@@ -71,13 +72,23 @@ message-fits m g =
       task = h .1 .1 .0 .1 .1 .0 .1;
     }
 
--- of each element of an array
-module _ (F : Field) (P : F .Value → Type 0) (fits : (x : F .Value) (vs : List Val) → Is (F .row) (F .into x) vs → P x) where
-  each-fits : (xs : List (F .Value)) (us : List Val) → shadow (each (F .row .Denot) (F .row .own) (map (F .into) xs) us) → Each P xs
+-- of each element of an array: R is the elements' type, and h takes an element to what R owns
+module _ {A : Type 0} (R : RattleType) (h : A → R .Denot) (P : A → Type 0) (fits : (x : A) (vs : List Val) → Is R (h x) vs → P x) where
+  each-fits : (xs : List A) (us : List Val) → shadow (each (R .Denot) (R .own) (map h xs) us) → Each P xs
   unfolding Each
   each-fits [] us s = tt
   each-fits (x ∷ xs) [] s = absurd s
   each-fits (x ∷ xs) (u ∷ us) s = (fits x (u ∷ []) (s .0), each-fits xs us (s .1))
+
+map-same : {A : Type 0} (xs : List A) → map (λ x. x) xs ≡ xs
+map-same [] = refl
+map-same {A} (x ∷ xs) = ap (λ (r : List A). x ∷ r) (map-same xs)
+
+-- records owned as an array
+pub records-fit : (k : ℕ) (xs : List Node) {vs : List Val} → Is (Array (struct.row node.the-type) k) xs vs → (length xs ≡ k) × Each NodeFits xs
+records-fit k xs g =
+    let own = subst (λ (l : List Node). shadow (each Node (struct.row node.the-type .own) l (g .0))) (sym (map-same xs)) (g .1 .1) in
+    (g .1 .0 .1, each-fits (struct.row node.the-type) (λ c. c) NodeFits (λ c vs f. node-fits c {vs = vs} f) xs (g .0) own)
 
 pub table-fits : (t : Table) {vs : List Val} → Is (struct.row table.the-type) t vs → Fits t
 table-fits t g =
@@ -86,7 +97,7 @@ table-fits t g =
     let b = f .1 .1 .0 in
     record {
       n = f .0 .1;
-      nodes = (sym (length-map (t .nodes) _) ∙ a .1 .0 .1, each-fits node.the-field NodeFits (λ c vs h. node-fits c {vs = vs} h) (t .nodes) (a .0) (a .1 .1));
-      messages = (sym (length-map (t .messages) _) ∙ b .1 .0 .1, each-fits message.the-field MessageFits (λ m vs h. message-fits m {vs = vs} h) (t .messages) (b .0) (b .1 .1));
+      nodes = (sym (length-map (t .nodes) _) ∙ a .1 .0 .1, each-fits (node.the-field .row) (node.the-field .into) NodeFits (λ c vs h. node-fits c {vs = vs} h) (t .nodes) (a .0) (a .1 .1));
+      messages = (sym (length-map (t .messages) _) ∙ b .1 .0 .1, each-fits (message.the-field .row) (message.the-field .into) MessageFits (λ m vs h. message-fits m {vs = vs} h) (t .messages) (b .0) (b .1 .1));
       waiting = f .1 .1 .1 .0 .1;
     }

@@ -159,6 +159,21 @@ pub record Stored (t : Table) (b o : List ℕ) : Type 0 where
   -- and the very same table is read back
   pub back : size ≤ length b → decoded o ≡ t
 
+-- ── the bytes of eight records (02, T-04), one after another ──
+
+-- how many they are
+abbrev pub recordsSize : ℕ
+recordsSize = 232
+
+-- What writing the eight records l into a buffer that held b leaves there, o.
+pub record RecordsStored (l : List Node) (b o : List ℕ) : Type 0 where
+  -- their bytes over the start of b, as many as b has room for
+  pub bytes : o ≡ written b 0 (all nodeBytes l)
+  -- where b has room for all, they stand there whole, and behind them what was there
+  pub whole : recordsSize ≤ length b → o ≡ all nodeBytes l ++ drop recordsSize b
+  -- and the very same records are read back
+  pub back : recordsSize ≤ length b → many nodeOf 29 8 o ≡ l
+
 -- ── what the types of a table's fields hold: every table of the code fits, `table-fits` of proofs/Widths ──
 
 pub record PartsFit (p : Parts) : Type 0 where

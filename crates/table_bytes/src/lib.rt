@@ -21,8 +21,10 @@ ghost use lib.ListN.{getD, drop, set};
 ghost use Rattle.model.specs.Answers.{statusNumber};
 ghost use Rattle.table_bytes.specs.Bytes as spec;
 
-// How long a table's bytes are.
+// How long a table's bytes are, and those of eight records.
 pub const SIZE: usize = 1362;
+
+pub const RECORDS_SIZE: usize = 232;
 
 // An activity with a place for each thing that one of them holds.
 struct Parts {
@@ -378,4 +380,16 @@ pub fn encode(t: Table, out: &mut [u8])
     put_nodes(out, t);
     put_messages(out, t);
     put_one(out, 1361, t.waiting)
+}
+
+// The bytes of eight records, such as `machine::recovery` answers, one after another over the start of out, as `encode` writes those of a table.
+pub fn encode_records(records: [Node; 8], out: &mut [u8])
+    ensures { λ _. ⌜ spec.RecordsStored records (now (out .entry)) (now (out .exit)) ⌝ }
+{
+    let mut i: usize = 0;
+    while i < 8 {
+        let node = records[i];
+        put_node(out, i * 29, node);
+        i += 1;
+    }
 }

@@ -23,7 +23,7 @@ loop-again c =
     let l = k .before in
     let s = l .before .before in
     let n = table-fits (s .args .t2) (s .good .1 .0) .messages .0 in
-    (omega arith, search needs, sym (all-turn messageBytes 14 message-long (s .args .t2 .messages) (l .loop .i) (omega arith) 465 _ (l .loop .out) _ (p .put-message .ensures)) ∙ l .loop .inv .2)
+    (omega arith, search needs, sym (all-turn messageBytes 14 message-long (s .args .t2 .messages) (l .loop .i) (omega arith) _ _ (omega arith) _ (l .loop .out) _ (p .put-message .ensures)) ∙ l .loop .inv .2)
 
 returns : tie.Need-returns Inv-loop μ-loop
 returns c =

@@ -23,7 +23,7 @@ loop-again c =
     let l = k .before in
     let s = l .before .before in
     let n = table-fits (s .args .t2) (s .good .1 .0) .nodes .0 in
-    (omega arith, search needs, sym (all-turn nodeBytes 29 node-long (s .args .t2 .nodes) (l .loop .i) (omega arith) 1 _ (l .loop .out) _ (p .put-node .ensures)) ∙ l .loop .inv .2)
+    (omega arith, search needs, sym (all-turn nodeBytes 29 node-long (s .args .t2 .nodes) (l .loop .i) (omega arith) _ _ (omega arith) _ (l .loop .out) _ (p .put-node .ensures)) ∙ l .loop .inv .2)
 
 returns : tie.Need-returns Inv-loop μ-loop
 returns c =
