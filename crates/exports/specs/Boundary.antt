@@ -6,15 +6,17 @@ use Prim.Native.Nat.{ℕ, _+_}
 use lib.Dec.{eqb, ltb}
 use lib.ListN.{length, drop}
 use Rattle.model.specs.Pick.{pick}
-use Rattle.model.specs.State.{State, start, inRange, view, tableOf}
+use Rattle.model.specs.Recovery.{recoveryRecords}
+use Rattle.model.specs.State.{State, start, nodeAt, inRange, view, tableOf}
 use Rattle.model.specs.Step.{step, after}
 use Rattle.model.specs.Answers.{resultNumber}
 use Rattle.model.specs.declared.Event.{Event}
+use Rattle.model.specs.declared.Event.the-variants.{Recover}
 use Rattle.event_list.specs.Format.{Reading, Listed, failed, begun, reading, stopNumber, nextAt}
 use Rattle.event_list.specs.declared.Stop.the-variants.{CutShort}
 use Rattle.event_list.specs.declared.Next.{Next}
 use Rattle.event_list.specs.declared.Next.the-variants.{Done, Stopped, Got}
-use Rattle.table_bytes.specs.Bytes.{decoded, size, encoded}
+use Rattle.table_bytes.specs.Bytes.{many, all, nodeOf, decoded, nodeBytes, size, encoded, recordsSize}
 
 -- ── nevraspu_step: one event on a table in bytes ──
 
@@ -54,6 +56,24 @@ pub record StepExported (t f b o : List ℕ) (r : ℕ) : Type 0 where
   pub buffer : o ≡ stepBytes t f b
   -- handed in again as a table, the buffer means the state after the event
   pub back : r ≡ 0 → stateOf o ≡ fieldAfter (stateOf t) (nextAt f 0)
+
+-- ── nevraspu_recovery: the eight records of a recovery, in bytes (02, T-04) ──
+
+-- What is answered for the bytes of a table, t, and node i, with a lent buffer that holds b. Whether b has the room of eight records is looked at first; then it "is
+-- refused as" recover i is, or 0
+unfoldable pub recoveryNumber : List ℕ → ℕ → List ℕ → ℕ
+recoveryNumber t i b = pick (ltb (length b) recordsSize) 255 (resultNumber (step (stateOf t) (Recover i)))
+
+-- What the buffer then holds: "the eight records of cabinet i, one after each assignment", and behind them what was there; all that was there by any other answer than 0
+unfoldable pub recoveryBytes : List ℕ → ℕ → List ℕ → List ℕ
+recoveryBytes t i b = pick (eqb (recoveryNumber t i b) 0) (all nodeBytes (recoveryRecords i (nodeAt (stateOf t) i)) ++ drop recordsSize b) b
+
+-- r: what is answered, o: what the buffer then holds
+pub record RecoveryExported (t : List ℕ) (i : ℕ) (b o : List ℕ) (r : ℕ) : Type 0 where
+  pub number : r ≡ recoveryNumber t i b
+  pub buffer : o ≡ recoveryBytes t i b
+  -- the eight records are read back
+  pub back : r ≡ 0 → many nodeOf 29 8 o ≡ recoveryRecords i (nodeAt (stateOf t) i)
 
 -- ── nevraspu_fold: the count of accepted events ──
 unfoldable pub plusAccepted : ℕ → ℕ → ℕ

@@ -1,15 +1,16 @@
--- What is claimed of the step on bytes. The proofs are in proofs/Claims.
+-- What is claimed of the step on bytes, and of the records of a recovery in bytes. The proofs are in proofs/Claims and proofs/Recovering.
 use Prim.Native.Nat.{ℕ, _≤_, _<_}
 use mathlib.Core.Bool.{true, false}
 use mathlib.Core.Path.{_≡_}
-use mathlib.Core.List.{List, [], _++_}
+use mathlib.Core.List.{List, [], _∷_, _++_}
 use lib.ListN.{length, drop}
-use Rattle.model.specs.State.{inRange}
+use Rattle.model.specs.State.{nodeAt, inRange}
+use Rattle.model.specs.Claims.{recordAfter}
 use Rattle.event_list.specs.Format.{cutShort, nextAt}
 use Rattle.event_list.specs.declared.Stop.{Stop}
 use Rattle.event_list.specs.declared.Next.the-variants.{Stopped}
-use Rattle.table_bytes.specs.Bytes.{size}
-use Rattle.exports.specs.Boundary.{stateOf, stepNumber, stepBytes}
+use Rattle.table_bytes.specs.Bytes.{many, nodeOf, size, recordsSize}
+use Rattle.exports.specs.Boundary.{stateOf, stepNumber, stepBytes, StepExported, recoveryNumber, recoveryBytes, RecoveryExported}
 
 -- t: the bytes of a table, f: of a field, b: what the lent buffer holds before. Any bytes at all: past the end of t zeros are read, and a status, an activity or a yes
 -- that is no number of 01's is read modulo 4, 9 or 2 (table_bytes/specs/Bytes: decoded).
@@ -28,3 +29,21 @@ pub record StepClaims : Type 0 where
   pub no-event : (t f b : List ℕ) (s : Stop) → size ≤ length b → inRange (stateOf t) ≡ true → nextAt f 0 ≡ Stopped s → (3 ≤ stepNumber t f b) × (stepNumber t f b ≤ 5)
   -- bytes behind a field that is there whole are not looked at
   pub first-alone : (t f g b : List ℕ) → cutShort f 0 ≡ false → (stepNumber t (f ++ g) b ≡ stepNumber t f b) × (stepBytes t (f ++ g) b ≡ stepBytes t f b)
+
+-- the field of recover i: tag 0x11, a length of one byte, and i
+abbrev pub recoverField : ℕ → List ℕ
+recoverField i = 0x11 ∷ 0 ∷ 1 ∷ i ∷ []
+
+-- 02, T-04. t: the bytes of a table, i: any number, b: what the lent buffer holds before.
+pub record RecoveryClaims : Type 0 where
+  -- 255 stands for a buffer that is too short, and for nothing else
+  pub short : (t : List ℕ) (i : ℕ) (b : List ℕ) → length b < recordsSize → recoveryNumber t i b ≡ 255
+  pub only-short : (t : List ℕ) (i : ℕ) (b : List ℕ) → recoveryNumber t i b ≡ 255 → length b < recordsSize
+  -- whatever is not accepted leaves the buffer as it was
+  pub keeps : (t : List ℕ) (i : ℕ) (b : List ℕ) → (recoveryNumber t i b ≡ 0 → ⊥) → recoveryBytes t i b ≡ b
+  -- and what is behind eight records stays in any case
+  pub behind : (t : List ℕ) (i : ℕ) (b : List ℕ) → drop recordsSize (recoveryBytes t i b) ≡ drop recordsSize b
+  -- "is refused as it is": with room in both buffers, the number is the one that nevraspu_step answers to recover i on the same bytes
+  pub as-step : (t : List ℕ) (i : ℕ) (b c : List ℕ) → recordsSize ≤ length b → size ≤ length c → recoveryNumber t i b ≡ stepNumber t (recoverField i) c
+  -- "and the last is the one recover i leaves": o is what nevraspu_step leaves of c, and p what nevraspu_recovery leaves of b
+  pub last : {t : List ℕ} {i : ℕ} {b c o p : List ℕ} → StepExported t (recoverField i) c o 0 → RecoveryExported t i b p 0 → recordAfter 8 (many nodeOf 29 8 p) ≡ nodeAt (stateOf o) i

@@ -1,17 +1,16 @@
 // The functions that Rust or C can link, on numbers and byte slices. A slice crosses as a pointer and a length:
 //   uint8_t nevraspu_step(const uint8_t *table, size_t table_len, const uint8_t *field, size_t field_len, uint8_t *out, size_t out_len);
+//   uint8_t nevraspu_recovery(const uint8_t *table, size_t table_len, uint8_t node, uint8_t *out, size_t out_len);
 //   uint32_t nevraspu_fold(const uint8_t *list, size_t list_len);
 // Any bytes at all are answered. A caller has only to hand in pointers that are good for their lengths, out apart from the others.
 // What is answered, and what out then holds, is in specs/Boundary.
 use event_list::First;
 use event_list::Next;
-use model::Activity;
 use model::Answer;
 use model::CallNo;
 use model::GroupNo;
 use model::Message;
 use model::Node;
-use model::Status;
 use model::Table;
 use model::TaskNo;
 ghost use mathlib.Core.Path.{_≡_};
@@ -19,25 +18,10 @@ ghost use Prim.Native.Nat.{_≤_};
 ghost use lib.ListN.{length};
 ghost use Rattle.model.specs.State.{startingNode, noMessage, firstOf, view, tableOf};
 ghost use Rattle.event_list.specs.Format.{rest};
-ghost use Rattle.exports.specs.Boundary.{StepExported, plusAccepted, acceptedFrom, acceptedIn};
+ghost use Rattle.exports.specs.Boundary.{StepExported, RecoveryExported, plusAccepted, acceptedFrom, acceptedIn};
 ghost use Rattle.exports.specs.Parts.{Answered};
 
-// The record and the message that stand in places which are no part of a table.
-fn no_node() -> Node
-    ensures { λ r. ⌜ r ≡ startingNode ⌝ }
-{
-    Node {
-        status: Status::Down,
-        counter: 0,
-        group: GroupNo { number: 0 },
-        coordinator: 0,
-        task: TaskNo { number: 0 },
-        members: 0,
-        last: CallNo { number: 0 },
-        activity: Activity::Idle,
-    }
-}
-
+// The message that stands in places which are no part of a table; the record is machine::starting_node.
 fn no_message() -> Message
     ensures { λ r. ⌜ r ≡ noMessage ⌝ }
 {
@@ -55,7 +39,7 @@ fn no_message() -> Message
 fn cleared_nodes(t: Table) -> [Node; 16]
     ensures { λ r. ⌜ r ≡ firstOf 16 startingNode (view t .nodes) ⌝ }
 {
-    let none = no_node();
+    let none = machine::starting_node();
     let mut all = t.nodes;
     let mut i = t.n as usize;
     while i < 16 {
@@ -133,6 +117,30 @@ pub extern "C" fn nevraspu_step(table: &[u8], field: &[u8], out: &mut [u8]) -> u
             answered(answer, next, out)
         }
     }
+}
+
+// How a node of a table would recover, as document 002 prints it (02, T-04). table is a table in bytes, as for nevraspu_step, and node any number. out needs the room
+// of eight records, 232 bytes. The answer:
+//   0              accepted: out starts with the eight records, one after each assignment, in the 29 bytes of a node each
+//   1, 7, 9, 12    refused, as the event recover is
+//   255            out is too short; this is looked at first
+// By any answer but 0 out is left as it was, and what is behind eight records in out is in any case.
+#[no_mangle]
+pub extern "C" fn nevraspu_recovery(table: &[u8], node: u8, out: &mut [u8]) -> u8
+    ensures { λ r. ⌜ RecoveryExported (now (table .entry)) node (now (out .entry)) (now (out .exit)) r ⌝ }
+{
+    if out.len() < table_bytes::RECORDS_SIZE {
+        return 255;
+    }
+    let q = machine::recovery(table_bytes::decode(table), node);
+    let answer = q.answer;
+    let records = q.records;
+    let r = machine::answer_number(answer);
+    if r != 0 {
+        return r;
+    }
+    table_bytes::encode_records(records, out);
+    r
 }
 
 // One more where the number is 0.

@@ -24,7 +24,7 @@ loop-holds c =
 loop-again : tie.Need-loop-again Inv-loop μ-loop
 loop-again c =
     let l = c .before .loop in
-    let d = c .before .before .before .before .no-node .result in
+    let d = c .before .before .before .before .starting-node .result in
     (simp length-set (l .inv .0), filled-turn d 16 (l .i) (l .all) (l .inv .0) (c .loop-test .taken) ∙ l .inv .1)
 
 returns : tie.Need-returns Inv-loop μ-loop
@@ -33,9 +33,9 @@ returns c =
     let v = c .before .before .before .before in
     let s = v .before in
     let t = s .args .t in
-    sym (filled-end (v .no-node .result) 16 (l .i) (l .all) (l .inv .0) (c .loop-test .left))
+    sym (filled-end (v .starting-node .result) 16 (l .i) (l .all) (l .inv .0) (c .loop-test .left))
     ∙ l .inv .1
-    ∙ rw (v .no-node .ensures) (first-filled startingNode 16 (t .n) (t .nodes) (sized t (s .good .0) .nodes))
+    ∙ rw (v .starting-node .ensures) (first-filled startingNode 16 (t .n) (t .nodes) (sized t (s .good .0) .nodes))
 
 pub cleared-nodes-spec : {M : Type 1} → statement M
 cleared-nodes-spec =
