@@ -1,6 +1,7 @@
-//! Compares a library with this program's machine: on runs, on lists of any bytes, and on events from
-//! any table. A difference is shortened and told in words.
+//! Compares a library with this program's machine: on runs, on lists of any bytes, and on events and
+//! recoveries from any table; and with calls of the vectors. A difference is shortened and told in words.
 
+use crate::calls::CallCase;
 use crate::corners::{Before, Corners, Source};
 use crate::history::Checker;
 use crate::list::{first_event, read_list, write_event, write_list};
@@ -8,12 +9,13 @@ use crate::machine::{step, Event, Node, Table, MAX_NODES};
 use crate::numbers::Numbers;
 use crate::print::run_list;
 use crate::proved::{
-    fill_unused, fitting, fold, same_table, table_from_bytes, table_to_bytes, Library, TableBytes,
-    TABLE_BYTES, TOO_SHORT,
+    fill_unused, fitting, fold, records_from_bytes, same_table, table_from_bytes, table_to_bytes,
+    Library, Own, TableBytes, RECORDS_BYTES, TABLE_BYTES, TOO_SHORT,
 };
+use crate::recovery_corners::Call;
 use crate::shortest::shortest;
 use crate::tuned;
-use crate::vectors::table_text;
+use crate::vectors::{node_text, table_text};
 use std::fmt::Write;
 
 /// How many bytes behind a text or a table are looked at.
@@ -90,6 +92,21 @@ impl Lent {
                 Some(format!("{}: byte {place} of the buffer has changed", answer_words(answer)))
             }
         }
+    }
+
+    /// The same where the answer and the bytes that the buffer begins with are known.
+    fn judge_bytes(&self, answer: u8, number: u8, written: &[u8]) -> Option<String> {
+        if answer != number {
+            let expected = answer_words(number);
+            return Some(format!("{}, expected: {expected}", answer_words(answer)));
+        }
+        let mut places = self.now.iter().zip(written).enumerate();
+        if let Some((place, (now, byte))) = places.find(|(_, (now, byte))| now != byte) {
+            return Some(format!("byte {place} of the buffer is {now:02x}, expected: {byte:02x}"));
+        }
+        let place = self.changed(written.len())?;
+        let behind = if written.is_empty() { "" } else { ", behind what is expected," };
+        Some(format!("{}: byte {place} of the buffer{behind} has changed", answer_words(answer)))
     }
 }
 
@@ -303,6 +320,60 @@ pub fn field_difference(
     ))
 }
 
+/// The records of the recovery of node i, on any table, into a buffer of so many bytes. The noise is a seed
+/// for the random bytes that stand in all places that are no part of the table. The call is counted in the
+/// corners, with the step recover on the same table.
+pub fn recovery_difference(
+    library: &impl Library,
+    table: &Table,
+    i: u8,
+    room: usize,
+    noise: u64,
+    corners: Option<(&mut Corners, Source)>,
+) -> Option<String> {
+    let mut numbers = Numbers::new(noise);
+    let mut bytes = [0; TABLE_BYTES];
+    table_to_bytes(table, &mut bytes);
+    fill_unused(&mut bytes, || numbers.byte());
+    let mut lent = Lent::new(room, &mut numbers);
+    let answer = library.recovery(&bytes, i, &mut lent.now);
+    let mut own = vec![0; room];
+    let number = Own.recovery(&bytes, i, &mut own);
+    let written = if number == 0 { RECORDS_BYTES } else { 0 };
+    if let Some(words) = lent.judge_bytes(answer, number, &own[..written]) {
+        if (answer, number) != (0, 0) {
+            return Some(words);
+        }
+        let (library, own) = (records_text(i, &lent.now), records_text(i, &own));
+        return Some(format!("{words}\nlibrary's:\n{library}here:\n{own}"));
+    }
+    if let Some((corners, source)) = corners {
+        let mut field = Vec::with_capacity(8);
+        write_event(&mut field, &Event::Recover(i));
+        let mut stepped = Lent::for_table(&mut numbers);
+        let step_answer = library.step(&bytes, &field, &mut stepped.now);
+        let (out, step_out) = (&lent.now, &stepped.now);
+        let call = Call { table: &bytes, node: i, answer, out, step_answer, step_out };
+        corners.recovery(source, &call);
+    }
+    None
+}
+
+/// The records that a buffer begins with, a line each.
+fn records_text(i: u8, bytes: &[u8]) -> String {
+    let records = bytes.first_chunk().map(records_from_bytes);
+    records.iter().flatten().map(|record| node_text(i, record)).collect()
+}
+
+/// Makes a call of the vectors, into a buffer with random bytes in it, and gives in words what is not as
+/// the vector says.
+pub fn call_difference(library: &dyn Library, case: &CallCase) -> Option<String> {
+    let mut lent = Lent::new(case.room, &mut Numbers::new(case.line as u64));
+    let answer = (case.function.call)(library, &case.arguments, &mut lent.now);
+    let words = lent.judge_bytes(answer, case.answer, &case.written)?;
+    Some(format!("line {}, {}: {words}", case.line, case.function.name))
+}
+
 /// The shortest run found that still shows a difference, by its step, its text or its count.
 pub fn shortest_run(library: &impl Library, n: u8, events: &[Event]) -> (u8, Vec<Event>) {
     let differs = |n: u8, events: &[Event]| {
@@ -424,22 +495,45 @@ pub fn tell_walk(
     let found =
         |start: &Table, events: &[Event]| walk_difference(library, start, events, noise, None);
     let events = shortest(events.to_vec(), |events| found(start, events).is_some());
-    let mut start = start.clone();
-    start.messages = shortest(start.messages.clone(), |messages| {
-        let fewer = Table { messages: messages.to_vec(), ..start.clone() };
-        found(&fewer, &events).is_some()
-    });
-    for k in 0..usize::from(start.n.min(MAX_NODES)) {
-        let mut plain = start.clone();
-        plain.nodes[k] = Node::START;
-        if found(&plain, &events).is_some() {
-            start = plain;
-        }
-    }
+    let start = smallest(start, |start| found(start, &events).is_some());
     let mut words = format!("a table, n {}:\n{}", start.n, table_text(&start));
     for event in &events {
         writeln!(words, "event {}", event_words(event)).expect("a String takes it");
     }
     let difference = found(&start, &events).map(|found| found.words).unwrap_or_default();
     format!("{words}{difference}\n")
+}
+
+/// The table with fewer messages, and with as many nodes as can be as in the starting table.
+fn smallest(table: &Table, differs: impl Fn(&Table) -> bool) -> Table {
+    let mut table = table.clone();
+    table.messages = shortest(table.messages.clone(), |messages| {
+        differs(&Table { messages: messages.to_vec(), ..table.clone() })
+    });
+    for k in 0..usize::from(table.n.min(MAX_NODES)) {
+        let mut plain = table.clone();
+        plain.nodes[k] = Node::START;
+        if differs(&plain) {
+            table = plain;
+        }
+    }
+    table
+}
+
+/// A recovery's difference in words, with a table that has fewer messages and nodes.
+pub fn tell_recovery(
+    library: &impl Library,
+    table: &Table,
+    i: u8,
+    room: usize,
+    noise: u64,
+) -> String {
+    let found = |table: &Table| recovery_difference(library, table, i, room, noise, None);
+    let table = smallest(table, |table| found(table).is_some());
+    format!(
+        "the records of the recovery of {i}, into {room} bytes, on a table, n {}:\n{}{}\n",
+        table.n,
+        table_text(&table),
+        found(&table).unwrap_or_default()
+    )
 }

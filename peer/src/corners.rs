@@ -1,11 +1,13 @@
 //! Counts what the compared events met: refusals, kinds delivered, activities, transitions, picks of the
 //! next node and invitations, so that a corner that was never met shows. What document 01 and T-02 and
-//! T-03 of document 02 make possible is written out here, apart from the machine.
+//! T-03 of document 02 make possible is written out here, apart from the machine. `recovery_corners.rs`
+//! does the same for the records of a recovery.
 
 use crate::machine::{
     only, owner, Activity, Body, Event, Message, Node, Set, Status, Table, MAX_CALL, MAX_MESSAGES,
 };
 use crate::proved::tag;
+use crate::recovery_corners::{Call, RecoveryCorners};
 use std::fmt::Write;
 
 /// Where an event came from: a run from the starting table, or a table made up.
@@ -265,7 +267,8 @@ fn event_place(event: &Event) -> usize {
     }
 }
 
-type Count = [u64; 2];
+/// How often something was met, in runs and in tables.
+pub type Count = [u64; 2];
 
 /// The counts, each for runs and for tables.
 #[derive(Clone, Debug)]
@@ -283,6 +286,7 @@ pub struct Corners {
     twice: [Count; 8],
     elsewhere: [Count; 6],
     wrong_invitations: [Count; 4],
+    recoveries: RecoveryCorners,
     /// Whom each inviting node has called since it merged, as far as it was seen.
     called: [Set; 16],
 }
@@ -301,6 +305,7 @@ impl Default for Corners {
             twice: [[0; 2]; 8],
             elsewhere: [[0; 2]; 6],
             wrong_invitations: [[0; 2]; 4],
+            recoveries: RecoveryCorners::default(),
             called: [0; 16],
         }
     }
@@ -442,6 +447,11 @@ impl Corners {
         add(&mut self.wrong_invitations, source, wrong);
     }
 
+    /// Counts a call for the records of a recovery.
+    pub fn recovery(&mut self, source: Source, call: &Call) {
+        self.recoveries.count(source, call);
+    }
+
     /// Counts a refusal of a list or of a line.
     pub fn refusal(&mut self, number: u8) {
         self.other_refusals[usize::from(number.min(15))] += 1;
@@ -480,9 +490,9 @@ impl Corners {
         }
         let named = PICKS.iter().zip(self.picks).chain(INVITED.iter().zip(self.invited));
         let named = named.chain(TWICE.iter().zip(self.twice));
-        for (name, count) in named.chain(ELSEWHERE.iter().zip(self.elsewhere)) {
-            corners.push((name.to_string(), count));
-        }
+        let named = named.chain(ELSEWHERE.iter().zip(self.elsewhere));
+        let named = named.map(|(&name, count)| (name, count)).chain(self.recoveries.corners());
+        corners.extend(named.map(|(name, count)| (name.to_string(), count)));
         corners
     }
 
@@ -510,6 +520,7 @@ impl Corners {
         }
         let picks = WRONG_PICKS.iter().zip(self.wrong_picks);
         let wrong = picks.chain(WRONG_INVITATIONS.iter().zip(self.wrong_invitations));
+        let wrong = wrong.map(|(&name, count)| (name, count)).chain(self.recoveries.wrong());
         found.extend(wrong.filter(|&(_, count)| met(count)).map(|(name, _)| name.to_string()));
         found
     }
@@ -541,7 +552,7 @@ impl Corners {
 }
 
 /// Adds one to the counts of all that was met.
-fn add<const K: usize>(counts: &mut [Count; K], source: usize, met: [bool; K]) {
+pub fn add<const K: usize>(counts: &mut [Count; K], source: usize, met: [bool; K]) {
     for (count, met) in counts.iter_mut().zip(met) {
         count[source] += u64::from(met);
     }

@@ -166,15 +166,19 @@ pub fn task(numbers: &mut Numbers) -> u16 {
     }
 }
 
-/// Any event, with numbers that are mostly in range.
-pub fn any_event(n: u8, numbers: &mut Numbers) -> Event {
-    let mut node = || match numbers.below(24) {
+/// Any node number, mostly 1 to n.
+pub fn any_node(n: u8, numbers: &mut Numbers) -> u8 {
+    match numbers.below(24) {
         0 => 0,
         1 => n.wrapping_add(1),
         2 => numbers.byte(),
         _ => numbers.below(u32::from(n.max(1))) as u8 + 1,
-    };
-    let (i, j) = (node(), node());
+    }
+}
+
+/// Any event, with numbers that are mostly in range.
+pub fn any_event(n: u8, numbers: &mut Numbers) -> Event {
+    let (i, j) = (any_node(n, numbers), any_node(n, numbers));
     match numbers.below(10) {
         0 => Event::Crash(i),
         1 => Event::Recover(i),

@@ -2,18 +2,18 @@
 //! tables, the same ones for the same seed, and counts what they met.
 
 use crate::compare::{
-    field_difference, list_difference, printed_difference, run_difference, tell_list, tell_run,
-    tell_walk, walk_difference,
+    field_difference, list_difference, printed_difference, recovery_difference, run_difference,
+    tell_list, tell_recovery, tell_run, tell_walk, walk_difference,
 };
-use crate::corners::Corners;
+use crate::corners::{Corners, Source};
 use crate::damage::{damage, no_event};
-use crate::drive::{any_event, any_manner, pick, run};
+use crate::drive::{any_event, any_manner, any_node, member, pick, run, Ready};
 use crate::list::{first_event, read_list, write_event, write_list, MAX_LIST};
-use crate::machine::{step, Event, Table, MAX_NODES};
+use crate::machine::{advance, step, Event, Table, MAX_NODES};
 use crate::numbers::Numbers;
 use crate::print::run_list;
-use crate::proved::{Library, TABLE_BYTES};
-use crate::tables::{in_range, move_to_ends, scramble, spoil};
+use crate::proved::{Library, RECORDS_BYTES, TABLE_BYTES};
+use crate::tables::{in_range, move_to_ends, scramble, spoil, to_recover};
 use std::time::{Duration, Instant};
 
 /// After so many differences it ends.
@@ -30,6 +30,7 @@ pub struct Fuzz<L> {
     tables: u64,
     table_events: u64,
     fields: u64,
+    recoveries: u64,
     passed: u64,
     failed: u64,
     seconds: f64,
@@ -48,6 +49,7 @@ impl<L: Library> Fuzz<L> {
             tables: 0,
             table_events: 0,
             fields: 0,
+            recoveries: 0,
             passed: 0,
             failed: 0,
             seconds: 0.0,
@@ -67,6 +69,10 @@ impl<L: Library> Fuzz<L> {
             }
             for _ in 0..4 {
                 self.field();
+            }
+            for _ in 0..24 {
+                let (table, i) = to_recover(&mut self.numbers);
+                self.recovery(Source::Table, &table, i);
             }
             let seconds = start.elapsed().as_secs();
             if seconds / 30 > told {
@@ -89,6 +95,7 @@ impl<L: Library> Fuzz<L> {
         println!("runs: {}, {} events", self.runs, self.run_events);
         println!("lists printed and folded: {}, {} events", self.lists, self.list_events);
         println!("tables: {}, {} events; fields: {}", self.tables, self.table_events, self.fields);
+        println!("recoveries: {}", self.recoveries);
         println!(
             "{events} events in {:.1} s, {:.0} a second",
             self.seconds,
@@ -126,6 +133,7 @@ impl<L: Library> Fuzz<L> {
             return self.difference(words);
         }
         self.passed += events.len() as u64;
+        self.recoveries_of_run(n, &events);
         let mut list = write_list(n, &events);
         self.list(&list);
         let kept = list.len().min(self.numbers.between(4, 2000) as usize);
@@ -140,6 +148,44 @@ impl<L: Library> Fuzz<L> {
         if self.numbers.one_in(2) {
             self.long_list(&list);
         }
+    }
+
+    /// The records of recoveries, on some tables of a run.
+    fn recoveries_of_run(&mut self, n: u8, events: &[Event]) {
+        let mut table = Table::start(n);
+        for event in events {
+            if self.numbers.one_in(64) {
+                let numbers = &mut self.numbers;
+                let i = match Ready::of(&table).down {
+                    down if down != 0 && numbers.one_in(2) => member(down, numbers),
+                    _ => any_node(n, numbers),
+                };
+                self.recovery(Source::Run, &table, i);
+            }
+            let _ = advance(&mut table, event);
+        }
+    }
+
+    /// The records of a recovery, into a buffer that is long enough, or just so, or too short.
+    fn recovery(&mut self, source: Source, table: &Table, i: u8) {
+        if self.failed >= ENOUGH {
+            return;
+        }
+        let room = match self.numbers.below(16) {
+            0 => 0,
+            1 => RECORDS_BYTES - 1,
+            2 => self.numbers.place(RECORDS_BYTES),
+            3..=8 => RECORDS_BYTES,
+            _ => RECORDS_BYTES + self.numbers.between(1, 100) as usize,
+        };
+        let noise = self.numbers.bits();
+        self.recoveries += 1;
+        let corners = Some((&mut self.corners, source));
+        if recovery_difference(&self.library, table, i, room, noise, corners).is_some() {
+            let words = tell_recovery(&self.library, table, i, room, noise);
+            return self.difference(words);
+        }
+        self.passed += 1;
     }
 
     /// A list of any bytes, printed and folded.

@@ -1,7 +1,8 @@
-//! A second implementation of document 01 (coordinator election among cabinets) and of T-01 to T-03 of
+//! A second implementation of document 01 (coordinator election among cabinets) and of T-01 to T-04 of
 //! document 02, written from the papers alone, so that other implementations can be compared with it.
 //! Document 01's cabinet is called node here, and its book history.
 
+pub mod calls;
 pub mod compare;
 pub mod corners;
 pub mod damage;
@@ -14,6 +15,7 @@ pub mod machine;
 pub mod numbers;
 pub mod print;
 pub mod proved;
+pub mod recovery_corners;
 pub mod sha256;
 pub mod short;
 pub mod shortest;

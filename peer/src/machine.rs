@@ -1,6 +1,7 @@
-//! The reference machine: the table, when it is in range, and what each of the nine events does to
-//! it. T-02 and T-03 of document 02 are in it. Words in quotation marks in the comments are document
-//! 01's, or those of T-02 or T-03 where that is said; their cabinet is called node here.
+//! The reference machine: the table, when it is in range, what each of the nine events does to it, and
+//! the records of a recovery. T-02 to T-04 of document 02 are in it. Words in quotation marks in the
+//! comments are document 01's, or those of T-02, T-03 or T-04 where that is said; their cabinet is called
+//! node here.
 
 pub const MAX_NODES: u8 = 16;
 pub const MAX_COUNTER: u32 = 1_048_575;
@@ -416,6 +417,47 @@ fn check_state(table: &Table, event: &Event, i: u8) -> Result<Option<usize>, u8>
     }
 }
 
+/// Ground 12: "a new group is needed, counter 1,048,575".
+fn check_counter(node: &Node) -> Result<(), u8> {
+    if node.counter >= MAX_COUNTER {
+        return Err(12);
+    }
+    Ok(())
+}
+
+/// How many assignments a recovery has.
+pub const ASSIGNMENTS: usize = 8;
+
+/// The recovery of node i. T-04: "its assignments come in the paper's order: Election, counter, group,
+/// coordinator, members, Reorganization, task, Normal". Ground 12 is looked at before the first.
+const RECOVERY: [fn(&mut Node, u8); ASSIGNMENTS] = [
+    |node, _| node.status = Status::Election,
+    |node, _| node.counter += 1,
+    |node, i| node.group = group_number(node.counter, i),
+    |node, i| node.coordinator = i,
+    |node, _| node.members = 0,
+    |node, _| node.status = Status::Reorganization,
+    |node, i| node.task = u16::from(i),
+    |node, _| node.status = Status::Normal,
+];
+
+/// T-04: "takes what recover i takes, is refused as it is, and answers the eight records of cabinet i, one
+/// after each assignment". The error is the refusal's number.
+pub fn recovery(table: &Table, i: u8) -> Result<[Node; ASSIGNMENTS], u8> {
+    if !table.in_range() {
+        return Err(1);
+    }
+    let event = Event::Recover(i);
+    acting_node(table.n, &event)?;
+    check_state(table, &event, i)?;
+    let mut node = *table.node(i);
+    check_counter(&node)?;
+    Ok(RECOVERY.map(|assign| {
+        assign(&mut node, i);
+        node
+    }))
+}
+
 /// What an event does to the one node i that acts in it: a copy of the node to work on, and the one
 /// message it may send ("an event sends at most one message"). Grounds 12 to 14 are met here, and in
 /// this order, since a new group comes before a call and a call's number before its message.
@@ -456,31 +498,21 @@ impl Turn {
         self.send(receiver, self.node.last_call, body)
     }
 
-    /// "counter plus one, new group, coordinator i"
-    fn form_group(&mut self, formed: Formed) -> Result<(), u8> {
-        if self.node.counter >= MAX_COUNTER {
-            return Err(12);
-        }
-        self.node.counter += 1;
-        self.node.group = group_number(self.node.counter, self.i);
-        self.node.coordinator = self.i;
-        self.formed = Some(formed);
-        Ok(())
-    }
-
     /// "status Down, idle. All else is kept"
     fn crash(&mut self) {
         self.node.status = Status::Down;
         self.node.activity = Activity::Idle;
     }
 
-    /// "counter plus one, group from it, coordinator i, members empty, task i, Normal, idle"
+    /// "counter plus one, group from it, coordinator i, members empty, task i, Normal, idle". Where it
+    /// recovers inside another event its activity stops; a Down node is idle already.
     fn recover(&mut self) -> Result<(), u8> {
-        self.form_group(Formed::Recovered(self.i))?;
-        self.node.members = 0;
-        self.node.task = u16::from(self.i);
-        self.node.status = Status::Normal;
+        check_counter(&self.node)?;
         self.node.activity = Activity::Idle;
+        for assign in RECOVERY {
+            assign(&mut self.node, self.i);
+        }
+        self.formed = Some(Formed::Recovered(self.i));
         Ok(())
     }
 
@@ -529,8 +561,12 @@ impl Turn {
     /// "Election; counter plus one, new group, coordinator i; members are set aside and emptied. It
     /// invites the cabinets found, then those set aside (one in both is invited twice)"
     fn merge(&mut self, found: Set) -> Result<(), u8> {
+        check_counter(&self.node)?;
         self.node.status = Status::Election;
-        self.form_group(Formed::Merged(self.i))?;
+        self.node.counter += 1;
+        self.node.group = group_number(self.node.counter, self.i);
+        self.node.coordinator = self.i;
+        self.formed = Some(Formed::Merged(self.i));
         let former = self.node.members;
         self.node.members = 0;
         self.invite_next(found, former)

@@ -3,11 +3,11 @@
 
 use crate::list::{first_event, read_list};
 use crate::machine::{
-    self, Activity, Body, Event, Message, Node, Status, Table, MAX_MESSAGES, MAX_NODES,
+    self, Activity, Body, Event, Message, Node, Status, Table, ASSIGNMENTS, MAX_MESSAGES, MAX_NODES,
 };
 use crate::print::run_list;
 
-const NODE_BYTES: usize = 29;
+pub const NODE_BYTES: usize = 29;
 const MESSAGE_BYTES: usize = 14;
 const NODES_AT: usize = 1;
 const MESSAGES_AT: usize = NODES_AT + MAX_NODES as usize * NODE_BYTES;
@@ -17,7 +17,10 @@ pub const TABLE_BYTES: usize = WAITING_AT + 1;
 /// A table in bytes, numbers high byte first: n, 16 nodes, 64 messages, how many of them wait.
 pub type TableBytes = [u8; TABLE_BYTES];
 
-/// The answer when there is no room for the table.
+/// The records of a recovery in bytes, each as in a table.
+pub const RECORDS_BYTES: usize = ASSIGNMENTS * NODE_BYTES;
+
+/// The answer when there is no room for the table or the records.
 pub const TOO_SHORT: u8 = 255;
 
 /// What the library does: the proved one, this program's own, or a wrong one in the tests.
@@ -36,6 +39,12 @@ pub trait Library {
 
     /// Every event of a list by the step with the range check: how many were accepted.
     fn fold(&self, list: &[u8]) -> u32;
+
+    /// The records of the recovery of a node, one after each assignment, on a table, which is read as in
+    /// `step`. Accepted is 0, and out begins with the eight records; what stands behind them stays as it
+    /// was. A refusal is the number that the step recover has, and out stays as it was. TOO_SHORT, which
+    /// comes first, is for an out shorter than the records, and out stays as it was.
+    fn recovery(&self, table: &[u8], node: u8, out: &mut [u8]) -> u8;
 }
 
 /// The proved library.
@@ -59,6 +68,13 @@ mod linked {
             out_len: usize,
         ) -> u8;
         pub fn nevraspu_fold(list: *const u8, list_len: usize) -> u32;
+        pub fn nevraspu_recovery(
+            table: *const u8,
+            table_len: usize,
+            node: u8,
+            out: *mut u8,
+            out_len: usize,
+        ) -> u8;
     }
 }
 
@@ -80,6 +96,9 @@ mod linked {
         unreachable!()
     }
     pub unsafe fn nevraspu_fold(_: *const u8, _: usize) -> u32 {
+        unreachable!()
+    }
+    pub unsafe fn nevraspu_recovery(_: *const u8, _: usize, _: u8, _: *mut u8, _: usize) -> u8 {
         unreachable!()
     }
 }
@@ -128,6 +147,19 @@ impl Library for Proved {
         // Safety: as above.
         unsafe { linked::nevraspu_fold(list.as_ptr(), list.len()) }
     }
+
+    fn recovery(&self, table: &[u8], node: u8, out: &mut [u8]) -> u8 {
+        // Safety: as above.
+        unsafe {
+            linked::nevraspu_recovery(
+                table.as_ptr(),
+                table.len(),
+                node,
+                out.as_mut_ptr(),
+                out.len(),
+            )
+        }
+    }
 }
 
 /// This program's own machine behind the same boundary.
@@ -148,6 +180,10 @@ impl Library for Own {
     fn fold(&self, list: &[u8]) -> u32 {
         fold(list)
     }
+
+    fn recovery(&self, table: &[u8], node: u8, out: &mut [u8]) -> u8 {
+        recovery_by(machine::recovery, table, node, out)
+    }
 }
 
 /// The library's step by any machine, which is to answer 1 on a table that is not in range.
@@ -160,10 +196,7 @@ pub fn step_by(
     let Some(out) = out.first_chunk_mut() else {
         return TOO_SHORT;
     };
-    let mut bytes = [0; TABLE_BYTES];
-    let length = table.len().min(TABLE_BYTES);
-    bytes[..length].copy_from_slice(&table[..length]);
-    let mut table = table_from_bytes(&bytes);
+    let mut table = table_from_slice(table);
     let answer = match first_event(field) {
         Err(_) if !table.in_range() => Err(1),
         Err(number) => Err(number),
@@ -176,6 +209,35 @@ pub fn step_by(
         }
         Err(number) => number,
     }
+}
+
+/// The library's records of a recovery by any machine.
+pub fn recovery_by(
+    recovery: impl Fn(&Table, u8) -> Result<[Node; ASSIGNMENTS], u8>,
+    table: &[u8],
+    node: u8,
+    out: &mut [u8],
+) -> u8 {
+    let Some(out) = out.first_chunk_mut::<RECORDS_BYTES>() else {
+        return TOO_SHORT;
+    };
+    match recovery(&table_from_slice(table), node) {
+        Ok(records) => {
+            for (record, place) in records.iter().zip(out.chunks_exact_mut(NODE_BYTES)) {
+                node_to_bytes(record, place.try_into().expect("a record's place"));
+            }
+            0
+        }
+        Err(number) => number,
+    }
+}
+
+/// A table of any length: zeros are read behind its end, and what is longer is not looked at.
+fn table_from_slice(table: &[u8]) -> Table {
+    let mut bytes = [0; TABLE_BYTES];
+    let length = table.len().min(TABLE_BYTES);
+    bytes[..length].copy_from_slice(&table[..length]);
+    table_from_bytes(&bytes)
 }
 
 /// Every event of a list by the step with the range check: how many were accepted.
@@ -265,6 +327,17 @@ pub fn fill_unused(bytes: &mut TableBytes, mut filler: impl FnMut() -> u8) {
             message[13] = filler();
         }
     }
+}
+
+/// The record of node i, which must be 1 to 16, in a table.
+pub fn record(bytes: &TableBytes, i: u8) -> &[u8] {
+    &bytes[NODES_AT..MESSAGES_AT][(usize::from(i) - 1) * NODE_BYTES..][..NODE_BYTES]
+}
+
+/// The records of a recovery, which the bytes begin with.
+pub fn records_from_bytes(bytes: &[u8; RECORDS_BYTES]) -> [Node; ASSIGNMENTS] {
+    let (records, _) = bytes.as_chunks();
+    std::array::from_fn(|k| node_from_bytes(&records[k]))
 }
 
 /// Where the nodes and the messages of a table end.

@@ -16,6 +16,11 @@ pub fn in_range(numbers: &mut Numbers) -> Table {
         7 => MAX_NODES,
         _ => numbers.between(2, u32::from(MAX_NODES)) as u8,
     };
+    of_nodes(n, numbers)
+}
+
+/// A table of n nodes, in range.
+fn of_nodes(n: u8, numbers: &mut Numbers) -> Table {
     let mut table = Table::start(n);
     for i in 1..=n {
         table.nodes[usize::from(i) - 1] = node(i, n, numbers);
@@ -34,6 +39,41 @@ pub fn in_range(numbers: &mut Numbers) -> Table {
         }
     }
     table
+}
+
+/// A table and a node number for the records of a recovery. Mostly the table is in range and the node is
+/// Down; now and then its group is already the one that the recovery forms, which no run has.
+pub fn to_recover(numbers: &mut Numbers) -> (Table, u8) {
+    let n = match numbers.below(8) {
+        0 => 1,
+        1 | 2 => MAX_NODES,
+        _ => numbers.between(1, u32::from(MAX_NODES)) as u8,
+    };
+    let mut table = of_nodes(n, numbers);
+    let i = match numbers.below(8) {
+        0 => match numbers.below(3) {
+            0 => 0,
+            1 if n < MAX_NODES => numbers.between(u32::from(n) + 1, u32::from(MAX_NODES)) as u8,
+            _ => numbers.between(u32::from(MAX_NODES) + 1, 255) as u8,
+        },
+        1 => 1,
+        2 => n,
+        _ => numbers.between(1, u32::from(n)) as u8,
+    };
+    if (1..=n).contains(&i) && !numbers.one_in(4) {
+        // As after a crash.
+        let node = &mut table.nodes[usize::from(i) - 1];
+        (node.status, node.activity) = (Status::Down, Activity::Idle);
+        if node.counter < MAX_COUNTER && numbers.one_in(4) {
+            node.group = group_number(node.counter + 1, i);
+        }
+    }
+    match numbers.below(8) {
+        0 | 1 => spoil(&mut table, numbers),
+        2 => table = scramble(&table, numbers),
+        _ => {}
+    }
+    (table, i)
 }
 
 /// A number from low to high, often at an end.

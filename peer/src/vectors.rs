@@ -1,5 +1,6 @@
 //! Reads and writes the vectors: single events on tables (the form of steps.txt), pairs of a list and
-//! its printed text (NAME.list and NAME.txt), and the sums and the wrong inputs of T-01.
+//! its printed text (NAME.list and NAME.txt), and the sums and the wrong inputs of T-01. `calls.rs` reads
+//! the calls.
 
 use crate::machine::{Activity, Body, Event, Message, Node, Status, Table, MAX_NODES};
 use std::fmt::Write;
@@ -184,7 +185,8 @@ fn read_line(line: &str, draft: &mut Option<Draft>) -> Option<Option<StepCase>> 
     Some(None)
 }
 
-fn number<T: std::str::FromStr>(words: &mut SplitWhitespace) -> Option<T> {
+/// The next word, which must be a number.
+pub fn number<T: std::str::FromStr>(words: &mut SplitWhitespace) -> Option<T> {
     words.next()?.parse().ok()
 }
 
@@ -258,31 +260,31 @@ fn read_event(w: &mut SplitWhitespace) -> Option<Event> {
     })
 }
 
+/// The cabinet line of node i, as in steps.txt.
+pub fn node_text(i: u8, x: &Node) -> String {
+    let activity = match x.activity {
+        Activity::Idle => "idle".to_string(),
+        Activity::Asking { asked, found } => format!("asking {asked} {found}"),
+        Activity::Waiting { ticks, found } => format!("waiting {ticks} {found}"),
+        Activity::Inviting { found, former, now } => format!("inviting {found} {former} {now}"),
+        Activity::Collecting => "collecting".to_string(),
+        Activity::Handing { rest, now } => format!("handing {rest} {now}"),
+        Activity::Contacting => "contacting".to_string(),
+        Activity::Forwarding { rest, now, caller, call } => {
+            format!("forwarding {rest} {now} {caller} {call}")
+        }
+        Activity::Accepting { caller, call } => format!("accepting {caller} {call}"),
+    };
+    format!(
+        "cabinet {i} {} {} {} {} {} {} {} {activity}\n",
+        x.status as u8, x.counter, x.group, x.coordinator, x.task, x.members, x.last_call
+    )
+}
+
 /// The cabinet and message lines of a table, as in steps.txt.
 pub fn table_text(table: &Table) -> String {
-    let mut text = String::new();
-    for i in 1..=table.n.min(MAX_NODES) {
-        let x = table.node(i);
-        let activity = match x.activity {
-            Activity::Idle => "idle".to_string(),
-            Activity::Asking { asked, found } => format!("asking {asked} {found}"),
-            Activity::Waiting { ticks, found } => format!("waiting {ticks} {found}"),
-            Activity::Inviting { found, former, now } => format!("inviting {found} {former} {now}"),
-            Activity::Collecting => "collecting".to_string(),
-            Activity::Handing { rest, now } => format!("handing {rest} {now}"),
-            Activity::Contacting => "contacting".to_string(),
-            Activity::Forwarding { rest, now, caller, call } => {
-                format!("forwarding {rest} {now} {caller} {call}")
-            }
-            Activity::Accepting { caller, call } => format!("accepting {caller} {call}"),
-        };
-        writeln!(
-            text,
-            "cabinet {i} {} {} {} {} {} {} {} {activity}",
-            x.status as u8, x.counter, x.group, x.coordinator, x.task, x.members, x.last_call
-        )
-        .expect("a String takes every line");
-    }
+    let mut text: String =
+        (1..=table.n.min(MAX_NODES)).map(|i| node_text(i, table.node(i))).collect();
     for m in &table.messages {
         let task = if let Body::Ready { task, .. } = m.body { task } else { 0 };
         let yes = matches!(m.body, Body::Reply { yes: true });

@@ -270,6 +270,9 @@ fn wrong_boundaries_are_found() {
         fn fold(&self, list: &[u8]) -> u32 {
             Own.fold(list)
         }
+        fn recovery(&self, table: &[u8], node: u8, out: &mut [u8]) -> u8 {
+            Own.recovery(table, node, out)
+        }
     }
     for mistake in 0..=6 {
         let mut fuzz = peer::fuzzing::Fuzz::new(Wrong(mistake), 1);
@@ -297,6 +300,9 @@ fn fields_that_are_not_carried_decide_nothing() {
         }
         fn fold(&self, list: &[u8]) -> u32 {
             Own.fold(list)
+        }
+        fn recovery(&self, table: &[u8], node: u8, out: &mut [u8]) -> u8 {
+            Own.recovery(table, node, out)
         }
     }
     let mut fuzz = peer::fuzzing::Fuzz::new(Reads, 1);

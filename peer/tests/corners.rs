@@ -1,15 +1,16 @@
-//! The corners of T-02 are counted where the pick shows, and nowhere else, and those of T-03 where an
-//! invitation comes to its receiver.
+//! The corners of T-02 are counted where the pick shows, and nowhere else, those of T-03 where an invitation
+//! comes to its receiver, and those of T-04 where the records of a recovery are asked for.
 
 mod common;
 
 use common::{invited_twice, LATE, NODES};
-use peer::compare::{run_difference, walk_difference};
+use peer::compare::{recovery_difference, run_difference, walk_difference};
 use peer::corners::{Before, Corners, Source};
 use peer::drive::run;
 use peer::machine::*;
 use peer::numbers::Numbers;
-use peer::proved::Own;
+use peer::proved::{recovery_by, table_to_bytes, Library, Own, TABLE_BYTES, TOO_SHORT};
+use peer::recovery_corners::Call;
 use Event::*;
 
 /// The corners that begin with these words and were met, with their counts in runs and in tables.
@@ -443,4 +444,283 @@ fn wrong_answers_to_invitations_are_told() {
     for (change, words) in elsewhere {
         assert_eq!(told(Status::Normal, another, Some(change)), [words]);
     }
+}
+
+/// What a call for the records of node i meets.
+fn recovered_in_a_table(table: &Table, i: u8, room: usize) -> Vec<String> {
+    let mut corners = Corners::default();
+    let counted = Some((&mut corners, Source::Table));
+    assert_eq!(recovery_difference(&Own, table, i, room, 1, counted), None);
+    assert_eq!(corners.impossible(), [""; 0]);
+    let met = met(&corners, &["recovery "]);
+    assert!(met.iter().all(|&(_, runs, tables)| (runs, tables) == (0, 1)), "{met:?}");
+    met.into_iter().map(|(name, ..)| name.replacen("recovery ", "", 1)).collect()
+}
+
+/// A node that is Down, of which the recovery changes every field.
+const OTHER: Node = Node {
+    counter: 7,
+    group: 33,
+    coordinator: 2,
+    task: 300,
+    members: 2,
+    last_call: 8,
+    ..Node::START
+};
+
+#[test]
+fn recoveries_in_tables() {
+    let met = |change: fn(&mut Node), i: u8, room: usize| {
+        let mut table = Table::start(3);
+        table.nodes[0] = OTHER;
+        change(&mut table.nodes[0]);
+        recovered_in_a_table(&table, i, room)
+    };
+    let accepted = |more: &[&str], change: fn(&mut Node)| {
+        let mut all = vec!["accepted", "accepted, node 1", "accepted, 232 bytes"];
+        all.extend(more);
+        assert_eq!(met(change, 1, 232), all);
+    };
+    let last = "accepted, last counter";
+    accepted(&["accepted, every field changes"], |_| {});
+    accepted(&["accepted, group as before"], |node| node.group = 128);
+    accepted(&["accepted, coordinator as before"], |node| node.coordinator = 1);
+    accepted(&["accepted, members as before"], |node| node.members = 0);
+    accepted(&["accepted, task as before"], |node| node.task = 1);
+    accepted(
+        &["accepted, every field changes", last, "accepted, last counter, every field changes"],
+        |node| node.counter = MAX_COUNTER - 1,
+    );
+    accepted(
+        &[
+            "accepted, group as before",
+            "accepted, coordinator as before",
+            "accepted, members as before",
+            "accepted, task as before",
+            last,
+            "accepted, last counter, group as before",
+            "accepted, last counter, coordinator as before",
+            "accepted, last counter, members as before",
+            "accepted, last counter, task as before",
+        ],
+        |node| {
+            (node.counter, node.group) = (MAX_COUNTER - 1, 16 * MAX_COUNTER);
+            (node.coordinator, node.members, node.task) = (1, 0, 1);
+        },
+    );
+    accepted(&["accepted, every field changes", "accepted, first counter"], |node| {
+        node.counter = 0;
+    });
+    let many = ["accepted", "accepted, node 1", "accepted, more bytes"];
+    let every = "accepted, every field changes";
+    assert_eq!(met(|_| {}, 1, 233), [&many[..], &[every]].concat());
+    assert_eq!(met(|node| node.members = 1, 1, 232), ["refused 1"]);
+    assert_eq!(met(|node| node.members = 1, 3, 232), ["refused 1"]);
+    assert_eq!(met(|node| node.members = 1, 4, 232), ["refused 1, 7 too"]);
+    assert_eq!(met(|node| node.counter = MAX_COUNTER + 1, 1, 232), ["refused 1, 12 too"]);
+    assert_eq!(met(|_| {}, 0, 232), ["refused 7, number 0"]);
+    for i in [4, 16] {
+        assert_eq!(met(|_| {}, i, 232), ["refused 7, number over n, up to 16"]);
+    }
+    for i in [17, 255] {
+        assert_eq!(met(|_| {}, i, 300), ["refused 7, number over 16"]);
+    }
+    assert_eq!(met(|node| node.status = Status::Election, 1, 232), ["refused 9, Election"]);
+    let second = |node: &mut Node| node.status = Status::Reorganization;
+    assert_eq!(met(second, 1, 232), ["refused 9, Reorganization"]);
+    assert_eq!(met(|node| node.status = Status::Normal, 1, 232), ["refused 9, Normal"]);
+    let both = |node: &mut Node| (node.status, node.counter) = (Status::Normal, MAX_COUNTER);
+    assert_eq!(met(both, 1, 232), ["refused 9, Normal", "refused 9, 12 too"]);
+    assert_eq!(met(|node| node.counter = MAX_COUNTER, 1, 232), ["refused 12"]);
+    let (none, one_less) = ("answered 255, no bytes", "answered 255, 231 bytes");
+    assert_eq!(met(|_| {}, 1, 100), ["answered 255"]);
+    assert_eq!(met(|_| {}, 1, 0), ["answered 255", none]);
+    assert_eq!(met(|_| {}, 1, 231), ["answered 255", one_less]);
+    assert_eq!(met(|node| node.members = 1, 1, 9), ["answered 255, 1 too"]);
+    assert_eq!(met(|_| {}, 4, 9), ["answered 255, 7 too"]);
+    let (nine, twelve) = ("answered 255, 9 too", "answered 255, 12 too");
+    assert_eq!(met(|node| node.status = Status::Election, 1, 231), [nine, one_less]);
+    assert_eq!(met(|node| node.counter = MAX_COUNTER, 1, 0), [twelve, none]);
+    assert_eq!(met(both, 1, 9), [nine, twelve]);
+}
+
+/// One node, sixteen, and a table that is not in range while the node is Normal.
+#[test]
+fn recoveries_in_other_tables() {
+    let fields = ["members as before", "first counter"].map(|words| format!("accepted, {words}"));
+    let expected = |more: &[&str]| {
+        let more = more.iter().map(|words| words.to_string());
+        [more.collect::<Vec<_>>(), fields.to_vec()].concat()
+    };
+    let one = ["accepted", "accepted, n = 1", "accepted, node 1", "accepted, 232 bytes"];
+    assert_eq!(recovered_in_a_table(&Table::start(1), 1, 232), expected(&one));
+    let sixteen = ["accepted", "accepted, node 16", "accepted, more bytes"];
+    assert_eq!(recovered_in_a_table(&Table::start(16), 16, 240), expected(&sixteen));
+    let two = ["accepted", "accepted, 232 bytes"];
+    assert_eq!(recovered_in_a_table(&Table::start(16), 15, 232), expected(&two));
+    let mut table = recovered(2);
+    table.nodes[1].coordinator = 1;
+    assert_eq!(recovered_in_a_table(&table, 1, 232), ["refused 1, 9 too"]);
+    table.nodes[0].counter = MAX_COUNTER;
+    let both = ["refused 1, 9 too", "refused 1, 12 too"];
+    assert_eq!(recovered_in_a_table(&table, 1, 232), both);
+    // No node has a record behind the sixteenth.
+    let many = Table { n: 17, ..Table::start(16) };
+    assert_eq!(recovered_in_a_table(&many, 17, 232), ["refused 1"]);
+    assert_eq!(recovered_in_a_table(&many, 18, 232), ["refused 1, 7 too"]);
+}
+
+const SETS: [&str; 8] = [
+    "recovery, record 1 does not set Election alone",
+    "recovery, record 2 does not set the counter alone",
+    "recovery, record 3 does not set the group alone",
+    "recovery, record 4 does not set the coordinator alone",
+    "recovery, record 5 does not set the members alone",
+    "recovery, record 6 does not set Reorganization alone",
+    "recovery, record 7 does not set the task alone",
+    "recovery, record 8 does not set Normal alone",
+];
+const LEAVES: &str = "recovery, record 8 is not the one that recover leaves";
+const AS_RECOVER: &str = "recovery, another answer than that of recover";
+const AS_GROUNDS: &str = "recovery, another answer than by the grounds";
+
+/// The assignments by themselves.
+const SET: [fn(&mut Node); 8] = [
+    |node| node.status = Status::Election,
+    |node| node.counter = 8,
+    |node| node.group = 128,
+    |node| node.coordinator = 1,
+    |node| node.members = 0,
+    |node| node.status = Status::Reorganization,
+    |node| node.task = 1,
+    |node| node.status = Status::Normal,
+];
+
+/// What is told of these records of node 1, where it was `OTHER`; the step may leave something else too.
+fn told(records: [Node; 8], change: fn(&mut Table)) -> Vec<String> {
+    let mut table = Table::start(3);
+    table.nodes[0] = OTHER;
+    let mut after = table.clone();
+    step(&mut after, &Recover(1)).unwrap();
+    change(&mut after);
+    let (mut bytes, mut step_out) = ([0; TABLE_BYTES], [0; TABLE_BYTES]);
+    table_to_bytes(&table, &mut bytes);
+    table_to_bytes(&after, &mut step_out);
+    let mut out = [0; 240];
+    let answer = recovery_by(|_, _| Ok(records), &bytes, 1, &mut out);
+    let mut corners = Corners::default();
+    let (out, step_out) = (&out, &step_out);
+    let call = Call { table: &bytes, node: 1, answer, out, step_answer: 0, step_out };
+    corners.recovery(Source::Table, &call);
+    corners.impossible()
+}
+
+/// Records of which each is the one before after some of the assignments.
+fn made(rows: &[Vec<usize>]) -> [Node; 8] {
+    let mut node = OTHER;
+    std::array::from_fn(|k| {
+        rows[k].iter().for_each(|&assignment| SET[assignment](&mut node));
+        node
+    })
+}
+
+/// "each sets that field alone in the one before, and the last is the one recover i leaves": of the right
+/// records nothing is told, of others it is.
+#[test]
+fn wrong_records_are_told() {
+    let right: Vec<Vec<usize>> = (0..8).map(|k| vec![k]).collect();
+    assert_eq!(told(made(&right), |_| {}), [""; 0]);
+    for k in 0..7 {
+        let mut swapped = right.clone();
+        swapped.swap(k, k + 1);
+        let mut expected = SETS[k..k + 2].to_vec();
+        assert_eq!(told(made(&swapped), |_| {}), expected);
+        // Two at once; the record behind is the same, and so has its field set.
+        let mut both = right.clone();
+        both[k] = vec![k, k + 1];
+        both[k + 1] = vec![];
+        expected.truncate(1);
+        assert_eq!(told(made(&both), |_| {}), expected);
+    }
+    for k in 0..8 {
+        let mut left_out = right.clone();
+        left_out[k] = vec![];
+        let mut expected = vec![SETS[k]];
+        // The status that is left out is followed by another.
+        if !matches!(k, 0 | 5) {
+            expected.push(LEAVES);
+        }
+        assert_eq!(told(made(&left_out), |_| {}), expected);
+    }
+}
+
+/// All else stays: a field that is changed in one record alone, or from there on.
+#[test]
+fn other_fields_that_change_are_told() {
+    let right: Vec<Vec<usize>> = (0..8).map(|k| vec![k]).collect();
+    let changes: [fn(&mut Node); 8] = [
+        |node| node.status = Status::Down,
+        |node| node.counter += 5,
+        |node| node.group += 16,
+        |node| node.coordinator = 3,
+        |node| node.members |= 4,
+        |node| node.task = 100,
+        |node| node.last_call += 1,
+        |node| node.activity = Activity::Collecting,
+    ];
+    for (c, change) in changes.into_iter().enumerate() {
+        for k in 0..8 {
+            let mut records = made(&right);
+            change(&mut records[k]);
+            let told_once = told(records, |_| {});
+            assert!(told_once.contains(&SETS[k].to_string()), "{c} {k} {told_once:?}");
+            let mut records = made(&right);
+            records[k..].iter_mut().for_each(change);
+            let told_on = told(records, |_| {});
+            assert!(told_on.contains(&SETS[k].to_string()), "{c} {k} {told_on:?}");
+            assert!(told_on.contains(&LEAVES.to_string()), "{c} {k} {told_on:?}");
+        }
+    }
+}
+
+/// The step leaves another record, or answers another number, or the grounds have another.
+#[test]
+fn wrong_answers_to_recoveries_are_told() {
+    let right: Vec<Vec<usize>> = (0..8).map(|k| vec![k]).collect();
+    let others: [fn(&mut Table); 4] = [
+        |after| after.nodes[0].status = Status::Reorganization,
+        |after| after.nodes[0].last_call += 1,
+        |after| after.nodes[0].members = 2,
+        |after| after.nodes.swap(0, 1),
+    ];
+    for change in others {
+        assert_eq!(told(made(&right), change), [LEAVES]);
+    }
+    assert_eq!(told(made(&right), |after| after.nodes[1].counter = 1), [""; 0]);
+    let told = |status: Status, room: usize, answer: u8, step_answer: u8| {
+        let mut table = Table::start(3);
+        (table.nodes[0].status, table.nodes[0].group) = (status, 16);
+        table.nodes[0].coordinator = 1;
+        let (mut bytes, mut step_out) = ([0; TABLE_BYTES], [0; TABLE_BYTES]);
+        table_to_bytes(&table, &mut bytes);
+        Own.step(&bytes, &[0x11, 0, 1, 1], &mut step_out);
+        let mut out = vec![0; room];
+        Own.recovery(&bytes, 1, &mut out);
+        let call =
+            Call { table: &bytes, node: 1, answer, out: &out, step_answer, step_out: &step_out };
+        let mut corners = Corners::default();
+        corners.recovery(Source::Run, &call);
+        corners.impossible()
+    };
+    for (status, number) in [(Status::Down, 0), (Status::Normal, 9)] {
+        assert_eq!(told(status, 232, number, number), [""; 0]);
+        assert_eq!(told(status, 231, TOO_SHORT, number), [""; 0]);
+        assert_eq!(told(status, 232, 12, number), [AS_RECOVER, AS_GROUNDS]);
+        assert_eq!(told(status, 232, 12, 12), [AS_GROUNDS]);
+        assert_eq!(told(status, 232, TOO_SHORT, number), [AS_RECOVER, AS_GROUNDS]);
+        assert_eq!(told(status, 231, number, number), [AS_RECOVER, AS_GROUNDS]);
+        assert_eq!(told(status, 0, 1, number), [AS_RECOVER, AS_GROUNDS]);
+    }
+    assert_eq!(told(Status::Normal, 232, 9, 0), [AS_RECOVER]);
+    assert_eq!(told(Status::Down, 232, 0, 9), [LEAVES, AS_RECOVER]);
 }

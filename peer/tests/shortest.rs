@@ -56,6 +56,10 @@ impl<M: Fn(&mut Table, &Event) -> Result<(), u8>> Library for Machine<M> {
         let mut table = Table::start(list.n);
         list.events.iter().filter(|event| (self.0)(&mut table, event).is_ok()).count() as u32
     }
+
+    fn recovery(&self, table: &[u8], node: u8, out: &mut [u8]) -> u8 {
+        Own.recovery(table, node, out)
+    }
 }
 
 /// "Clearing the counter at a crash: an old group number returns."
@@ -193,6 +197,9 @@ fn bytes_are_shortened() {
         }
         fn fold(&self, list: &[u8]) -> u32 {
             Own.fold(list)
+        }
+        fn recovery(&self, table: &[u8], node: u8, out: &mut [u8]) -> u8 {
+            Own.recovery(table, node, out)
         }
     }
     let mut list = write_list(2, &[Recover(1), Recover(2), Check(2)]);
@@ -591,6 +598,9 @@ fn fuzzer_finds_wrong_count() {
         }
         fn fold(&self, list: &[u8]) -> u32 {
             Own.fold(list)
+        }
+        fn recovery(&self, table: &[u8], node: u8, out: &mut [u8]) -> u8 {
+            Own.recovery(table, node, out)
         }
     }
     let mut fuzz = Fuzz::new(Prints, 1);

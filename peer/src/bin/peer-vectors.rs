@@ -1,12 +1,15 @@
-//! peer-vectors LISTS_DIR STEPS_FILE: runs every vector on this program's machine alone, prints each
-//! difference, and last `N passed, M failed`. The run of each list is also checked against its
+//! peer-vectors LISTS_DIR STEPS_FILE [CALLS_FILE ..]: runs every vector on this program's machine alone,
+//! prints each difference, and last `N passed, M failed`. The run of each list is also checked against its
 //! history. The exit code is 1 if a vector failed and 2 if the vectors could not be read.
 
+use peer::calls::{read_calls, FUNCTIONS};
+use peer::compare::call_difference;
 use peer::ending::{counted, ended};
 use peer::history::check_run;
 use peer::list::read_list;
 use peer::machine::step;
 use peer::print::run_list;
+use peer::proved::Own;
 use peer::vectors::{read_lists, read_steps, table_text, ListCase, StepCase};
 use std::path::Path;
 use std::process::ExitCode;
@@ -17,13 +20,20 @@ fn main() -> ExitCode {
 
 fn run() -> Result<(u64, u64), String> {
     let arguments: Vec<String> = std::env::args().skip(1).collect();
-    let [lists, steps] = arguments.as_slice() else {
-        return Err("peer-vectors LISTS_DIR STEPS_FILE".to_string());
+    let [lists, steps, calls @ ..] = arguments.as_slice() else {
+        return Err("peer-vectors LISTS_DIR STEPS_FILE [CALLS_FILE ..]".to_string());
     };
-    let text = std::fs::read_to_string(steps).map_err(|e| format!("{steps}: {e}"))?;
-    let lists = counted(&read_lists(Path::new(lists))?, list_difference)?;
-    let steps = counted(&read_steps(&text)?, step_difference)?;
-    Ok((lists.0 + steps.0, lists.1 + steps.1))
+    let read = |file: &str| std::fs::read_to_string(file).map_err(|e| format!("{file}: {e}"));
+    let mut counts = vec![
+        counted(&read_lists(Path::new(lists))?, list_difference)?,
+        counted(&read_steps(&read(steps)?)?, step_difference)?,
+    ];
+    for file in calls {
+        let cases =
+            read_calls(&read(file)?, &FUNCTIONS).map_err(|words| format!("{file}: {words}"))?;
+        counts.push(counted(&cases, |case| call_difference(&Own, case))?);
+    }
+    Ok(counts.iter().fold((0, 0), |sum, count| (sum.0 + count.0, sum.1 + count.1)))
 }
 
 fn list_difference(case: &ListCase) -> Option<String> {

@@ -1,0 +1,177 @@
+//! The vectors' calls: how a line is read, what is compared, and the calls of T-04 on this program's own
+//! machine.
+
+use peer::calls::{read_calls, Arguments, Function, Takes, FUNCTIONS};
+use peer::compare::call_difference;
+use peer::proved::{Library, Own};
+use std::path::Path;
+
+/// Functions that take other things: nothing, two numbers around a slice, three slices.
+static OTHERS: [Function; 3] = [
+    Function { name: "nothing", takes: &[], call: |_, _, _| 7 },
+    Function {
+        name: "around",
+        takes: &[Takes::Number, Takes::Slice, Takes::Number],
+        call: |_, given, out| {
+            out[..2].copy_from_slice(&given.numbers);
+            given.slices[0].len() as u8
+        },
+    },
+    Function {
+        name: "slices",
+        takes: &[Takes::Slice, Takes::Slice, Takes::Slice],
+        call: |_, given, out| {
+            let all = given.slices.concat();
+            out[..all.len()].copy_from_slice(&all);
+            0
+        },
+    },
+];
+
+#[test]
+fn lines_are_read() {
+    let text = "nothing out 0 answer 7 same\n\naround 12 0c_2_ff 255 out 3 answer 4 0cff\n\
+                slices - 01 _3_ out 9 answer 0 01_3_\n";
+    let cases = read_calls(text, &OTHERS).unwrap();
+    let [nothing, around, slices] = cases.as_slice() else {
+        panic!("{cases:?}");
+    };
+    assert_eq!((nothing.line, nothing.function.name), (1, "nothing"));
+    assert_eq!(nothing.arguments, Arguments::default());
+    assert_eq!((nothing.room, nothing.answer, nothing.written.len()), (0, 7, 0));
+    assert_eq!((around.line, around.function.name), (3, "around"));
+    // 12 is a number here, and 0c would be one byte.
+    assert_eq!(around.arguments.numbers, [12, 255]);
+    assert_eq!(around.arguments.slices, [[12, 0, 0, 255]]);
+    assert_eq!((around.room, around.answer), (3, 4));
+    assert_eq!(around.written, [12, 255]);
+    assert_eq!(slices.arguments.slices, [vec![], vec![1], vec![0, 0, 0]]);
+    assert_eq!(slices.written, [1, 0, 0, 0]);
+    for case in &cases {
+        assert_eq!(call_difference(&Own, case), None);
+    }
+}
+
+#[test]
+fn lines_that_are_not_in_form() {
+    let wrong = [
+        "unknown out 0 answer 7 same",
+        "nothing 1 out 0 answer 7 same",
+        "nothing out 0 answer 7",
+        "nothing out 0 answer 7 same same",
+        "nothing out 0 answer 256 same",
+        "nothing out x answer 7 same",
+        "nothing answer 7 out 0 same",
+        "nothing room 0 answer 7 same",
+        "nothing out 1 answer 7 0102",
+        "nothing out 1 answer 7 0g",
+        "around 1 00 out 2 answer 1 0101",
+        "around 256 00 1 out 2 answer 1 same",
+        "around 1 0 1 out 2 answer 1 same",
+        "slices 00 00 out 2 answer 0 same",
+    ];
+    for line in wrong {
+        let words = read_calls(&format!("nothing out 0 answer 7 same\n{line}\n"), &OTHERS);
+        assert!(words.unwrap_err().starts_with("line 2: "), "{line}");
+    }
+}
+
+/// What a function answers, and what it writes before and behind what the vector says.
+#[test]
+fn calls_that_differ_are_told() {
+    static WRITERS: [Function; 4] = [
+        Function {
+            name: "right",
+            takes: &[],
+            call: |_, _, out| {
+                out[..2].copy_from_slice(&[1, 2]);
+                0
+            },
+        },
+        Function { name: "idle", takes: &[], call: |_, _, _| 0 },
+        Function {
+            name: "behind",
+            takes: &[],
+            call: |_, _, out| {
+                out[..2].copy_from_slice(&[1, 2]);
+                out[4] ^= 1;
+                0
+            },
+        },
+        Function {
+            name: "refuses",
+            takes: &[],
+            call: |_, _, out| {
+                out[0] ^= 1;
+                9
+            },
+        },
+    ];
+    let told = |line: &str| call_difference(&Own, &read_calls(line, &WRITERS).unwrap()[0]);
+    assert_eq!(told("right out 5 answer 0 0102"), None);
+    assert_eq!(told("idle out 5 answer 0 same"), None);
+    for (line, words) in [
+        ("right out 5 answer 9 0102", "accepted, expected: refused 9"),
+        ("right out 5 answer 255 same", "accepted, expected: answered 255"),
+        ("right out 5 answer 0 0103", "byte 1 of the buffer is 02, expected: 03"),
+        ("right out 5 answer 0 same", "accepted: byte 0 of the buffer has changed"),
+        (
+            "behind out 5 answer 0 0102",
+            "accepted: byte 4 of the buffer, behind what is expected, has changed",
+        ),
+        ("refuses out 5 answer 9 same", "refused 9: byte 0 of the buffer has changed"),
+        ("refuses out 5 answer 12 same", "refused 9, expected: refused 12"),
+    ] {
+        let name = line.split(' ').next().unwrap();
+        assert_eq!(told(line), Some(format!("line 1, {name}: {words}")), "{line}");
+    }
+    assert!(told("idle out 5 answer 0 _5_").is_some());
+}
+
+fn recoveries() -> String {
+    let file = Path::new(env!("CARGO_MANIFEST_DIR")).join("../tests/recovery.txt");
+    std::fs::read_to_string(file).unwrap()
+}
+
+/// The vectors of T-04, with every answer that recover has, and buffers that are too short.
+#[test]
+fn recoveries_of_the_vectors() {
+    let cases = read_calls(&recoveries(), &FUNCTIONS).unwrap();
+    assert_eq!(cases.len(), 600);
+    for case in &cases {
+        assert_eq!(call_difference(&Own, case), None);
+        assert_eq!(case.written.len(), if case.answer == 0 { 232 } else { 0 });
+    }
+    for answer in [0, 1, 7, 9, 12, 255] {
+        assert!(cases.iter().filter(|case| case.answer == answer).count() > 10, "{answer}");
+    }
+}
+
+/// A library with one wrong byte in the records is found by the vectors, whichever byte it is.
+#[test]
+fn every_byte_of_the_records_is_compared() {
+    struct Wrong(usize);
+    impl Library for Wrong {
+        fn print(&self, list: &[u8], out: &mut [u8]) -> Option<usize> {
+            Own.print(list, out)
+        }
+        fn step(&self, table: &[u8], field: &[u8], out: &mut [u8]) -> u8 {
+            Own.step(table, field, out)
+        }
+        fn fold(&self, list: &[u8]) -> u32 {
+            Own.fold(list)
+        }
+        fn recovery(&self, table: &[u8], node: u8, out: &mut [u8]) -> u8 {
+            let answer = Own.recovery(table, node, out);
+            if answer == 0 {
+                out[self.0] ^= 1;
+            }
+            answer
+        }
+    }
+    let cases = read_calls(&recoveries(), &FUNCTIONS).unwrap();
+    let accepted = cases.iter().find(|case| case.answer == 0).unwrap();
+    for place in 0..232 {
+        assert!(call_difference(&Wrong(place), accepted).is_some(), "{place}");
+    }
+}
