@@ -19,8 +19,8 @@ use Rattle.model.proofs.Recovery.{recovery-rules}
 use Rattle.model.specs.declared.Node.{Node}
 use Rattle.model.specs.declared.Answer.the-variants.{Accepted}
 use Rattle.model.specs.declared.Event.the-variants.{Recover}
-use Rattle.machine.specs.declared.RecoveryRecords.{RecoveryRecords}
-use Rattle.machine.specs.Stepped.{recordsBeside, Recorded}
+use Rattle.machine.specs.declared.RecoveryAnswer.{RecoveryAnswer}
+use Rattle.machine.specs.Stepped.{recordsBeside, RecoveryAnswered}
 use Rattle.event_list.specs.Format.{lengthOf, cutShort, checked, eventOf, nextAt}
 use Rattle.event_list.specs.declared.Next.the-variants.{Got}
 use Rattle.table_bytes.specs.Bytes.{many, all, nodeOf, decoded, nodeBytes, size, recordsSize, RecordsStored}
@@ -47,7 +47,7 @@ module _ (t : List ℕ) (i : ℕ) (b : List ℕ) where
   pub short : length b < recordsSize → RecoveryExported t i b b 255
   short h = kept-by 255 (sym (too-short h)) (λ z. omega arith)
 
-  module _ (room : recordsSize ≤ length b) (q : RecoveryRecords) (x : Recorded (decoded t) i q) (r : ℕ) (e : r ≡ answerNumber (q .answer)) where
+  module _ (room : recordsSize ≤ length b) (q : RecoveryAnswer) (x : RecoveryAnswered (decoded t) i q) (r : ℕ) (e : r ≡ answerNumber (q .answer)) where
     number-is : r ≡ recoveryNumber t i b
     number-is = e ∙ x .answer ∙ sym (long room)
 
@@ -102,11 +102,11 @@ unfolding recoveryNumber
 zero-accepts t i b =
     by-test (λ (n : ℕ). n ≡ 0 → Accepts (stateOf t) (Recover i)) (λ _ z. absurd (omega (arith, z))) (λ _. refuses-by-ground .zero-accepts (stateOf t) (Recover i))
 
-last : (t : List ℕ) (i : ℕ) (b c o p : List ℕ) → StepExported t (recoverField i) c o 0 → RecoveryExported t i b p 0 → recordAfter 8 (many nodeOf 29 8 p) ≡ nodeAt (stateOf o) i
-last t i b c o p x y =
+last-record : (t : List ℕ) (i : ℕ) (b c o p : List ℕ) → StepExported t (recoverField i) c o 0 → RecoveryExported t i b p 0 → recordAfter 8 (many nodeOf 29 8 p) ≡ nodeAt (stateOf o) i
+last-record t i b c o p x y =
     let m = zero-accepts t i b (sym (y .number)) in
     ap (recordAfter 8) (y .back refl)
-    ∙ recovery-rules .last (stateOf t) i (m .state) (m .mark) (m .is)
+    ∙ recovery-rules .last-record (stateOf t) i (m .state) (m .mark) (m .is)
     ∙ sym (ap (λ (s : State). nodeAt s i) (x .back refl ∙ ap (fieldAfter (stateOf t)) (recover-read i) ∙ ap (kept (stateOf t)) (m .is)))
 
 pub recovery-claims : RecoveryClaims
@@ -121,5 +121,5 @@ recovery-claims =
           (λ _. drop-at (all nodeBytes (recoveryRecords i (nodeAt (stateOf t) i))) (drop recordsSize b) recordsSize (records-long i (nodeAt (stateOf t) i)))
           (λ _. refl);
       as-step = as-step;
-      last = λ {t} {i} {b} {c} {o} {p}. last t i b c o p;
+      last-record = λ {t} {i} {b} {c} {o} {p}. last-record t i b c o p;
     }

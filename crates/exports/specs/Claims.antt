@@ -46,4 +46,4 @@ pub record RecoveryClaims : Type 0 where
   -- "is refused as it is": with room in both buffers, the number is the one that nevraspu_step answers to recover i on the same bytes
   pub as-step : (t : List ℕ) (i : ℕ) (b c : List ℕ) → recordsSize ≤ length b → size ≤ length c → recoveryNumber t i b ≡ stepNumber t (recoverField i) c
   -- "and the last is the one recover i leaves": o is what nevraspu_step leaves of c, and p what nevraspu_recovery leaves of b
-  pub last : {t : List ℕ} {i : ℕ} {b c o p : List ℕ} → StepExported t (recoverField i) c o 0 → RecoveryExported t i b p 0 → recordAfter 8 (many nodeOf 29 8 p) ≡ nodeAt (stateOf o) i
+  pub last-record : {t : List ℕ} {i : ℕ} {b c o p : List ℕ} → StepExported t (recoverField i) c o 0 → RecoveryExported t i b p 0 → recordAfter 8 (many nodeOf 29 8 p) ≡ nodeAt (stateOf o) i

@@ -4,7 +4,7 @@ use native.Mathlib.Omega.{arith}
 use mathlib.Core.Bool.{Bool, true, false, not, _&&_, true≢false}
 use mathlib.Core.Path.{_≡_, refl, sym, _∙_, ap, subst}
 use mathlib.Core.Logic.{_⊎_, ⊎-elim}
-use mathlib.Core.List.{List, [], _∷_, _++_, append-nil, append-cancel-left}
+use mathlib.Core.List.{List, [], _∷_, _++_, map, append-nil, append-cancel-left}
 use lib.Count.{onesIn, ones, leadingZeros}
 use lib.Bits.{bitAnd, bitOr}
 use lib.Dec.{eqb}
@@ -14,7 +14,7 @@ use borrow.Author.Tests.{not-false, le-leb, eq-eqb, ne-eqb, eqb-true}
 use Rattle.node_set.specs.NodeSet.{has}
 use Rattle.model.specs.Pick.{pick, by-test}
 use Rattle.model.specs.Limits.{queueLimit, counterEnd, callEnd}
-use Rattle.model.specs.Node.{isDown, isNormal, groupOf, replies}
+use Rattle.model.specs.Node.{isDown, isNormal, replies}
 use Rattle.model.specs.Recovery.{recoveryRecords}
 use Rattle.model.specs.Procedures.{recovers, inviteNext, merges, handNext, finishes, forwardNext, askedAll, askAt, askAfter}
 use Rattle.model.specs.React.{checked, timedOut, ticked, expired, resumed, onAreYouCoordinator, onAreYouThere, onInvitation, onAccept, onReady, onReply, received, react}
@@ -47,12 +47,12 @@ use Rattle.model.specs.declared.Event.{Event}
 use Rattle.model.specs.declared.Event.the-variants.{Crash, Recover, Check, Timeout, Tick, Expire, Finish, Deliver, Lose}
 use Rattle.model.specs.declared.Outcome.{Outcome}
 use Rattle.model.specs.declared.Answer.the-variants.{Accepted}
-use Rattle.machine.specs.declared.RecoveryRecords.{RecoveryRecords}
-use Rattle.machine.specs.Stepped.{Stepped, startingTable, Recorded}
+use Rattle.machine.specs.declared.RecoveryAnswer.{RecoveryAnswer}
+use Rattle.machine.specs.Stepped.{Stepped, startingTable, RecoveryAnswered}
 use Rattle.machine.specs.Mutants.{mergingTable, handingTable, invitedTable, askingTable, collectingTable, invites, recoversAtExpire, Moves, NoMutant, NoWrongTurning, NoLowerFirst, NoJoiningAgain, NoOtherRecovery}
 use Rattle.machine.proofs.Laws.{start-is}
 use Rattle.machine.proofs.Runs.{run-nodes, start-node, accepted-alike, code-runs, code-fixes, folded-reached}
-use Rattle.machine.proofs.Recording.{model-accepts, code-accepts, recorded-alike}
+use Rattle.machine.proofs.Recovering.{model-accepts, code-accepts, recovery-alike}
 use Rattle.machine.proofs.Still.{accepted-differs, reply-taken}
 use Rattle.machine.proofs.Invites.{event-invites}
 
@@ -389,29 +389,32 @@ no-joining-again =
 
 -- ── 02, T-04 ──
 
--- what a field of the k-th record is, where the answer is accepted
-abbrev recorded : {t : Table} {i : ℕ} {q : RecoveryRecords} {B : Type 0} (f : List Node → B) → Recorded t i q → q .answer ≡ Accepted → f (q .records) ≡ f (recoveryRecords i (nodeAt (view t) i))
-recorded f y a = ap f (recorded-alike .records y a)
+-- what is read of the records, where the answer is accepted
+abbrev of-records : {t : Table} {i : ℕ} {q : RecoveryAnswer} {B : Type 0} (f : List Node → B) → RecoveryAnswered t i q → q .answer ≡ Accepted → f (q .records) ≡ f (recoveryRecords i (nodeAt (view t) i))
+of-records f y a = ap f (recovery-alike .records y a)
 
-recover-clear : {t : Table} {i : ℕ} {q : RecoveryRecords} → Recorded t i q → q .answer ≡ Accepted → Clear (view t) (Recover i)
+recover-clear : {t : Table} {i : ℕ} {q : RecoveryAnswer} → RecoveryAnswered t i q → q .answer ≡ Accepted → Clear (view t) (Recover i)
 recover-clear {t} {i} y a = let m = model-accepts y a in accepted-is (view t) (Recover i) (m .state) (m .mark) (m .is) .clear
 
 pub no-other-recovery : NoOtherRecovery
 unfolding reactionTo react
 no-other-recovery =
     record {
-      at-once = λ y a e. true≢false (ap (λ (c : Node). isNormal (c .status)) (sym (recorded (recordAfter 8) y a) ∙ sym e ∙ recorded (recordAfter 1) y a));
-      counts-early = λ y a h. h (recorded (λ (l : List Node). recordAfter 1 l .counter) y a);
-      group-early = λ y a h. h (recorded (λ (l : List Node). recordAfter 2 l .group) y a);
-      group-before = λ {t} {i} y a h.
-          h (recorded (λ (l : List Node). recordAfter 3 l .group .number) y a ∙ sym (recorded (λ (l : List Node). groupOf (recordAfter 2 l .counter) i) y a));
-      leads-early = λ y a h. h (recorded (λ (l : List Node). recordAfter 3 l .coordinator) y a);
-      empties-early = λ y a h. h (recorded (λ (l : List Node). recordAfter 4 l .members) y a);
-      task-early = λ y a h. h (recorded (λ (l : List Node). recordAfter 6 l .task) y a);
-      no-reorganization = λ y a h. h (recorded (λ (l : List Node). recordAfter 6 l .status) y a);
-      normal-early = λ y a e. true≢false (ap isNormal (sym e ∙ recorded (λ (l : List Node). recordAfter 7 l .status) y a));
-      other-last = λ x y a h. h (recorded-alike .last x y a);
+      at-once = λ y a e. true≢false (ap (λ (c : Node). isNormal (c .status)) (sym (of-records (recordAfter 8) y a) ∙ sym e ∙ of-records (recordAfter 1) y a));
+      sets-last = λ y a h. h (of-records (map (λ (c : Node). c .last)) y a);
+      sets-activity = λ y a h. h (of-records (map (λ (c : Node). c .activity)) y a);
+      no-election = λ y a h. h (of-records (λ (l : List Node). recordAfter 1 l .status) y a);
+      counts-early = λ y a h. h (of-records (λ (l : List Node). recordAfter 1 l .counter) y a);
+      group-early = λ y a h. h (of-records (λ (l : List Node). recordAfter 2 l .group) y a);
+      group-before = λ y a h. h (of-records (λ (l : List Node). recordAfter 3 l .group .number) y a);
+      leads-early = λ y a h. h (of-records (λ (l : List Node). recordAfter 3 l .coordinator) y a);
+      empties-early = λ y a h. h (of-records (λ (l : List Node). recordAfter 4 l .members) y a);
+      task-early = λ y a h. h (of-records (λ (l : List Node). recordAfter 6 l .task) y a);
+      no-reorganization = λ y a h. h (of-records (λ (l : List Node). recordAfter 6 l .status) y a);
+      normal-early = λ y a e. true≢false (ap isNormal (sym e ∙ of-records (λ (l : List Node). recordAfter 7 l .status) y a));
       turns-away = λ {t} {i} g low high d k y h. h (code-accepts y _ _ (recovery-accepted (view t) i g low high d k));
+      not-in-range = λ {t} {i} r y a. true≢false (sym (recover-clear y a .in-range) ∙ r);
+      no-node = λ {t} {i} r y a. true≢false (sym (ap not r) ∙ recover-clear y a .number);
       not-down = λ {t} {i} d y a. true≢false (sym (ap not d) ∙ recover-clear y a .status);
       at-end = λ {t} {i} e y a. true≢false (sym (eq-eqb (nodeAt (view t) i .counter) counterEnd e) ∙ recover-clear y a .counter);
     }

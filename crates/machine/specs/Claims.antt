@@ -20,8 +20,8 @@ use Rattle.model.specs.declared.Table.{Table}
 use Rattle.model.specs.declared.Outcome.{Outcome}
 use Rattle.model.specs.declared.Answer.the-variants.{Accepted}
 use Rattle.machine.specs.declared.Start.{Start}
-use Rattle.machine.specs.declared.RecoveryRecords.{RecoveryRecords}
-use Rattle.machine.specs.Stepped.{Stepped, Begun, Recorded}
+use Rattle.machine.specs.declared.RecoveryAnswer.{RecoveryAnswer}
+use Rattle.machine.specs.Stepped.{Stepped, Begun, RecoveryAnswered}
 
 -- Of any outcome that meets `Stepped`, what `step` and `apply` promise: the code answers Accepted exactly where the model accepts.
 pub record AcceptedAlike : Type 0 where
@@ -105,18 +105,18 @@ pub record CodeFixes (chain : Chain) (n : ℕ) : Type 0 where
 
 -- ── 02, T-04: recovery as the paper prints it ──
 
--- Of any answer q that meets `Recorded`, what `recovery` promises for the table t and node i, and any outcome r that meets `Stepped` for recover i on the same table:
--- the two can't drift apart.
-pub record RecordedAlike : Type 0 where
+-- Of any answer q that meets `RecoveryAnswered`, what `recovery` promises for the table t and node i, and any outcome r that meets `Stepped` for recover i on the same table:
+-- the two agree.
+pub record RecoveryAlike : Type 0 where
   -- "is refused as it is"
-  pub answer : {t : Table} {i : ℕ} {r : Outcome} {q : RecoveryRecords} → Stepped t (Recover i) r → Recorded t i q → q .answer ≡ r .answer
+  pub answer : {t : Table} {i : ℕ} {r : Outcome} {q : RecoveryAnswer} → Stepped t (Recover i) r → RecoveryAnswered t i q → q .answer ≡ r .answer
   -- "and answers the eight records of cabinet i"
-  pub records : {t : Table} {i : ℕ} {q : RecoveryRecords} → Recorded t i q → q .answer ≡ Accepted → q .records ≡ recoveryRecords i (nodeAt (view t) i)
+  pub records : {t : Table} {i : ℕ} {q : RecoveryAnswer} → RecoveryAnswered t i q → q .answer ≡ Accepted → q .records ≡ recoveryRecords i (nodeAt (view t) i)
   -- "and the last is the one recover i leaves"
-  pub last : {t : Table} {i : ℕ} {r : Outcome} {q : RecoveryRecords} → Stepped t (Recover i) r → Recorded t i q → q .answer ≡ Accepted
+  pub last-record : {t : Table} {i : ℕ} {r : Outcome} {q : RecoveryAnswer} → Stepped t (Recover i) r → RecoveryAnswered t i q → q .answer ≡ Accepted
       → recordAfter 8 (q .records) ≡ nodeAt (view (r .table)) i
   -- beside a refusal stand eight starting records
-  pub refused-records : {t : Table} {i : ℕ} {q : RecoveryRecords} → Recorded t i q → (q .answer ≡ Accepted → ⊥) → q .records ≡ replicate 8 startingNode
+  pub refused-records : {t : Table} {i : ℕ} {q : RecoveryAnswer} → RecoveryAnswered t i q → (q .answer ≡ Accepted → ⊥) → q .records ≡ replicate 8 startingNode
   -- one answer meets the promise, with one list of records
-  pub same-answer : {t : Table} {i : ℕ} {p q : RecoveryRecords} → Recorded t i p → Recorded t i q → p .answer ≡ q .answer
-  pub same-records : {t : Table} {i : ℕ} {p q : RecoveryRecords} → Recorded t i p → Recorded t i q → p .records ≡ q .records
+  pub same-answer : {t : Table} {i : ℕ} {p q : RecoveryAnswer} → RecoveryAnswered t i p → RecoveryAnswered t i q → p .answer ≡ q .answer
+  pub same-records : {t : Table} {i : ℕ} {p q : RecoveryAnswer} → RecoveryAnswered t i p → RecoveryAnswered t i q → p .records ≡ q .records

@@ -1,15 +1,17 @@
--- "Try these impostors", "Wrong turnings in this protocol" and 02's T-02 to T-04: what no machine does that meets `Stepped`, or `Recorded` (mutant: 01's impostor). A machine is here
+-- "Try these impostors", "Wrong turnings in this protocol" and 02's T-02 to T-04: what no machine does that meets `Stepped`, or `RecoveryAnswered` (mutant: 01's impostor). A machine is here
 -- whatever answers an event e on a table t with an outcome r, as a function f from tables and events does with f t e; nothing is asked of how it comes to r, so it may also
 -- remember. Each field takes as little of the mutant's behaviour as shuts it out: one event, and one thing that is wrong then. The proofs are in proofs/Mutants.
-use Prim.Native.Nat.{ℕ, _≤_}
+use Prim.Native.Nat.{ℕ, _+_, _≤_}
 use mathlib.Core.Bool.{Bool, true, false, not, _&&_, _||_}
 use mathlib.Core.Path.{_≡_}
-use mathlib.Core.List.{List, [], _∷_, _++_}
+use mathlib.Core.List.{List, [], _∷_, _++_, map}
 use lib.Dec.{eqb, ltb}
+use lib.ListN.{replicate}
 use Rattle.node_set.specs.NodeSet.{has}
 use Rattle.model.specs.Limits.{nodeLimit, counterEnd}
 use Rattle.model.specs.Node.{isDown, isNormal, hasOpenCall, groupOf, replies}
 use Rattle.model.specs.React.{leads}
+use Rattle.model.specs.Range.{isNode}
 use Rattle.model.specs.State.{State, nodeAt, waits, oldest, inRange, view, tableOf}
 use Rattle.model.specs.Step.{actor, reactionTo, remaining}
 use Rattle.model.specs.Answers.{answerNumber}
@@ -25,8 +27,8 @@ use Rattle.model.specs.declared.Event.{Event}
 use Rattle.model.specs.declared.Event.the-variants.{Crash, Recover, Check, Timeout, Tick, Expire, Finish, Deliver, Lose}
 use Rattle.model.specs.declared.Outcome.{Outcome}
 use Rattle.model.specs.declared.Answer.the-variants.{Accepted, QueueFull}
-use Rattle.machine.specs.declared.RecoveryRecords.{RecoveryRecords}
-use Rattle.machine.specs.Stepped.{Stepped, startingTable, Recorded}
+use Rattle.machine.specs.declared.RecoveryAnswer.{RecoveryAnswer}
+use Rattle.machine.specs.Stepped.{Stepped, startingTable, RecoveryAnswered}
 use Rattle.machine.specs.Folded.{Folded}
 use Rattle.machine.specs.Claims.{isForming, Reached}
 
@@ -259,35 +261,41 @@ pub record NoJoiningAgain : Type 0 where
 
 -- ── 02, T-04: recovery as the paper prints it ──
 
--- A machine is here whatever answers a table t and a node i with q. Of the first ten fields, q is accepted.
+-- A machine is here whatever answers a table t and a number i with q. In the fields up to `normal-early` q is accepted.
 pub record NoOtherRecovery : Type 0 where
   -- one that sets all fields at once, and answers the same record eight times
-  pub at-once : {t : Table} {i : ℕ} {q : RecoveryRecords} → Recorded t i q → q .answer ≡ Accepted → recordAfter 1 (q .records) ≡ recordAfter 8 (q .records) → ⊥
-  -- one that counts with the first assignment
-  pub counts-early : {t : Table} {i : ℕ} {q : RecoveryRecords} → Recorded t i q → q .answer ≡ Accepted
+  pub at-once : {t : Table} {i : ℕ} {q : RecoveryAnswer} → RecoveryAnswered t i q → q .answer ≡ Accepted → recordAfter 1 (q .records) ≡ recordAfter 8 (q .records) → ⊥
+  -- one that sets what no assignment sets: not each of the eight records has the last call number, or the activity, of the node's record
+  pub sets-last : {t : Table} {i : ℕ} {q : RecoveryAnswer} → RecoveryAnswered t i q → q .answer ≡ Accepted
+      → (map (λ c. c .last) (q .records) ≡ replicate 8 (nodeAt (view t) i .last) → ⊥) → ⊥
+  pub sets-activity : {t : Table} {i : ℕ} {q : RecoveryAnswer} → RecoveryAnswered t i q → q .answer ≡ Accepted
+      → (map (λ c. c .activity) (q .records) ≡ replicate 8 (nodeAt (view t) i .activity) → ⊥) → ⊥
+  -- one that passes Election over, or counts with it
+  pub no-election : {t : Table} {i : ℕ} {q : RecoveryAnswer} → RecoveryAnswered t i q → q .answer ≡ Accepted
+      → (recordAfter 1 (q .records) .status ≡ Election → ⊥) → ⊥
+  pub counts-early : {t : Table} {i : ℕ} {q : RecoveryAnswer} → RecoveryAnswered t i q → q .answer ≡ Accepted
       → (recordAfter 1 (q .records) .counter ≡ nodeAt (view t) i .counter → ⊥) → ⊥
-  -- one that forms the group before it counts, or from the counter before
-  pub group-early : {t : Table} {i : ℕ} {q : RecoveryRecords} → Recorded t i q → q .answer ≡ Accepted
+  -- one that forms the group before it counts, or of the counter before
+  pub group-early : {t : Table} {i : ℕ} {q : RecoveryAnswer} → RecoveryAnswered t i q → q .answer ≡ Accepted
       → (recordAfter 2 (q .records) .group ≡ nodeAt (view t) i .group → ⊥) → ⊥
-  pub group-before : {t : Table} {i : ℕ} {q : RecoveryRecords} → Recorded t i q → q .answer ≡ Accepted
-      → (recordAfter 3 (q .records) .group .number ≡ groupOf (recordAfter 2 (q .records) .counter) i → ⊥) → ⊥
+  pub group-before : {t : Table} {i : ℕ} {q : RecoveryAnswer} → RecoveryAnswered t i q → q .answer ≡ Accepted
+      → (recordAfter 3 (q .records) .group .number ≡ groupOf (nodeAt (view t) i .counter + 1) i → ⊥) → ⊥
   -- one that makes itself the coordinator before its group is new, or empties its members before it is the coordinator
-  pub leads-early : {t : Table} {i : ℕ} {q : RecoveryRecords} → Recorded t i q → q .answer ≡ Accepted
+  pub leads-early : {t : Table} {i : ℕ} {q : RecoveryAnswer} → RecoveryAnswered t i q → q .answer ≡ Accepted
       → (recordAfter 3 (q .records) .coordinator ≡ nodeAt (view t) i .coordinator → ⊥) → ⊥
-  pub empties-early : {t : Table} {i : ℕ} {q : RecoveryRecords} → Recorded t i q → q .answer ≡ Accepted
+  pub empties-early : {t : Table} {i : ℕ} {q : RecoveryAnswer} → RecoveryAnswered t i q → q .answer ≡ Accepted
       → (recordAfter 4 (q .records) .members ≡ nodeAt (view t) i .members → ⊥) → ⊥
   -- one that takes the task before Reorganization, passes that over, or is Normal without the task
-  pub task-early : {t : Table} {i : ℕ} {q : RecoveryRecords} → Recorded t i q → q .answer ≡ Accepted
+  pub task-early : {t : Table} {i : ℕ} {q : RecoveryAnswer} → RecoveryAnswered t i q → q .answer ≡ Accepted
       → (recordAfter 6 (q .records) .task ≡ nodeAt (view t) i .task → ⊥) → ⊥
-  pub no-reorganization : {t : Table} {i : ℕ} {q : RecoveryRecords} → Recorded t i q → q .answer ≡ Accepted
+  pub no-reorganization : {t : Table} {i : ℕ} {q : RecoveryAnswer} → RecoveryAnswered t i q → q .answer ≡ Accepted
       → (recordAfter 6 (q .records) .status ≡ Reorganization → ⊥) → ⊥
-  pub normal-early : {t : Table} {i : ℕ} {q : RecoveryRecords} → Recorded t i q → q .answer ≡ Accepted → recordAfter 7 (q .records) .status ≡ Normal → ⊥
-  -- one that leaves another record than recover i does
-  pub other-last : {t : Table} {i : ℕ} {r : Outcome} {q : RecoveryRecords} → Stepped t (Recover i) r → Recorded t i q → q .answer ≡ Accepted
-      → (recordAfter 8 (q .records) ≡ nodeAt (view (r .table)) i → ⊥) → ⊥
+  pub normal-early : {t : Table} {i : ℕ} {q : RecoveryAnswer} → RecoveryAnswered t i q → q .answer ≡ Accepted → recordAfter 7 (q .records) .status ≡ Normal → ⊥
   -- one that turns a node away which can recover
-  pub turns-away : {t : Table} {i : ℕ} {q : RecoveryRecords} → inRange (view t) ≡ true → 1 ≤ i → i ≤ t .n → isDown (nodeAt (view t) i .status) ≡ true
-      → (nodeAt (view t) i .counter ≡ counterEnd → ⊥) → Recorded t i q → (q .answer ≡ Accepted → ⊥) → ⊥
-  -- one that answers records of a node which can't: it is not Down, or its counter is at its end
-  pub not-down : {t : Table} {i : ℕ} {q : RecoveryRecords} → isDown (nodeAt (view t) i .status) ≡ false → Recorded t i q → q .answer ≡ Accepted → ⊥
-  pub at-end : {t : Table} {i : ℕ} {q : RecoveryRecords} → nodeAt (view t) i .counter ≡ counterEnd → Recorded t i q → q .answer ≡ Accepted → ⊥
+  pub turns-away : {t : Table} {i : ℕ} {q : RecoveryAnswer} → inRange (view t) ≡ true → 1 ≤ i → i ≤ t .n → isDown (nodeAt (view t) i .status) ≡ true
+      → (nodeAt (view t) i .counter ≡ counterEnd → ⊥) → RecoveryAnswered t i q → (q .answer ≡ Accepted → ⊥) → ⊥
+  -- one that answers records where it must not: the table is not in range, i is no node, it is not Down, or its counter is at its end
+  pub not-in-range : {t : Table} {i : ℕ} {q : RecoveryAnswer} → inRange (view t) ≡ false → RecoveryAnswered t i q → q .answer ≡ Accepted → ⊥
+  pub no-node : {t : Table} {i : ℕ} {q : RecoveryAnswer} → isNode (t .n) i ≡ false → RecoveryAnswered t i q → q .answer ≡ Accepted → ⊥
+  pub not-down : {t : Table} {i : ℕ} {q : RecoveryAnswer} → isDown (nodeAt (view t) i .status) ≡ false → RecoveryAnswered t i q → q .answer ≡ Accepted → ⊥
+  pub at-end : {t : Table} {i : ℕ} {q : RecoveryAnswer} → nodeAt (view t) i .counter ≡ counterEnd → RecoveryAnswered t i q → q .answer ≡ Accepted → ⊥

@@ -18,7 +18,7 @@ use Rattle.model.specs.declared.Outcome.{Outcome}
 use Rattle.machine.specs.declared.StartAnswer.{StartAnswer}
 use Rattle.machine.specs.declared.StartAnswer.the-variants.{Started, WrongCount}
 use Rattle.machine.specs.declared.Start.{Start}
-use Rattle.machine.specs.declared.RecoveryRecords.{RecoveryRecords}
+use Rattle.machine.specs.declared.RecoveryAnswer.{RecoveryAnswer}
 
 -- the outcome r of event e on the table t. What the table holds past its n records and its waiting messages is free after an accepted event, and decides nothing.
 pub record Stepped (t : Table) (e : Event) (r : Outcome) : Type 0 where
@@ -49,13 +49,13 @@ pub record Begun (n : ℕ) (r : Start) : Type 0 where
 
 -- ── 02, T-04: "A new entry takes what recover i takes, is refused as it is, and answers the eight records of cabinet i, one after each assignment" ──
 
--- the records beside the result of recover i on the state s; beside a refusal there are none, and eight starting records stand in their places
+-- the records beside the result of recover i on the state s; beside a refusal no record is answered, and each of the eight places holds the starting record
 abbrev pub recordsBeside : State → ℕ → Result → List Node
 recordsBeside s i (refused r) = replicate 8 startingNode
 recordsBeside s i (accepted u k) = recoveryRecords i (nodeAt s i)
 
--- What `recovery` answers for the table t and node i. Nothing of it is free, and the table, which it only reads, is the caller's.
-pub record Recorded (t : Table) (i : ℕ) (r : RecoveryRecords) : Type 0 where
+-- What `recovery` answers for the table t and node i. Nothing of it is free. It returns no table.
+pub record RecoveryAnswered (t : Table) (i : ℕ) (r : RecoveryAnswer) : Type 0 where
   -- "is refused as it is": the answer is the model's to recover i
   pub answer : answerNumber (r .answer) ≡ resultNumber (step (view t) (Recover i))
   pub records : r .records ≡ recordsBeside (view t) i (step (view t) (Recover i))

@@ -7,7 +7,7 @@ ghost use mathlib.Core.Path.{_≡_};
 ghost use mathlib.Core.Bool.{true};
 ghost use Prim.Native.Nat.{ℕ, _≤_, _<_};
 ghost use Rattle.model.specs.State.{startingNode, view, inRange};
-ghost use Rattle.machine.specs.Stepped.{Stepped, startingTable, Begun, Recorded};
+ghost use Rattle.machine.specs.Stepped.{Stepped, startingTable, Begun, RecoveryAnswered};
 pub use grounds::actor;
 pub use grounds::answer_number;
 pub use grounds::is_accepted;
@@ -39,8 +39,8 @@ pub struct Start {
     pub table: Table,
 }
 
-// What `recovery` answers: the answer to recover i, and the eight records.
-pub struct RecoveryRecords {
+// What `recovery` answers: the answer to recover i, and the eight records beside it.
+pub struct RecoveryAnswer {
     pub answer: Answer,
     pub records: [Node; 8],
 }
@@ -152,24 +152,24 @@ pub fn step(t: Table, e: Event) -> Outcome
     advance(t, e)
 }
 
-// How node i of any table would recover, as document 002 prints it: refused as recover i is, with eight starting records; or the records after each assignment. The step
-// itself answers, so the two can't differ.
-pub fn recovery(t: Table, i: u8) -> RecoveryRecords
-    ensures { λ r. ⌜ Recorded t i r ⌝ }
+// The records of node i of any table, one after each assignment of its recovery, as document 002 prints it; or recover i's refusal, with eight starting records. The step
+// itself gives the answer. CALL STOP is not needed: where recover i is accepted, the node is Down in a table in range, and so idle.
+pub fn recovery(t: Table, i: u8) -> RecoveryAnswer
+    ensures { λ r. ⌜ RecoveryAnswered t i r ⌝ }
 {
     let o = step(t, Event::Recover(i));
     let answer = o.answer;
     if !grounds::is_accepted(answer) {
         let none = starting_node();
-        return RecoveryRecords {
+        return RecoveryAnswer {
             answer: answer,
             records: [none; 8],
         };
     }
-    let at = (i as usize + 15) % 16;
-    let c = t.nodes[at];
-    RecoveryRecords {
+    let at = (i as usize + 15) % 16; // place i - 1
+    let x = t.nodes[at];
+    RecoveryAnswer {
         answer: Answer::Accepted,
-        records: node_step::recovery_records(i, c),
+        records: node_step::recovery_records(i, x),
     }
 }

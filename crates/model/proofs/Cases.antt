@@ -262,8 +262,12 @@ recovery-cases =
       range-status = refl;
       range-counter = refl;
       status-counter = refl;
+      number-status = refl;
+      number-counter = refl;
       number-none = refl;
       number-above = refl;
+      between = refl;
+      between-k2 = refl;
       inside = refl;
     }
 

@@ -3,8 +3,8 @@ use Prim.Native.Nat.{ℕ, _+_, _-_}
 use native.Mathlib.Omega.{arith}
 use mathlib.Core.Bool.{Bool, true, false, true≢false}
 use mathlib.Core.Path.{_≡_, refl, sym, _∙_, ap}
-use mathlib.Core.List.{map}
-use lib.ListN.{getD}
+use mathlib.Core.List.{List, _++_, append-nil, map}
+use lib.ListN.{getD, set}
 use borrow.Author.Tests.{not-false}
 use Rattle.node_set.specs.NodeSet.{with}
 use Rattle.model.specs.Pick.{pick, by-test}
@@ -13,7 +13,7 @@ use Rattle.model.specs.Recovery.{recoveryRecords, stopped, recovered}
 use Rattle.model.specs.Procedures.{stays, recovers, inviteNext, merges, handNext, finishes, forwardNext, askedAll, askAt, askAfter}
 use Rattle.model.specs.React.{checked, timedOut, ticked, expired, resumed, onAreYouCoordinator, onAreYouThere, onInvitation, onAccept, onReady, onReply, received, react}
 use Rattle.model.specs.State.{State, nodeAt}
-use Rattle.model.specs.Step.{actor, reactionTo, effect, grounds, accepted, judged, step}
+use Rattle.model.specs.Step.{actor, reactionTo, remaining, sent, effect, grounds, accepted, judged, step}
 use Rattle.model.specs.Claims.{recoveryGrounds, recordAfter, RecoveryRules}
 use Rattle.model.proofs.Judged.{Clear, accepted-is, by-reaction}
 use Rattle.model.proofs.Fields.{node-is, node-facts, in-range-node, own-record}
@@ -56,9 +56,9 @@ unfolding step grounds judged pick reactionTo react
 refused-by s i = refl
 
 -- ── the last record ──
-last : (s : State) (i : ℕ) (u : State) (k : Mark) → step s (Recover i) ≡ accepted u k → recordAfter 8 (recoveryRecords i (nodeAt s i)) ≡ nodeAt u i
+last-record : (s : State) (i : ℕ) (u : State) (k : Mark) → step s (Recover i) ≡ accepted u k → recordAfter 8 (recoveryRecords i (nodeAt s i)) ≡ nodeAt u i
 unfolding reactionTo react
-last s i u k e =
+last-record s i u k e =
     let a = accepted-is s (Recover i) u k e in
     sym (ap (λ (v : State). nodeAt v i) (a .state) ∙ own-record s (Recover i) (a .clear) ∙ ap (λ (c : Node). recordAfter 8 (recoveryRecords i c)) (down-stopped s i (a .clear)))
 
@@ -68,9 +68,9 @@ last s i u k e =
 record Other (r : Reaction) : Type 0 where
   none : r .mark ≡ Recovers → ⊥
 
--- if it is one, it leaves the record that a recovery leaves
+-- if it is one, it is the recovery
 record Recovered (i : ℕ) (c : Node) (r : Reaction) : Type 0 where
-  leaves : r .mark ≡ Recovers → r .node ≡ recovered i c
+  is : r .mark ≡ Recovers → r ≡ recovers i c
 
 plain : {r : Reaction} → r .mark ≡ Plain → Other r
 plain e = record { none = λ f. let z : _≡_ {A = ℕ} 0 1 = cc in absurd (omega arith) }
@@ -83,10 +83,10 @@ module _ (i : ℕ) (c : Node) where
   P r = Recovered i c r
 
   other : {r : Reaction} → Other r → Recovered i c r
-  other f = record { leaves = λ e. absurd (f .none e) }
+  other f = record { is = λ e. absurd (f .none e) }
 
   recovery : Recovered i c (recovers i c)
-  recovery = record { leaves = λ _. refl }
+  recovery = record { is = λ _. refl }
 
   hands : (r : ℕ) → Other (handNext i c r)
   unfolding handNext
@@ -161,20 +161,42 @@ module _ (i : ℕ) (c : Node) where
   reacts n (Input.Finish t) = other (plain (finish-mark i c t))
   reacts n (Input.Receive m) = receives n m
 
-every-recovery : (s : State) (e : Event) (u : State) → step s e ≡ accepted u Recovers
-    → recordAfter 8 (recoveryRecords (actor e) (stopped (nodeAt s (actor e)))) ≡ nodeAt u (actor e)
-every-recovery s e u q =
-    let a = accepted-is s e u Recovers q in
-    let r = by-reaction (λ (r : Reaction). Recovered (actor e) (nodeAt s (actor e)) r) s e (a .clear) (λ x _. reacts (actor e) (nodeAt s (actor e)) (s .n) x) (other (actor e) (nodeAt s (actor e)) (plain refl)) in
-    sym (ap (λ (v : State). nodeAt v (actor e)) (a .state) ∙ own-record s e (a .clear) ∙ r .leaves (sym (a .mark)))
+module _ (s : State) (e : Event) (u : State) (q : step s e ≡ accepted u Recovers) where
+  clear : Clear s e
+  clear = accepted-is s e u Recovers q .clear
+
+  reaction-is : reactionTo s e ≡ recovers (actor e) (nodeAt s (actor e))
+  reaction-is =
+      by-reaction (λ (r : Reaction). Recovered (actor e) (nodeAt s (actor e)) r) s e clear
+      (λ x _. reacts (actor e) (nodeAt s (actor e)) (s .n) x)
+      (other (actor e) (nodeAt s (actor e)) (plain refl))
+      .is
+      (sym (accepted-is s e u Recovers q .mark))
+
+  abbrev stored : Node → List Message → State
+  stored c l = record { n = s .n; nodes = set (s .nodes) (actor e - 1) c; queue = l }
+
+  same-table : u ≡ stored (recovered (actor e) (nodeAt s (actor e))) (remaining s e)
+  unfolding effect
+  same-table =
+      accepted-is s e u Recovers q .state
+      ∙ ap (λ (r : Reaction). stored (r .node) (remaining s e ++ sent (r .outgoing))) reaction-is
+      ∙ ap (stored (recovered (actor e) (nodeAt s (actor e)))) (append-nil (remaining s e))
+
+  every-recovery : recordAfter 8 (recoveryRecords (actor e) (stopped (nodeAt s (actor e)))) ≡ nodeAt u (actor e)
+  every-recovery =
+      sym (ap (λ (v : State). nodeAt v (actor e)) (accepted-is s e u Recovers q .state) ∙ own-record s e clear ∙ ap (λ (r : Reaction). r .node) reaction-is)
 
 pub recovery-rules : RecoveryRules
 recovery-rules =
     record {
-      written-out = λ i c. refl;
-      same-as-before = λ i c. refl;
-      stop-anywhere = λ i c. refl;
+      written-out = λ i x. refl;
+      stop-alone = λ x. refl;
+      as-printed = λ i x. refl;
+      stop-anywhere = λ i x. refl;
+      same-record = λ i x. refl;
+      same-table = same-table;
       refused-by = refused-by;
-      last = last;
+      last-record = last-record;
       every-recovery = every-recovery;
     }

@@ -686,12 +686,12 @@ pub record HeldGroupCases : Type 0 where
 -- ── 02, T-04: the records of a recovery; fields in 01's order ──
 
 -- node 2 as a Down follower of node 1, of three; every assignment of its recovery changes something
-abbrev pub leftBehind : Node
-leftBehind = node Down 5 48 1 300 (setOf (1 ∷ 3 ∷ [])) 9 Idle
+abbrev pub downFollower : Node
+downFollower = node Down 5 48 1 300 (setOf (1 ∷ 3 ∷ [])) 9 Idle
 
--- a table with it, in which node 3 is as at the start
-abbrev pub withLeftBehind : Node → State
-withLeftBehind c = record { n = 3; nodes = node Normal 3 48 1 300 (setOf (2 ∷ [])) 4 Idle ∷ c ∷ startingNode ∷ []; queue = invitation 48 }
+-- a table with node 2 as c, in which node 3 is as at the start
+abbrev pub withFollower : Node → State
+withFollower c = record { n = 3; nodes = node Normal 3 48 1 300 (setOf (2 ∷ [])) 4 Idle ∷ c ∷ startingNode ∷ []; queue = invitation 48 }
 
 pub record RecoveryCases : Type 0 where
   -- K2: the first recovery of node 1
@@ -706,7 +706,7 @@ pub record RecoveryCases : Type 0 where
       ∷ node Normal 1 16 1 1 none 0 Idle
       ∷ []
   -- eight different records; the last call number stays
-  pub each : recoveryRecords 2 leftBehind
+  pub each : recoveryRecords 2 downFollower
       ≡ node Election 5 48 1 300 (setOf (1 ∷ 3 ∷ [])) 9 Idle
       ∷ node Election 6 48 1 300 (setOf (1 ∷ 3 ∷ [])) 9 Idle
       ∷ node Election 6 97 1 300 (setOf (1 ∷ 3 ∷ [])) 9 Idle
@@ -717,24 +717,30 @@ pub record RecoveryCases : Type 0 where
       ∷ node Normal 6 97 2 2 none 9 Idle
       ∷ []
   -- and recover 2 leaves the last of them, and nothing else changes
-  pub left : step (withLeftBehind leftBehind) (Recover 2) ≡ accepted (withLeftBehind (node Normal 6 97 2 2 none 9 Idle)) Recovers
+  pub left : step (withFollower downFollower) (Recover 2) ≡ accepted (withFollower (node Normal 6 97 2 2 none 9 Idle)) Recovers
   -- K4: after a crash, the second recovery; K5: the last that the counter allows
   pub k4 : map (λ c. c .group .number) (recoveryRecords 1 (nodeAt (run 2 (Recover 1 ∷ Crash 1 ∷ [])) 1)) ≡ 16 ∷ 16 ∷ 32 ∷ 32 ∷ 32 ∷ 32 ∷ 32 ∷ 32 ∷ []
   pub k5 : map (λ c. c .group .number) (recoveryRecords 16 (nodeAt (counted Down Idle 1048574) 16))
       ≡ 16777199 ∷ 16777199 ∷ 16777215 ∷ 16777215 ∷ 16777215 ∷ 16777215 ∷ 16777215 ∷ 16777215 ∷ []
-  -- the grounds in their order, where two apply: 1 before 7, 1 before 9, 1 before 12, 9 before 12; and where one does: 7 for no node, and above n
+  -- the grounds in their order, where two apply: 1 before 7, 9 and 12; 7 before 9 and 12 (the number 0 reads the record of node 1); 9 before 12. And where one does: 7 for
+  -- the number 0, and above n
   pub range-number : step (beside (follower Normal 33 100 none 2 Idle) []) (Recover 9) ≡ refused 1
   pub range-status : step (beside (follower Normal 33 100 none 2 Idle) []) (Recover 1) ≡ refused 1
   pub range-counter : step (beside (node Down 1048575 0 0 0 none 0 Idle) (invitation 0)) (Recover 2) ≡ refused 1
   pub status-counter : step (counted Normal Idle 1048575) (Recover 16) ≡ refused 9
+  pub number-status : step (withFollower downFollower) (Recover 0) ≡ refused 7
+  pub number-counter : step (record { n = 1; nodes = node Down 1048575 0 0 0 none 0 Idle ∷ []; queue = [] }) (Recover 0) ≡ refused 7
   pub number-none : step (start 2) (Recover 0) ≡ refused 7
   pub number-above : step (start 2) (Recover 3) ≡ refused 7
-  -- a recovery inside another procedure: contacting stops, and the record after each assignment is the one of an idle node
-  pub inside : recoveryRecords 2 (stopped (node Normal 5 48 1 300 none 9 Contacting))
-      ≡ node Election 5 48 1 300 none 9 Idle
-      ∷ node Election 6 48 1 300 none 9 Idle
-      ∷ node Election 6 97 1 300 none 9 Idle
-      ∷ node Election 6 97 2 300 none 9 Idle
+  -- of the records before the last some are out of range: while the group is new and another is the coordinator, and at the first recovery (K2) while there is no group
+  pub between : map (nodeInRange 3 2) (recoveryRecords 2 downFollower) ≡ true ∷ true ∷ false ∷ true ∷ true ∷ true ∷ true ∷ true ∷ []
+  pub between-k2 : map (nodeInRange 2 1) (recoveryRecords 1 (nodeAt (start 2) 1)) ≡ false ∷ false ∷ false ∷ true ∷ true ∷ true ∷ true ∷ true ∷ []
+  -- a recovery inside another procedure: contacting stops, and the record after each assignment is that of an idle node
+  pub inside : recoveryRecords 2 (stopped (node Normal 5 48 1 300 (setOf (1 ∷ 3 ∷ [])) 9 Contacting))
+      ≡ node Election 5 48 1 300 (setOf (1 ∷ 3 ∷ [])) 9 Idle
+      ∷ node Election 6 48 1 300 (setOf (1 ∷ 3 ∷ [])) 9 Idle
+      ∷ node Election 6 97 1 300 (setOf (1 ∷ 3 ∷ [])) 9 Idle
+      ∷ node Election 6 97 2 300 (setOf (1 ∷ 3 ∷ [])) 9 Idle
       ∷ node Election 6 97 2 300 none 9 Idle
       ∷ node Reorganization 6 97 2 300 none 9 Idle
       ∷ node Reorganization 6 97 2 2 none 9 Idle

@@ -9,7 +9,7 @@ use lib.ListN.{length, getD, set}
 use Rattle.node_set.specs.NodeSet.{has, without}
 use Rattle.model.specs.Limits.{nodeLimit, counterEnd, callEnd}
 use Rattle.model.specs.Node.{isDown, isNormal, groupOf, ownerOf, nextCall, calls, replies}
-use Rattle.model.specs.Recovery.{recoveryRecords, stopped, recovered}
+use Rattle.model.specs.Recovery.{withStatus, withCounter, withGroup, withCoordinator, withMembers, withTask, recoveryRecords, stopped, recovered}
 use Rattle.model.specs.Procedures.{next, inviteNext, handNext, forwardNext}
 use Rattle.model.specs.React.{leads, checked, expired, resumed}
 use Rattle.model.specs.Range.{isNode, carriesGroup}
@@ -397,22 +397,22 @@ pub record InvitationRules : Type 0 where
 
 -- ── 02, T-04: recovery as the paper prints it ──
 
--- a record of which the fields that a recovery sets are given, in the order of its assignments; the last call number and the activity are those of c
-abbrev pub fieldsOver : Node → Status → ℕ → GroupNo → ℕ → ℕ → TaskNo → Node
-fieldsOver c status counter group coordinator members task = record {
+-- the record x with these values in the fields that a recovery sets, in the order of its assignments; the last call number and the activity are x's
+abbrev pub recordWith : Node → Status → ℕ → GroupNo → ℕ → ℕ → TaskNo → Node
+recordWith x status counter group coordinator members task = record {
   status = status;
   counter = counter;
   group = group;
   coordinator = coordinator;
   task = task;
   members = members;
-  last = c .last;
-  activity = c .activity;
+  last = x .last;
+  activity = x .activity;
 }
 
--- the group that node i's recovery forms, and its solo task
+-- the group that node i forms when it recovers from the record x, and its solo task
 abbrev pub recoveredGroup : ℕ → Node → GroupNo
-recoveredGroup i c = record { number = groupOf (c .counter + 1) i }
+recoveredGroup i x = record { number = groupOf (x .counter + 1) i }
 
 abbrev pub soloTask : ℕ → TaskNo
 soloTask i = record { number = i }
@@ -430,32 +430,47 @@ recoveryGrounds s i =
     ∷ ground 12 (eqb (nodeAt s i .counter) counterEnd)
     ∷ []
 
--- the k-th of the eight records, counted from 1
+-- the k-th of a recovery's records, counted from 1
 abbrev pub recordAfter : ℕ → List Node → Node
 recordAfter k l = getD l (k - 1) startingNode
 
 pub record RecoveryRules : Type 0 where
-  -- the eight records, field by field: status, counter, group, coordinator, members, task; "each sets that field alone in the one before"
-  pub written-out : (i : ℕ) (c : Node) → recoveryRecords i c
-      ≡ fieldsOver c Election (c .counter) (c .group) (c .coordinator) (c .members) (c .task)
-      ∷ fieldsOver c Election (c .counter + 1) (c .group) (c .coordinator) (c .members) (c .task)
-      ∷ fieldsOver c Election (c .counter + 1) (recoveredGroup i c) (c .coordinator) (c .members) (c .task)
-      ∷ fieldsOver c Election (c .counter + 1) (recoveredGroup i c) i (c .members) (c .task)
-      ∷ fieldsOver c Election (c .counter + 1) (recoveredGroup i c) i 0 (c .task)
-      ∷ fieldsOver c Reorganization (c .counter + 1) (recoveredGroup i c) i 0 (c .task)
-      ∷ fieldsOver c Reorganization (c .counter + 1) (recoveredGroup i c) i 0 (soloTask i)
-      ∷ fieldsOver c Normal (c .counter + 1) (recoveredGroup i c) i 0 (soloTask i)
+  -- the eight records, field by field: status, counter, group, coordinator, members, task. "each sets that field alone in the one before", and the first in x.
+  pub written-out : (i : ℕ) (x : Node) → recoveryRecords i x
+      ≡ recordWith x Election (x .counter) (x .group) (x .coordinator) (x .members) (x .task)
+      ∷ recordWith x Election (x .counter + 1) (x .group) (x .coordinator) (x .members) (x .task)
+      ∷ recordWith x Election (x .counter + 1) (recoveredGroup i x) (x .coordinator) (x .members) (x .task)
+      ∷ recordWith x Election (x .counter + 1) (recoveredGroup i x) i (x .members) (x .task)
+      ∷ recordWith x Election (x .counter + 1) (recoveredGroup i x) i 0 (x .task)
+      ∷ recordWith x Reorganization (x .counter + 1) (recoveredGroup i x) i 0 (x .task)
+      ∷ recordWith x Reorganization (x .counter + 1) (recoveredGroup i x) i 0 (soloTask i)
+      ∷ recordWith x Normal (x .counter + 1) (recoveredGroup i x) i 0 (soloTask i)
       ∷ []
-  -- "The table after it is the same as before": the record that a recovery leaves, as it was defined before T-04, in 01's words "counter plus one, group from it,
-  -- coordinator i, members empty, task i, Normal, idle"
-  pub same-as-before : (i : ℕ) (c : Node) → recovered i c
-      ≡ record { status = Normal; counter = c .counter + 1; group = recoveredGroup i c; coordinator = i; task = soloTask i; members = 0; last = c .last; activity = Idle }
-  -- "CALL STOP", wherever it stands: from there on the records are those of a node that was stopped before the first
-  pub stop-anywhere : (i : ℕ) (c : Node) → recoveryRecords i (stopped c) ≡ map stopped (recoveryRecords i c)
-  -- "is refused as it is": what recover i answers, by 1, 7, 9 and 12 alone
+  -- "CALL STOP" sets the activity alone
+  pub stop-alone : (x : Node) → stopped x
+      ≡ record { status = x .status; counter = x .counter; group = x .group; coordinator = x .coordinator; task = x .task; members = x .members; last = x .last; activity = Idle }
+  -- the recovery with all nine statements in the paper's places: CALL STOP is the second
+  pub as-printed : (i : ℕ) (x : Node) → recovered i x
+      ≡ withStatus
+      (withTask
+      (withStatus
+      (withMembers (withCoordinator (withGroup (withCounter (stopped (withStatus x Election)) (x .counter + 1)) (recoveredGroup i x)) i) 0)
+      Reorganization)
+      (soloTask i))
+      Normal
+  -- and wherever CALL STOP stands: the records of a node that is stopped before the first are those of the node, each stopped
+  pub stop-anywhere : (i : ℕ) (x : Node) → recoveryRecords i (stopped x) ≡ map stopped (recoveryRecords i x)
+  -- the record that a recovery leaves, in 01's words: "counter plus one, group from it, coordinator i, members empty, task i, Normal, idle". So it was defined before T-04.
+  pub same-record : (i : ℕ) (x : Node) → recovered i x
+      ≡ record { status = Normal; counter = x .counter + 1; group = recoveredGroup i x; coordinator = i; task = soloTask i; members = 0; last = x .last; activity = Idle }
+  -- "The table after it is the same as before.": wherever a node recovers, by recover i, where its call expires or by a no, its record is set to that one, nothing is sent,
+  -- and all else stays; the message of a delivery is out
+  pub same-table : (s : State) (e : Event) (u : State) → step s e ≡ accepted u Recovers
+      → u ≡ record { n = s .n; nodes = set (s .nodes) (actor e - 1) (recovered (actor e) (nodeAt s (actor e))); queue = remaining s e }
+  -- "is refused as it is": recover i is refused by 1, 7, 9 and 12, in this order, and by nothing else
   pub refused-by : (s : State) (i : ℕ) → step s (Recover i) ≡ judged (accepted (effect s (Recover i)) Recovers) (recoveryGrounds s i)
-  -- "and the last is the one recover i leaves"
-  pub last : (s : State) (i : ℕ) (u : State) (k : Mark) → step s (Recover i) ≡ accepted u k → recordAfter 8 (recoveryRecords i (nodeAt s i)) ≡ nodeAt u i
-  -- every other recovery leaves the last of the same eight, of the stopped node: whatever the event, where its node "recovers"
+  -- "and the last is the one recover i leaves": of the record in the table, as it stands
+  pub last-record : (s : State) (i : ℕ) (u : State) (k : Mark) → step s (Recover i) ≡ accepted u k → recordAfter 8 (recoveryRecords i (nodeAt s i)) ≡ nodeAt u i
+  -- and the same of every recovery, of the stopped node
   pub every-recovery : (s : State) (e : Event) (u : State) → step s e ≡ accepted u Recovers
       → recordAfter 8 (recoveryRecords (actor e) (stopped (nodeAt s (actor e)))) ≡ nodeAt u (actor e)

@@ -14,130 +14,133 @@ use Rattle.model.specs.declared.TaskNo.{TaskNo}
 -- ── one field set: "each sets that field alone in the one before" ──
 
 abbrev pub withStatus : Node → Status → Node
-withStatus c s = record {
+withStatus x s = record {
   status = s;
-  counter = c .counter;
-  group = c .group;
-  coordinator = c .coordinator;
-  task = c .task;
-  members = c .members;
-  last = c .last;
-  activity = c .activity;
+  counter = x .counter;
+  group = x .group;
+  coordinator = x .coordinator;
+  task = x .task;
+  members = x .members;
+  last = x .last;
+  activity = x .activity;
 }
 
 abbrev pub withCounter : Node → ℕ → Node
-withCounter c k = record {
-  status = c .status;
+withCounter x k = record {
+  status = x .status;
   counter = k;
-  group = c .group;
-  coordinator = c .coordinator;
-  task = c .task;
-  members = c .members;
-  last = c .last;
-  activity = c .activity;
+  group = x .group;
+  coordinator = x .coordinator;
+  task = x .task;
+  members = x .members;
+  last = x .last;
+  activity = x .activity;
 }
 
 abbrev pub withGroup : Node → GroupNo → Node
-withGroup c g = record {
-  status = c .status;
-  counter = c .counter;
+withGroup x g = record {
+  status = x .status;
+  counter = x .counter;
   group = g;
-  coordinator = c .coordinator;
-  task = c .task;
-  members = c .members;
-  last = c .last;
-  activity = c .activity;
+  coordinator = x .coordinator;
+  task = x .task;
+  members = x .members;
+  last = x .last;
+  activity = x .activity;
 }
 
 abbrev pub withCoordinator : Node → ℕ → Node
-withCoordinator c j = record {
-  status = c .status;
-  counter = c .counter;
-  group = c .group;
+withCoordinator x j = record {
+  status = x .status;
+  counter = x .counter;
+  group = x .group;
   coordinator = j;
-  task = c .task;
-  members = c .members;
-  last = c .last;
-  activity = c .activity;
+  task = x .task;
+  members = x .members;
+  last = x .last;
+  activity = x .activity;
 }
 
 abbrev pub withMembers : Node → ℕ → Node
-withMembers c m = record {
-  status = c .status;
-  counter = c .counter;
-  group = c .group;
-  coordinator = c .coordinator;
-  task = c .task;
+withMembers x m = record {
+  status = x .status;
+  counter = x .counter;
+  group = x .group;
+  coordinator = x .coordinator;
+  task = x .task;
   members = m;
-  last = c .last;
-  activity = c .activity;
+  last = x .last;
+  activity = x .activity;
 }
 
 abbrev pub withTask : Node → TaskNo → Node
-withTask c t = record {
-  status = c .status;
-  counter = c .counter;
-  group = c .group;
-  coordinator = c .coordinator;
+withTask x t = record {
+  status = x .status;
+  counter = x .counter;
+  group = x .group;
+  coordinator = x .coordinator;
   task = t;
-  members = c .members;
-  last = c .last;
-  activity = c .activity;
+  members = x .members;
+  last = x .last;
+  activity = x .activity;
 }
 
--- ── the eight records, "one after each assignment", of node i, which had the record c before. The paper's statement stands above each. ──
+-- ── the eight records, "one after each assignment", of node i, which had the record x before. Above each stands what Appendix II has for it. The paper's procedure is one
+-- critical region, [[ .. ]]: no table holds a record before the last, and some of those are out of range (RecoveryCases.between). ──
 
 -- S(i)·s := "Election";
 abbrev pub afterElection : ℕ → Node → Node
-afterElection i c = withStatus c Election
+afterElection i x = withStatus x Election
+
+-- CALL STOP; has its place here. It is done before the first assignment: see `stopped`.
 
 -- S(i)·counter := S(i)·counter + 1;
 abbrev pub afterCounter : ℕ → Node → Node
-afterCounter i c = withCounter (afterElection i c) (afterElection i c .counter + 1)
+afterCounter i x = withCounter (afterElection i x) (afterElection i x .counter + 1)
 
--- S(i)·g := i CONCATENATED S(i)·counter;
+-- S(i)·g := i CONCATENATED S(i)·counter;  01: "group number = counter × 16 + (owner − 1)"
 abbrev pub afterGroup : ℕ → Node → Node
-afterGroup i c = withGroup (afterCounter i c) (record { number = groupOf (afterCounter i c .counter) i })
+afterGroup i x = withGroup (afterCounter i x) (record { number = groupOf (afterCounter i x .counter) i })
 
 -- S(i)·c := i;
 abbrev pub afterCoordinator : ℕ → Node → Node
-afterCoordinator i c = withCoordinator (afterGroup i c) i
+afterCoordinator i x = withCoordinator (afterGroup i x) i
 
 -- S(i)·Up := { };
 abbrev pub afterMembers : ℕ → Node → Node
-afterMembers i c = withMembers (afterCoordinator i c) 0
+afterMembers i x = withMembers (afterCoordinator i x) 0
 
 -- S(i)·s := "Reorganization";
 abbrev pub afterReorganization : ℕ → Node → Node
-afterReorganization i c = withStatus (afterMembers i c) Reorganization
+afterReorganization i x = withStatus (afterMembers i x) Reorganization
 
--- ⟨⟨A single node task description is computed and placed in S(i)·d.⟩⟩  01: "the solo task of cabinet i is i"
+-- a comment in the paper: ⟨⟨A single node task description is computed and placed in S(i)·d.⟩⟩  01: "the solo task of cabinet i is i"
 abbrev pub afterTask : ℕ → Node → Node
-afterTask i c = withTask (afterReorganization i c) (record { number = i })
+afterTask i x = withTask (afterReorganization i x) (record { number = i })
 
 -- S(i)·s := "Normal";
 abbrev pub afterNormal : ℕ → Node → Node
-afterNormal i c = withStatus (afterTask i c) Normal
+afterNormal i x = withStatus (afterTask i x) Normal
 
 abbrev pub recoveryRecords : ℕ → Node → List Node
-recoveryRecords i c =
-    afterElection i c
-    ∷ afterCounter i c
-    ∷ afterGroup i c
-    ∷ afterCoordinator i c
-    ∷ afterMembers i c
-    ∷ afterReorganization i c
-    ∷ afterTask i c
-    ∷ afterNormal i c
+recoveryRecords i x =
+    afterElection i x
+    ∷ afterCounter i x
+    ∷ afterGroup i x
+    ∷ afterCoordinator i x
+    ∷ afterMembers i x
+    ∷ afterReorganization i x
+    ∷ afterTask i x
+    ∷ afterNormal i x
     ∷ []
 
 -- ── the recovery ──
 
--- CALL STOP; The paper has it behind the first assignment. No assignment reads or sets the activity, so the records behind it are the same wherever it stands
--- (RecoveryRules.stop-anywhere); it is no assignment of 02's eight, and a Down node is idle before it.
+-- CALL STOP; what the node does stops. The paper has it behind the first assignment; no assignment reads or sets the activity, so it may as well stand before it
+-- (RecoveryRules.as-printed, stop-anywhere). It is none of 02's eight: a Down node of a table in range is idle before it.
 abbrev pub stopped : Node → Node
-stopped c = turned c Idle
+stopped x = turned x Idle
 
--- "recover i: counter plus one, group from it, coordinator i, members empty, task i, Normal, idle.": the last of the eight records, once the node's activity is stopped
+-- "recover i: counter plus one, group from it, coordinator i, members empty, task i, Normal, idle.": the last of the eight records of the stopped node
 abbrev pub recovered : ℕ → Node → Node
-recovered i c = afterNormal i (stopped c)
+recovered i x = afterNormal i (stopped x)

@@ -10,52 +10,52 @@ use model::Node;
 use model::Status;
 use model::TaskNo;
 
-pub fn with_status(c: Node, s: Status) -> Node
-    ensures { λ r. ⌜ r ≡ spec.withStatus c s ⌝ }
+pub fn with_status(x: Node, s: Status) -> Node
+    ensures { λ r. ⌜ r ≡ spec.withStatus x s ⌝ }
 {
-    Node { status: s, ..c }
+    Node { status: s, ..x }
 }
 
-pub fn with_counter(c: Node, k: u32) -> Node
-    ensures { λ r. ⌜ r ≡ spec.withCounter c k ⌝ }
+pub fn with_counter(x: Node, k: u32) -> Node
+    ensures { λ r. ⌜ r ≡ spec.withCounter x k ⌝ }
 {
-    Node { counter: k, ..c }
+    Node { counter: k, ..x }
 }
 
-pub fn with_group(c: Node, g: GroupNo) -> Node
-    ensures { λ r. ⌜ r ≡ spec.withGroup c g ⌝ }
+pub fn with_group(x: Node, g: GroupNo) -> Node
+    ensures { λ r. ⌜ r ≡ spec.withGroup x g ⌝ }
 {
-    Node { group: g, ..c }
+    Node { group: g, ..x }
 }
 
-pub fn with_coordinator(c: Node, j: u8) -> Node
-    ensures { λ r. ⌜ r ≡ spec.withCoordinator c j ⌝ }
+pub fn with_coordinator(x: Node, j: u8) -> Node
+    ensures { λ r. ⌜ r ≡ spec.withCoordinator x j ⌝ }
 {
     Node {
         coordinator: j,
-        ..c
+        ..x
     }
 }
 
-pub fn with_members(c: Node, m: u16) -> Node
-    ensures { λ r. ⌜ r ≡ spec.withMembers c m ⌝ }
+pub fn with_members(x: Node, m: u16) -> Node
+    ensures { λ r. ⌜ r ≡ spec.withMembers x m ⌝ }
 {
-    Node { members: m, ..c }
+    Node { members: m, ..x }
 }
 
-pub fn with_task(c: Node, t: TaskNo) -> Node
-    ensures { λ r. ⌜ r ≡ spec.withTask c t ⌝ }
+pub fn with_task(x: Node, t: TaskNo) -> Node
+    ensures { λ r. ⌜ r ≡ spec.withTask x t ⌝ }
 {
-    Node { task: t, ..c }
+    Node { task: t, ..x }
 }
 
-// The records of node `i`, which had the record `c`, after each assignment of PROCEDURE Recovery (i). Behind each stands the statement of Appendix II that it is. The
-// procedure's other statement, CALL STOP, has its place behind the first; `recovered` does it before, as no assignment looks at the activity.
-pub fn recovery_records(i: u8, c: Node) -> [Node; 8]
-    requires { ⌜ (1 ≤ i) × (c .counter ≤ counterEnd) ⌝ }
-    ensures { λ r. ⌜ r ≡ spec.recoveryRecords i c ⌝ }
+// The records of node `i`, which had the record `x`, after each assignment of PROCEDURE Recovery (i). Behind each stands what Appendix II has for it.
+pub fn recovery_records(i: u8, x: Node) -> [Node; 8]
+    requires { ⌜ (1 ≤ i) × (x .counter ≤ counterEnd) ⌝ }
+    ensures { λ r. ⌜ r ≡ spec.recoveryRecords i x ⌝ }
 {
-    let election = with_status(c, Status::Election); // S(i)·s := "Election";
+    let election = with_status(x, Status::Election); // S(i)·s := "Election";
+    // CALL STOP; done before the first assignment, in `recovered`: no assignment reads or sets the activity
     let counter = with_counter(election, election.counter + 1); // S(i)·counter := S(i)·counter + 1;
     let group = with_group(counter, node::group_of(counter.counter, i)); // S(i)·g := i CONCATENATED S(i)·counter;
     let coordinator = with_coordinator(group, i); // S(i)·c := i;
@@ -75,11 +75,12 @@ pub fn recovery_records(i: u8, c: Node) -> [Node; 8]
     ]
 }
 
-pub fn recovered(i: u8, c: Node) -> Node
-    requires { ⌜ (1 ≤ i) × (c .counter ≤ counterEnd) ⌝ }
-    ensures { λ r. ⌜ r ≡ spec.recovered i c ⌝ }
+// What every recovery leaves: the last of the eight records.
+pub fn recovered(i: u8, x: Node) -> Node
+    requires { ⌜ (1 ≤ i) × (x .counter ≤ counterEnd) ⌝ }
+    ensures { λ r. ⌜ r ≡ spec.recovered i x ⌝ }
 {
-    let stopped = node::turned(c, Activity::Idle); // CALL STOP;
+    let stopped = node::turned(x, Activity::Idle); // CALL STOP;
     let records = recovery_records(i, stopped);
     records[7]
 }

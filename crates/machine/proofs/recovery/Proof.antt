@@ -4,7 +4,7 @@ use borrow.Author.Tests.{not-false}
 use mathlib.Core.Path.{_≡_, sym, _∙_}
 use Rattle.machine.proofs.Laws.{sized}
 use Rattle.machine.proofs.Judged.{halted}
-use Rattle.machine.proofs.Recording.{refuses, fits, recorded}
+use Rattle.machine.proofs.Recovering.{refuses, fits, recorded}
 use Rattle.machine.proofs.recovery.Statement.{statement}
 use Rattle.machine.proofs.recovery.Tie as tie
 

@@ -1,5 +1,5 @@
 -- The records of a recovery (02, T-04). What `recovery` comes to, by the outcome of the step: a refusal; or the record of node i, which is then one of the table and fits
--- its words. And the claims `RecordedAlike`.
+-- its words. And the claims `RecoveryAlike`.
 use Prim.Native.Nat.{ℕ, _+_, _-_, _%_, _≤_}
 use native.Mathlib.Omega.{arith}
 use mathlib.Core.Bool.{true, false}
@@ -22,10 +22,10 @@ use Rattle.model.specs.declared.Event.the-variants.{Recover}
 use Rattle.model.specs.declared.Mark.{Mark}
 use Rattle.model.specs.declared.Outcome.{Outcome}
 use Rattle.model.specs.declared.Answer.the-variants.{Accepted}
-use Rattle.machine.specs.declared.RecoveryRecords.{RecoveryRecords}
+use Rattle.machine.specs.declared.RecoveryAnswer.{RecoveryAnswer}
 use Rattle.machine.specs.Parts.{first, numberGrounds, isAccepted}
-use Rattle.machine.specs.Stepped.{Stepped, recordsBeside, Recorded}
-use Rattle.machine.specs.Claims.{RecordedAlike}
+use Rattle.machine.specs.Stepped.{Stepped, recordsBeside, RecoveryAnswered}
+use Rattle.machine.specs.Claims.{RecoveryAlike}
 use Rattle.machine.proofs.Laws.{Sized}
 use Rattle.machine.proofs.Parts.{accepted-zero, refused-some}
 use Rattle.machine.proofs.Places.{small, actor-is, node-read, node-fits}
@@ -33,7 +33,7 @@ use Rattle.machine.proofs.Judged.{seat-is}
 use Rattle.machine.proofs.Runs.{answer-known}
 
 module _ (t : Table) (i : ℕ) (o : Outcome) (x : Stepped t (Recover i) o) where
-  pub refuses : isAccepted (o .answer) ≡ false → (c : Node) → c ≡ startingNode → Recorded t i (record { answer = o .answer; records = replicate 8 c })
+  pub refuses : isAccepted (o .answer) ≡ false → (c : Node) → c ≡ startingNode → RecoveryAnswered t i (record { answer = o .answer; records = replicate 8 c })
   refuses q c e = record { answer = x .answer; records = ap (replicate 8) e ∙ beside (step (view t) (Recover i)) refl }
     where
       beside : (y : Result) → step (view t) (Recover i) ≡ y → replicate 8 startingNode ≡ recordsBeside (view t) i y
@@ -60,7 +60,7 @@ module _ (t : Table) (i : ℕ) (o : Outcome) (x : Stepped t (Recover i) o) where
       pub fits : (1 ≤ i) × (getD (t .nodes) ((i + 15) % 16) d .counter ≤ counterEnd)
       fits = let f = node-fits t z (clear .in-range) (Recover i) numbers _ read in (f .low, f .counter)
 
-      pub recorded : (l : List Node) → l ≡ recoveryRecords i (getD (t .nodes) ((i + 15) % 16) d) → Recorded t i (record { answer = Accepted; records = l })
+      pub recorded : (l : List Node) → l ≡ recoveryRecords i (getD (t .nodes) ((i + 15) % 16) d) → RecoveryAnswered t i (record { answer = Accepted; records = l })
       recorded l e =
           record {
             answer = sym (ap resultNumber (accepts .is));
@@ -69,7 +69,7 @@ module _ (t : Table) (i : ℕ) (o : Outcome) (x : Stepped t (Recover i) o) where
 
 -- ── the claims ──
 
-module _ {t : Table} {i : ℕ} {q : RecoveryRecords} (y : Recorded t i q) where
+module _ {t : Table} {i : ℕ} {q : RecoveryAnswer} (y : RecoveryAnswered t i q) where
   -- where it is accepted, the model accepts recover i
   pub model-accepts : q .answer ≡ Accepted → Accepts (view t) (Recover i)
   model-accepts a = refuses-by-ground .zero-accepts (view t) (Recover i) (sym (y .answer) ∙ ap answerNumber a)
@@ -91,15 +91,15 @@ module _ {t : Table} {i : ℕ} {q : RecoveryRecords} (y : Recorded t i q) where
   last-is x a =
       let m = model-accepts a in
       ap (recordAfter 8) (records-are a)
-      ∙ recovery-rules .last (view t) i (m .state) (m .mark) (m .is)
+      ∙ recovery-rules .last-record (view t) i (m .state) (m .mark) (m .is)
       ∙ sym (ap (λ (v : State). nodeAt v i) (x .table ∙ ap (kept (view t)) (m .is)))
 
-pub recorded-alike : RecordedAlike
-recorded-alike =
+pub recovery-alike : RecoveryAlike
+recovery-alike =
     record {
       answer = λ {t} {i} {r} {q} x y. answer-known (q .answer) (r .answer) (y .answer ∙ sym (x .answer));
       records = records-are;
-      last = λ x y. last-is y x;
+      last-record = λ x y. last-is y x;
       refused-records = none-are;
       same-answer = λ {t} {i} {p} {q} x y. answer-known (p .answer) (q .answer) (x .answer ∙ sym (y .answer));
       same-records = λ x y. x .records ∙ sym (y .records);
