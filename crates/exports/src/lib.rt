@@ -121,8 +121,8 @@ pub extern "C" fn nevraspu_step(table: &[u8], field: &[u8], out: &mut [u8]) -> u
 
 // The records of a node of a table, one after each assignment of its recovery, as document 002 prints it (02, T-04). table is a table in bytes, as for nevraspu_step, and
 // node any number. out needs the room of eight records, 232 bytes. The answer:
-//   0              accepted: out starts with the eight records, in the 29 bytes of a node each; the last is the one that the event recover leaves, and no table ever holds
-//                  the others, which may be out of range
+//   0              accepted: out starts with the eight records, in the 29 bytes of a node each; the last is the one that the event recover leaves in the table, and the
+//                  others may be out of range
 //   1, 7, 9, 12    refused, as the event recover is
 //   255            out is too short; this is looked at first
 // By any answer but 0 out is left as it was, and what is behind eight records in out is in any case.

@@ -1,5 +1,5 @@
 -- What is claimed of the tables that the code returns: they are those of the model's run, and demand 3, whole, holds of them; and of the records of a recovery. The proofs
--- are in proofs/Runs and proofs/Recording.
+-- are in proofs/Runs and proofs/Recovering.
 use Prim.Native.Nat.{ℕ, _≤_}
 use mathlib.Core.Bool.{Bool, true, false}
 use mathlib.Core.Path.{_≡_}

@@ -86,7 +86,7 @@ withTask x t = record {
 }
 
 -- ── the eight records, "one after each assignment", of node i, which had the record x before. Above each stands what Appendix II has for it. The paper's procedure is one
--- critical region, [[ .. ]]: no table holds a record before the last, and some of those are out of range (RecoveryCases.between). ──
+-- critical region, [[ .. ]]: a table gets the last record only, and of the others some are out of range (RecoveryCases.between). ──
 
 -- S(i)·s := "Election";
 abbrev pub afterElection : ℕ → Node → Node
