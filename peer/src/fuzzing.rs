@@ -70,7 +70,7 @@ impl<L: Library> Fuzz<L> {
             for _ in 0..4 {
                 self.field();
             }
-            for _ in 0..24 {
+            for _ in 0..32 {
                 let (table, i) = to_recover(&mut self.numbers);
                 self.recovery(Source::Table, &table, i);
             }

@@ -2,9 +2,8 @@
 use Prim.Native.Nat.{ℕ, _≤_, _<_}
 use native.Mathlib.Omega.{arith}
 use mathlib.Core.Path.{_≡_, refl, sym, _∙_, ap}
-use mathlib.Core.Bool.{Bool, true, false, not}
-use mathlib.Core.List.{List, [], _∷_, _++_}
-use lib.Dec.{eqb, ltb}
+use mathlib.Core.Bool.{false}
+use mathlib.Core.List.{List, _++_}
 use lib.ListN.{length, drop}
 use lib.Seq.{drop-at}
 use borrow.Author.Tests.{not-true, lt-ltb, le-ltb, ltb-true, eq-eqb, ne-eqb}
@@ -20,7 +19,9 @@ use Rattle.model.specs.declared.Node.{Node}
 use Rattle.model.specs.declared.Answer.the-variants.{Accepted}
 use Rattle.model.specs.declared.Event.the-variants.{Recover}
 use Rattle.machine.specs.declared.RecoveryAnswer.{RecoveryAnswer}
-use Rattle.machine.specs.Stepped.{recordsBeside, RecoveryAnswered}
+use Rattle.machine.specs.Stepped.{RecoveryAnswered}
+use Rattle.machine.proofs.Runs.{answer-known}
+use Rattle.machine.proofs.Recovering.{recovery-alike}
 use Rattle.event_list.specs.Format.{lengthOf, cutShort, checked, eventOf, nextAt}
 use Rattle.event_list.specs.declared.Next.the-variants.{Got}
 use Rattle.table_bytes.specs.Bytes.{many, all, nodeOf, decoded, nodeBytes, size, recordsSize, RecordsStored}
@@ -55,11 +56,8 @@ module _ (t : List ℕ) (i : ℕ) (b : List ℕ) where
     refused h = kept-by r number-is h
 
     module _ (z : r ≡ 0) where
-      accepts : Accepts (stateOf t) (Recover i)
-      accepts = refuses-by-ground .zero-accepts (stateOf t) (Recover i) (sym (x .answer) ∙ sym e ∙ z)
-
       records-are : q .records ≡ recoveryRecords i (nodeAt (stateOf t) i)
-      records-are = x .records ∙ ap (recordsBeside (stateOf t) i) (accepts .is)
+      records-are = recovery-alike .records x (answer-known (q .answer) Accepted (sym e ∙ z))
 
       pub accepted : (o : List ℕ) → RecordsStored (q .records) b o → RecoveryExported t i b o r
       unfolding recoveryBytes

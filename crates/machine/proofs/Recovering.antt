@@ -9,7 +9,7 @@ use lib.ListN.{getD, replicate}
 use Rattle.model.specs.Pick.{pick}
 use Rattle.model.specs.Limits.{counterEnd}
 use Rattle.model.specs.Recovery.{recoveryRecords}
-use Rattle.model.specs.State.{State, startingNode, nodeAt, inRange, view}
+use Rattle.model.specs.State.{State, startingNode, nodeAt, view}
 use Rattle.model.specs.Step.{Result, refused, accepted, step, kept}
 use Rattle.model.specs.Answers.{answerNumber, resultNumber}
 use Rattle.model.specs.Claims.{Accepts, recordAfter}

@@ -3,14 +3,14 @@ use Prim.Native.Nat.{ℕ, _+_, _-_}
 use native.Mathlib.Omega.{arith}
 use mathlib.Core.Bool.{Bool, true, false, true≢false}
 use mathlib.Core.Path.{_≡_, refl, sym, _∙_, ap}
-use mathlib.Core.List.{List, _++_, append-nil, map}
-use lib.ListN.{getD, set}
+use mathlib.Core.List.{List, _++_, append-nil}
+use lib.ListN.{set}
 use borrow.Author.Tests.{not-false}
 use Rattle.node_set.specs.NodeSet.{with}
 use Rattle.model.specs.Pick.{pick, by-test}
 use Rattle.model.specs.Node.{isIdle, turned, invited}
 use Rattle.model.specs.Recovery.{recoveryRecords, stopped, recovered}
-use Rattle.model.specs.Procedures.{stays, recovers, inviteNext, merges, handNext, finishes, forwardNext, askedAll, askAt, askAfter}
+use Rattle.model.specs.Procedures.{recovers, handNext, forwardNext, askedAll, askAt, askAfter}
 use Rattle.model.specs.React.{checked, timedOut, ticked, expired, resumed, onAreYouCoordinator, onAreYouThere, onInvitation, onAccept, onReady, onReply, received, react}
 use Rattle.model.specs.State.{State, nodeAt}
 use Rattle.model.specs.Step.{actor, reactionTo, remaining, sent, effect, grounds, accepted, judged, step}

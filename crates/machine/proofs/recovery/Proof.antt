@@ -1,7 +1,7 @@
 -- `recovery` meets its contract: the step's refusal, or the records that `recovery_records` ensures.
 use borrow.Author.Needs.{needs}
 use borrow.Author.Tests.{not-false}
-use mathlib.Core.Path.{_≡_, sym, _∙_}
+use mathlib.Core.Path.{sym, _∙_}
 use Rattle.machine.proofs.Laws.{sized}
 use Rattle.machine.proofs.Judged.{halted}
 use Rattle.machine.proofs.Recovering.{refuses, fits, recorded}
