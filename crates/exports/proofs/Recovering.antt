@@ -76,9 +76,9 @@ unfolding lengthOf cutShort checked eventOf nextAt pick
 recover-read i = refl
 
 -- a table that is not in range is refused by 1
-range-refuses : (s : State) (i : ℕ) → inRange s ≡ false → resultNumber (step s (Recover i)) ≡ 1
+not-in-range : (s : State) (i : ℕ) → inRange s ≡ false → resultNumber (step s (Recover i)) ≡ 1
 unfolding step grounds judged pick
-range-refuses s i h = rw h
+not-in-range s i h = rw h
 
 records-long : (i : ℕ) (c : Node) → length (all nodeBytes (recoveryRecords i c)) ≡ recordsSize
 records-long i c = all-long nodeBytes 29 node-long (recoveryRecords i c)
@@ -88,7 +88,7 @@ unfolding stepNumber
 as-step t i b c h k =
     long t i b h
     ∙ sym (rw (le-ltb (length c) size k, pick-false)
-    (by-test (λ (r : ℕ). r ≡ resultNumber (step (stateOf t) (Recover i))) (λ q. sym (range-refuses (stateOf t) i (not-true _ q))) (λ q. ap (fieldNumber (stateOf t)) (recover-read i))))
+    (by-test (λ (r : ℕ). r ≡ resultNumber (step (stateOf t) (Recover i))) (λ q. sym (not-in-range (stateOf t) i (not-true _ q))) (λ q. ap (fieldNumber (stateOf t)) (recover-read i))))
 
 only-short : (t : List ℕ) (i : ℕ) (b : List ℕ) → recoveryNumber t i b ≡ 255 → length b < recordsSize
 unfolding recoveryNumber

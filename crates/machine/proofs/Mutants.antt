@@ -14,7 +14,7 @@ use borrow.Author.Tests.{not-false, le-leb, eq-eqb, ne-eqb, eqb-true}
 use Rattle.node_set.specs.NodeSet.{has}
 use Rattle.model.specs.Pick.{pick, by-test}
 use Rattle.model.specs.Limits.{queueLimit, counterEnd, callEnd}
-use Rattle.model.specs.Node.{isDown, isNormal, replies}
+use Rattle.model.specs.Node.{isDown, isReorganization, isNormal, replies}
 use Rattle.model.specs.Recovery.{recoveryRecords}
 use Rattle.model.specs.Procedures.{recovers, inviteNext, merges, handNext, finishes, forwardNext, askedAll, askAt, askAfter}
 use Rattle.model.specs.React.{checked, timedOut, ticked, expired, resumed, onAreYouCoordinator, onAreYouThere, onInvitation, onAccept, onReady, onReply, received, react}
@@ -22,7 +22,7 @@ use Rattle.model.specs.Range.{activityInRange, nodeInRange, messageInRange}
 use Rattle.model.specs.State.{State, startingNode, start, nodeAt, waits, oldest, withoutOldest, every, inRange, firstOf, view, tableOf}
 use Rattle.model.specs.Step.{actor, reactionTo, remaining, sent, effect, forms, isCalling, isSending, grounds, judged, Result, refused, accepted, step, kept, after, runFrom}
 use Rattle.model.specs.Answers.{answerNumber, resultNumber}
-use Rattle.model.specs.Claims.{isActive, Lacks, Sends, whomNow, whomStill, Below, Picked, Holds, recordAfter}
+use Rattle.model.specs.Claims.{isActive, Lacks, Sends, whomNow, whomStill, Below, Picked, Holds, recoversAtExpire, recordAfter}
 use Rattle.model.proofs.Judged.{Clear, by-step, clear-accepts, accepted-is}
 use Rattle.model.proofs.Local.{both-right}
 use Rattle.model.proofs.Fields.{in-range-size, own-record}
@@ -31,6 +31,7 @@ use Rattle.model.proofs.Cases.{invited-twice}
 use Rattle.model.proofs.CallOrder.{call-order}
 use Rattle.model.proofs.Invitation.{kind-three}
 use Rattle.model.proofs.InvitationRules.{acts-not-normal, invitation-rules}
+use Rattle.model.proofs.Recovery.{expire-recovers}
 use Rattle.model.specs.Cases.{invitedOnce}
 use Rattle.model.specs.declared.Status.the-variants.{Election}
 use Rattle.model.specs.declared.Activity.{Activity}
@@ -49,7 +50,7 @@ use Rattle.model.specs.declared.Outcome.{Outcome}
 use Rattle.model.specs.declared.Answer.the-variants.{Accepted}
 use Rattle.machine.specs.declared.RecoveryAnswer.{RecoveryAnswer}
 use Rattle.machine.specs.Stepped.{Stepped, startingTable, RecoveryAnswered}
-use Rattle.machine.specs.Mutants.{mergingTable, handingTable, invitedTable, askingTable, collectingTable, invites, recoversAtExpire, Moves, NoMutant, NoWrongTurning, NoLowerFirst, NoJoiningAgain, NoOtherRecovery}
+use Rattle.machine.specs.Mutants.{mergingTable, handingTable, invitedTable, askingTable, collectingTable, invites, Moves, NoMutant, NoWrongTurning, NoLowerFirst, NoJoiningAgain, NoOtherRecovery}
 use Rattle.machine.proofs.Laws.{start-is}
 use Rattle.machine.proofs.Runs.{run-nodes, start-node, accepted-alike, code-runs, code-fixes, folded-reached}
 use Rattle.machine.proofs.Recovering.{model-accepts, code-accepts, recovery-alike}
@@ -95,18 +96,6 @@ crash-keeps : (s : State) (i : ℕ) → nodeAt (after s (Crash i)) i .counter �
 unfolding effect reactionTo react
 crash-keeps s i =
     by-step (λ (q : Result). nodeAt (kept s q) i .counter ≡ nodeAt s i .counter) s (Crash i) (λ x. refl) (λ c. stored s i _ (λ (d : Node). d .counter) refl)
-
-expire-recovers : (n i : ℕ) (c : Node) (a : Activity) → recoversAtExpire a ≡ true → expired n i c a ≡ recovers i c
-unfolding expired
-expire-recovers n i c Idle h = absurd (true≢false (sym h))
-expire-recovers n i c (Asking j f) h = absurd (true≢false (sym h))
-expire-recovers n i c (Waiting k f) h = absurd (true≢false (sym h))
-expire-recovers n i c (Inviting f o w) h = absurd (true≢false (sym h))
-expire-recovers n i c Collecting h = absurd (true≢false (sym h))
-expire-recovers n i c (Handing r w) h = refl
-expire-recovers n i c Contacting h = refl
-expire-recovers n i c (Forwarding r w a k) h = absurd (true≢false (sym h))
-expire-recovers n i c (Accepting a k) h = refl
 
 expire-reaction : (s : State) (i : ℕ) → recoversAtExpire (nodeAt s i .activity) ≡ true → reactionTo s (Expire i) ≡ recovers i (nodeAt s i)
 unfolding reactionTo react
@@ -409,6 +398,7 @@ no-other-recovery =
       group-before = λ y a h. h (of-records (λ (l : List Node). recordAfter 3 l .group .number) y a);
       leads-early = λ y a h. h (of-records (λ (l : List Node). recordAfter 3 l .coordinator) y a);
       empties-early = λ y a h. h (of-records (λ (l : List Node). recordAfter 4 l .members) y a);
+      reorganizes-early = λ y a e. true≢false (ap isReorganization (sym e ∙ of-records (λ (l : List Node). recordAfter 5 l .status) y a));
       task-early = λ y a h. h (of-records (λ (l : List Node). recordAfter 6 l .task) y a);
       no-reorganization = λ y a h. h (of-records (λ (l : List Node). recordAfter 6 l .status) y a);
       normal-early = λ y a e. true≢false (ap isNormal (sym e ∙ of-records (λ (l : List Node). recordAfter 7 l .status) y a));

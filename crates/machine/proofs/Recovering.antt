@@ -1,6 +1,6 @@
 -- The records of a recovery (02, T-04). What `recovery` comes to, by the outcome of the step: a refusal; or the record of node i, which is then one of the table and fits
 -- its words. And the claims `RecoveryAlike`.
-use Prim.Native.Nat.{ℕ, _+_, _-_, _%_, _≤_}
+use Prim.Native.Nat.{ℕ, _+_, _%_, _≤_}
 use native.Mathlib.Omega.{arith}
 use mathlib.Core.Bool.{true, false}
 use mathlib.Core.Path.{_≡_, refl, sym, _∙_, ap}

@@ -105,8 +105,8 @@ pub record CodeFixes (chain : Chain) (n : ℕ) : Type 0 where
 
 -- ── 02, T-04: recovery as the paper prints it ──
 
--- Of any answer q that meets `RecoveryAnswered`, what `recovery` promises for the table t and node i, and any outcome r that meets `Stepped` for recover i on the same table:
--- the two agree.
+-- Of any answer q that meets `RecoveryAnswered`, what `recovery` promises for the table t and node i: it agrees with any outcome r that meets `Stepped` for recover i on the
+-- same table, and nothing of it is free.
 pub record RecoveryAlike : Type 0 where
   -- "is refused as it is"
   pub answer : {t : Table} {i : ℕ} {r : Outcome} {q : RecoveryAnswer} → Stepped t (Recover i) r → RecoveryAnswered t i q → q .answer ≡ r .answer

@@ -15,7 +15,7 @@ use Rattle.model.specs.Range.{isNode}
 use Rattle.model.specs.State.{State, nodeAt, waits, oldest, inRange, view, tableOf}
 use Rattle.model.specs.Step.{actor, reactionTo, remaining}
 use Rattle.model.specs.Answers.{answerNumber}
-use Rattle.model.specs.Claims.{isActive, Lacks, whomNow, whomStill, whomAside, InvitationReaches, Owns, Holds, withPlainReply, recordAfter}
+use Rattle.model.specs.Claims.{isActive, Lacks, whomNow, whomStill, whomAside, InvitationReaches, Owns, Holds, withPlainReply, recoversAtExpire, recordAfter}
 use Rattle.model.specs.Cases.{setOf, none, node, invitedOnce}
 use Rattle.model.specs.declared.Mark.the-variants.{Merges}
 use Rattle.model.specs.declared.Status.the-variants.{Election, Reorganization, Normal}
@@ -94,18 +94,6 @@ invites (Handing rest now) j = false
 invites Contacting j = false
 invites (Forwarding rest now caller call) j = false
 invites (Accepting caller call) j = false
-
--- "Handing, accepting, contacting: it recovers and nothing further of the procedure runs": whether an expire ends in a recovery
-abbrev pub recoversAtExpire : Activity → Bool
-recoversAtExpire Idle = false
-recoversAtExpire (Asking asked found) = false
-recoversAtExpire (Waiting ticks found) = false
-recoversAtExpire (Inviting found former now) = false
-recoversAtExpire Collecting = false
-recoversAtExpire (Handing rest now) = true
-recoversAtExpire Contacting = true
-recoversAtExpire (Forwarding rest now caller call) = false
-recoversAtExpire (Accepting caller call) = true
 
 -- Where an accepted event changes nothing: "check i: if Normal and its own coordinator, it asks .. Otherwise, or with n = 1, nothing changes", "timeout i: if its
 -- own coordinator, nothing changes".
@@ -285,7 +273,8 @@ pub record NoOtherRecovery : Type 0 where
       → (recordAfter 3 (q .records) .coordinator ≡ nodeAt (view t) i .coordinator → ⊥) → ⊥
   pub empties-early : {t : Table} {i : ℕ} {q : RecoveryAnswer} → RecoveryAnswered t i q → q .answer ≡ Accepted
       → (recordAfter 4 (q .records) .members ≡ nodeAt (view t) i .members → ⊥) → ⊥
-  -- one that takes the task before Reorganization, passes that over, or is Normal without the task
+  -- one that turns to Reorganization before its members are emptied, takes the task before it, passes it over, or is Normal without the task
+  pub reorganizes-early : {t : Table} {i : ℕ} {q : RecoveryAnswer} → RecoveryAnswered t i q → q .answer ≡ Accepted → recordAfter 5 (q .records) .status ≡ Reorganization → ⊥
   pub task-early : {t : Table} {i : ℕ} {q : RecoveryAnswer} → RecoveryAnswered t i q → q .answer ≡ Accepted
       → (recordAfter 6 (q .records) .task ≡ nodeAt (view t) i .task → ⊥) → ⊥
   pub no-reorganization : {t : Table} {i : ℕ} {q : RecoveryAnswer} → RecoveryAnswered t i q → q .answer ≡ Accepted

@@ -5,16 +5,16 @@ use mathlib.Core.Bool.{Bool, true, false, true≢false}
 use mathlib.Core.Path.{_≡_, refl, sym, _∙_, ap}
 use mathlib.Core.List.{List, _++_, append-nil}
 use lib.ListN.{set}
-use borrow.Author.Tests.{not-false}
+use borrow.Author.Tests.{not-false, eq-eqb}
 use Rattle.node_set.specs.NodeSet.{with}
 use Rattle.model.specs.Pick.{pick, by-test}
 use Rattle.model.specs.Node.{isIdle, turned, invited}
 use Rattle.model.specs.Recovery.{recoveryRecords, stopped, recovered}
 use Rattle.model.specs.Procedures.{recovers, handNext, forwardNext, askedAll, askAt, askAfter}
 use Rattle.model.specs.React.{checked, timedOut, ticked, expired, resumed, onAreYouCoordinator, onAreYouThere, onInvitation, onAccept, onReady, onReply, received, react}
-use Rattle.model.specs.State.{State, nodeAt}
+use Rattle.model.specs.State.{State, nodeAt, oldest}
 use Rattle.model.specs.Step.{actor, reactionTo, remaining, sent, effect, grounds, accepted, judged, step}
-use Rattle.model.specs.Claims.{recoveryGrounds, recordAfter, RecoveryRules}
+use Rattle.model.specs.Claims.{recoveryGrounds, recoversAtExpire, recordAfter, RecoveryRules}
 use Rattle.model.proofs.Judged.{Clear, accepted-is, by-reaction}
 use Rattle.model.proofs.Fields.{node-is, node-facts, in-range-node, own-record}
 use Rattle.model.proofs.Origin.{inviteNext-mark, merges-mark, finish-mark}
@@ -29,7 +29,7 @@ use Rattle.model.specs.declared.Reaction.{Reaction}
 use Rattle.model.specs.declared.Input.{Input}
 use Rattle.model.specs.declared.Input.the-variants as Input
 use Rattle.model.specs.declared.Event.{Event}
-use Rattle.model.specs.declared.Event.the-variants.{Recover}
+use Rattle.model.specs.declared.Event.the-variants.{Recover, Expire, Deliver}
 
 -- ── an idle node is stopped already ──
 idle-stopped : (c : Node) (a : Activity) → c .activity ≡ a → isIdle a ≡ true → stopped c ≡ c
@@ -187,15 +187,40 @@ module _ (s : State) (e : Event) (u : State) (q : step s e ≡ accepted u Recove
   every-recovery =
       sym (ap (λ (v : State). nodeAt v (actor e)) (accepted-is s e u Recovers q .state) ∙ own-record s e clear ∙ ap (λ (r : Reaction). r .node) reaction-is)
 
+-- ── where a node recovers ──
+
+pub expire-recovers : (n i : ℕ) (c : Node) (a : Activity) → recoversAtExpire a ≡ true → expired n i c a ≡ recovers i c
+unfolding expired
+expire-recovers n i c Idle h = absurd (true≢false (sym h))
+expire-recovers n i c (Asking j f) h = absurd (true≢false (sym h))
+expire-recovers n i c (Waiting k f) h = absurd (true≢false (sym h))
+expire-recovers n i c (Inviting f o w) h = absurd (true≢false (sym h))
+expire-recovers n i c Collecting h = absurd (true≢false (sym h))
+expire-recovers n i c (Handing r w) h = refl
+expire-recovers n i c Contacting h = refl
+expire-recovers n i c (Forwarding r w a k) h = absurd (true≢false (sym h))
+expire-recovers n i c (Accepting a k) h = refl
+
+at-expire : (s : State) (i : ℕ) (u : State) (k : Mark) → recoversAtExpire (nodeAt s i .activity) ≡ true → step s (Expire i) ≡ accepted u k → k ≡ Recovers
+unfolding reactionTo react
+at-expire s i u k h q =
+    accepted-is s (Expire i) u k q .mark ∙ ap (λ (r : Reaction). r .mark) (expire-recovers (s .n) i (nodeAt s i) (nodeAt s i .activity) h)
+
+at-no : (s : State) (a b : ℕ) (u : State) (k : Mark) → nodeAt s b .activity ≡ Contacting → oldest a b (s .queue) .kind ≡ 6
+    → oldest a b (s .queue) .call .number ≡ nodeAt s b .last .number → oldest a b (s .queue) .yes ≡ false → step s (Deliver a b) ≡ accepted u k → k ≡ Recovers
+unfolding reactionTo react received onReply resumed pick
+at-no s a b u k h g c y q = accepted-is s (Deliver a b) u k q .mark ∙ rw (g, c, eq-eqb (nodeAt s b .last .number) (nodeAt s b .last .number) refl, h, y)
+
 pub recovery-rules : RecoveryRules
 recovery-rules =
     record {
       written-out = λ i x. refl;
       stop-alone = λ x. refl;
       as-printed = λ i x. refl;
-      stop-anywhere = λ i x. refl;
       same-record = λ i x. refl;
       same-table = same-table;
+      at-expire = at-expire;
+      at-no = at-no;
       refused-by = refused-by;
       last-record = last-record;
       every-recovery = every-recovery;

@@ -3,7 +3,7 @@ use Prim.Native.Nat.{ℕ, _+_, _-_, _^_, _≤_, _<_}
 use mathlib.Core.Bool.{Bool, true, false, not}
 use mathlib.Core.Path.{_≡_}
 use mathlib.Core.Logic.{_⊎_}
-use mathlib.Core.List.{List, [], _∷_, _++_, map}
+use mathlib.Core.List.{List, [], _∷_, _++_}
 use lib.Dec.{eqb}
 use lib.ListN.{length, getD, set}
 use Rattle.node_set.specs.NodeSet.{has, without}
@@ -430,6 +430,18 @@ recoveryGrounds s i =
     ∷ ground 12 (eqb (nodeAt s i .counter) counterEnd)
     ∷ []
 
+-- "Handing, accepting, contacting: it recovers and nothing further of the procedure runs": whether an expire ends in a recovery
+abbrev pub recoversAtExpire : Activity → Bool
+recoversAtExpire Idle = false
+recoversAtExpire (Asking asked found) = false
+recoversAtExpire (Waiting ticks found) = false
+recoversAtExpire (Inviting found former now) = false
+recoversAtExpire Collecting = false
+recoversAtExpire (Handing rest now) = true
+recoversAtExpire Contacting = true
+recoversAtExpire (Forwarding rest now caller call) = false
+recoversAtExpire (Accepting caller call) = true
+
 -- the k-th of a recovery's records, counted from 1
 abbrev pub recordAfter : ℕ → List Node → Node
 recordAfter k l = getD l (k - 1) startingNode
@@ -449,7 +461,7 @@ pub record RecoveryRules : Type 0 where
   -- "CALL STOP" sets the activity alone
   pub stop-alone : (x : Node) → stopped x
       ≡ record { status = x .status; counter = x .counter; group = x .group; coordinator = x .coordinator; task = x .task; members = x .members; last = x .last; activity = Idle }
-  -- the recovery with all nine statements in the paper's places: CALL STOP is the second
+  -- the recovery with all nine statements of the paper in their places, from the inside out: Election, CALL STOP, counter and so on; the values are x's
   pub as-printed : (i : ℕ) (x : Node) → recovered i x
       ≡ withStatus
       (withTask
@@ -458,15 +470,17 @@ pub record RecoveryRules : Type 0 where
       Reorganization)
       (soloTask i))
       Normal
-  -- and wherever CALL STOP stands: the records of a node that is stopped before the first are those of the node, each stopped
-  pub stop-anywhere : (i : ℕ) (x : Node) → recoveryRecords i (stopped x) ≡ map stopped (recoveryRecords i x)
   -- the record that a recovery leaves, in 01's words: "counter plus one, group from it, coordinator i, members empty, task i, Normal, idle". So it was defined before T-04.
   pub same-record : (i : ℕ) (x : Node) → recovered i x
       ≡ record { status = Normal; counter = x .counter + 1; group = recoveredGroup i x; coordinator = i; task = soloTask i; members = 0; last = x .last; activity = Idle }
-  -- "The table after it is the same as before.": wherever a node recovers, by recover i, where its call expires or by a no, its record is set to that one, nothing is sent,
-  -- and all else stays; the message of a delivery is out
+  -- "The table after it is the same as before.": after every event in which a node recovers its record is that one, nothing is sent, and all else stays; the message of a
+  -- delivery is out
   pub same-table : (s : State) (e : Event) (u : State) → step s e ≡ accepted u Recovers
       → u ≡ record { n = s .n; nodes = set (s .nodes) (actor e - 1) (recovered (actor e) (nodeAt s (actor e))); queue = remaining s e }
+  -- and it recovers where it did: by recover i (`refused-by`), when the call of a handing, accepting or contacting node expires, and by a no to a contacting one
+  pub at-expire : (s : State) (i : ℕ) (u : State) (k : Mark) → recoversAtExpire (nodeAt s i .activity) ≡ true → step s (Expire i) ≡ accepted u k → k ≡ Recovers
+  pub at-no : (s : State) (a b : ℕ) (u : State) (k : Mark) → nodeAt s b .activity ≡ Contacting → oldest a b (s .queue) .kind ≡ 6
+      → oldest a b (s .queue) .call .number ≡ nodeAt s b .last .number → oldest a b (s .queue) .yes ≡ false → step s (Deliver a b) ≡ accepted u k → k ≡ Recovers
   -- "is refused as it is": recover i is refused by 1, 7, 9 and 12, in this order, and by nothing else
   pub refused-by : (s : State) (i : ℕ) → step s (Recover i) ≡ judged (accepted (effect s (Recover i)) Recovers) (recoveryGrounds s i)
   -- "and the last is the one recover i leaves": of the record in the table, as it stands

@@ -85,8 +85,10 @@ withTask x t = record {
   activity = x .activity;
 }
 
--- ── the eight records, "one after each assignment", of node i, which had the record x before. Above each stands what Appendix II has for it. The paper's procedure is one
--- critical region, [[ .. ]]: a table gets the last record only, and of the others some are out of range (RecoveryCases.between). ──
+-- ── the eight records, "one after each assignment" ──
+
+-- Of node i, which had the record x before. Above each stands what Appendix II has for it. The paper's procedure is one critical region, [[ .. ]]: a table gets the last
+-- record only, and of the others some are out of range (RecoveryCases.between).
 
 -- S(i)·s := "Election";
 abbrev pub afterElection : ℕ → Node → Node
@@ -137,7 +139,7 @@ recoveryRecords i x =
 -- ── the recovery ──
 
 -- CALL STOP; what the node does stops. The paper has it behind the first assignment; no assignment reads or sets the activity, so it may as well stand before it
--- (RecoveryRules.as-printed, stop-anywhere). It is none of 02's eight: a Down node of a table in range is idle before it.
+-- (RecoveryRules.as-printed). It is none of 02's eight: a Down node of a table in range is idle before it.
 abbrev pub stopped : Node → Node
 stopped x = turned x Idle
 

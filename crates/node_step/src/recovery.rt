@@ -10,25 +10,25 @@ use model::Node;
 use model::Status;
 use model::TaskNo;
 
-pub fn with_status(x: Node, s: Status) -> Node
+fn with_status(x: Node, s: Status) -> Node
     ensures { λ r. ⌜ r ≡ spec.withStatus x s ⌝ }
 {
     Node { status: s, ..x }
 }
 
-pub fn with_counter(x: Node, k: u32) -> Node
+fn with_counter(x: Node, k: u32) -> Node
     ensures { λ r. ⌜ r ≡ spec.withCounter x k ⌝ }
 {
     Node { counter: k, ..x }
 }
 
-pub fn with_group(x: Node, g: GroupNo) -> Node
+fn with_group(x: Node, g: GroupNo) -> Node
     ensures { λ r. ⌜ r ≡ spec.withGroup x g ⌝ }
 {
     Node { group: g, ..x }
 }
 
-pub fn with_coordinator(x: Node, j: u8) -> Node
+fn with_coordinator(x: Node, j: u8) -> Node
     ensures { λ r. ⌜ r ≡ spec.withCoordinator x j ⌝ }
 {
     Node {
@@ -37,13 +37,13 @@ pub fn with_coordinator(x: Node, j: u8) -> Node
     }
 }
 
-pub fn with_members(x: Node, m: u16) -> Node
+fn with_members(x: Node, m: u16) -> Node
     ensures { λ r. ⌜ r ≡ spec.withMembers x m ⌝ }
 {
     Node { members: m, ..x }
 }
 
-pub fn with_task(x: Node, t: TaskNo) -> Node
+fn with_task(x: Node, t: TaskNo) -> Node
     ensures { λ r. ⌜ r ≡ spec.withTask x t ⌝ }
 {
     Node { task: t, ..x }

@@ -80,14 +80,14 @@ module _ {A : Type 0} (R : RattleType) (h : A → R .Denot) (P : A → Type 0) (
   each-fits (x ∷ xs) [] s = absurd s
   each-fits (x ∷ xs) (u ∷ us) s = (fits x (u ∷ []) (s .0), each-fits xs us (s .1))
 
-map-same : {A : Type 0} (xs : List A) → map (λ x. x) xs ≡ xs
-map-same [] = refl
-map-same {A} (x ∷ xs) = ap (λ (r : List A). x ∷ r) (map-same xs)
+map-identity : {A : Type 0} (xs : List A) → map (λ x. x) xs ≡ xs
+map-identity [] = refl
+map-identity {A} (x ∷ xs) = ap (λ (r : List A). x ∷ r) (map-identity xs)
 
 -- records owned as an array
 pub records-fit : (k : ℕ) (xs : List Node) {vs : List Val} → Is (Array (struct.row node.the-type) k) xs vs → (length xs ≡ k) × Each NodeFits xs
 records-fit k xs g =
-    let own = subst (λ (l : List Node). shadow (each Node (struct.row node.the-type .own) l (g .0))) (sym (map-same xs)) (g .1 .1) in
+    let own = subst (λ (l : List Node). shadow (each Node (struct.row node.the-type .own) l (g .0))) (sym (map-identity xs)) (g .1 .1) in
     (g .1 .0 .1, each-fits (struct.row node.the-type) (λ c. c) NodeFits (λ c vs f. node-fits c {vs = vs} f) xs (g .0) own)
 
 pub table-fits : (t : Table) {vs : List Val} → Is (struct.row table.the-type) t vs → Fits t
