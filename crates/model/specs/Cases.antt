@@ -732,7 +732,7 @@ pub record RecoveryCases : Type 0 where
   pub number-counter : step (record { n = 1; nodes = node Down 1048575 0 0 0 none 0 Idle ∷ []; queue = [] }) (Recover 0) ≡ refused 7
   pub number-zero : step (start 2) (Recover 0) ≡ refused 7
   pub number-above : step (start 2) (Recover 3) ≡ refused 7
-  -- of the records before the last some are out of range: while the group is new and another is the coordinator, and at the first recovery (K2) while there is no group
+  -- of the records before the last some are out of range: while the group is new and the coordinator is not, and at the first recovery (K2) while there is no group
   pub between : map (nodeInRange 3 2) (recoveryRecords 2 downFollower) ≡ true ∷ true ∷ false ∷ true ∷ true ∷ true ∷ true ∷ true ∷ []
   pub between-k2 : map (nodeInRange 2 1) (recoveryRecords 1 (nodeAt (start 2) 1)) ≡ false ∷ false ∷ false ∷ true ∷ true ∷ true ∷ true ∷ true ∷ []
   -- a recovery inside another procedure: contacting stops, and the record after each assignment is that of an idle node

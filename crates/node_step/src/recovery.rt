@@ -1,6 +1,6 @@
 // Recovery as document 002 prints it, in Appendix II: the definitions of model's specs/Recovery as functions.
 ghost use mathlib.Core.Path.{_≡_};
-ghost use Prim.Native.Nat.{_+_, _≤_};
+ghost use Prim.Native.Nat.{_≤_};
 ghost use Rattle.model.specs.Limits.{counterEnd};
 ghost use Rattle.model.specs.Recovery as spec;
 use crate::node;
@@ -49,7 +49,8 @@ fn with_task(x: Node, t: TaskNo) -> Node
     Node { task: t, ..x }
 }
 
-// The records of node `i`, which had the record `x`, after each assignment of PROCEDURE Recovery (i). Behind each stands what Appendix II has for it.
+// The records of node `i`, which had the record `x`, after each assignment of PROCEDURE Recovery (i). Behind each stands what Appendix II has for it: s is the status, g the
+// group, c the coordinator, Up the members, d the task.
 pub fn recovery_records(i: u8, x: Node) -> [Node; 8]
     requires { ⌜ (1 ≤ i) × (x .counter ≤ counterEnd) ⌝ }
     ensures { λ r. ⌜ r ≡ spec.recoveryRecords i x ⌝ }
