@@ -1,4 +1,4 @@
-// The machine over a table, by value: the starting table, and the step for any table and any event.
+// The machine over a table, by value: the starting table, the step for any table and any event, and the records of a recovery.
 mod grounds;
 mod queue;
 mod range;

@@ -1,4 +1,4 @@
--- One node (01: cabinet): tests of its fields, the records that the procedures make of it, and the messages that it sends.
+-- One node (01: cabinet): tests of its fields, the records that the procedures make of it (a recovery's are in Recovery), and the messages that it sends.
 use Prim.Native.Nat.{ℕ, _+_, _-_, _*_, _/_, _%_}
 use mathlib.Core.Bool.{Bool, true, false}
 use Rattle.node_set.specs.NodeSet.{with}

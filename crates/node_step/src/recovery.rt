@@ -81,7 +81,7 @@ pub fn recovered(i: u8, x: Node) -> Node
     requires { ⌜ (1 ≤ i) × (x .counter ≤ counterEnd) ⌝ }
     ensures { λ r. ⌜ r ≡ spec.recovered i x ⌝ }
 {
-    let stopped = node::turned(x, Activity::Idle); // CALL STOP;
+    let stopped = node::turned(x, Activity::Idle); // CALL STOP; 01: "nothing further of the procedure runs"
     let records = recovery_records(i, stopped);
     records[7]
 }
