@@ -300,9 +300,7 @@ pub fn field_difference(
     noise: u64,
 ) -> Option<String> {
     let mut numbers = Numbers::new(noise);
-    let mut bytes = [0; TABLE_BYTES];
-    table_to_bytes(table, &mut bytes);
-    fill_unused(&mut bytes, || numbers.byte());
+    let bytes = filled_bytes(table, &mut numbers);
     let mut lent = Lent::new(room, &mut numbers);
     let answer = library.step(&bytes, field, &mut lent.now);
     let mut own = table.clone();
@@ -320,6 +318,14 @@ pub fn field_difference(
     ))
 }
 
+/// A table in bytes, with random ones in all places that are no part of it.
+fn filled_bytes(table: &Table, numbers: &mut Numbers) -> TableBytes {
+    let mut bytes = [0; TABLE_BYTES];
+    table_to_bytes(table, &mut bytes);
+    fill_unused(&mut bytes, || numbers.byte());
+    bytes
+}
+
 /// The records of the recovery of node i, on any table, into a buffer of so many bytes. The noise is a seed
 /// for the random bytes that stand in all places that are no part of the table. The call is counted in the
 /// corners, with the step recover on the same table.
@@ -332,9 +338,7 @@ pub fn recovery_difference(
     corners: Option<(&mut Corners, Source)>,
 ) -> Option<String> {
     let mut numbers = Numbers::new(noise);
-    let mut bytes = [0; TABLE_BYTES];
-    table_to_bytes(table, &mut bytes);
-    fill_unused(&mut bytes, || numbers.byte());
+    let bytes = filled_bytes(table, &mut numbers);
     let mut lent = Lent::new(room, &mut numbers);
     let answer = library.recovery(&bytes, i, &mut lent.now);
     let mut own = vec![0; room];

@@ -1,6 +1,9 @@
 //! What the library's functions answer and what they leave in the buffer, at every edge: this program's
 //! own machine behind the boundary, and the proved library where it is linked.
 
+mod other_forms;
+
+use other_forms::in_another_form;
 use peer::compare::{field_difference, printed_difference, walk_difference, Lent};
 use peer::drive::any_event;
 use peer::list::{first_event, write_event, write_list};
@@ -168,19 +171,7 @@ fn tables_of_any_length(library: &impl Library) {
     for k in 0..40_000 {
         let mut bytes = [0; TABLE_BYTES];
         table_to_bytes(&in_range(&mut numbers), &mut bytes);
-        let mut given = bytes.to_vec();
-        if k % 2 == 0 {
-            given.truncate(numbers.place(TABLE_BYTES + 1));
-            bytes[given.len()..].fill(0);
-        } else {
-            given.resize(TABLE_BYTES + numbers.place(50), numbers.byte());
-        }
-        if k % 3 == 0 {
-            for status in (1..465.min(given.len())).step_by(29) {
-                given[status] += 4;
-                given.get_mut(status + 18).into_iter().for_each(|activity| *activity += 9);
-            }
-        }
+        let given = in_another_form(k, &mut bytes, &mut numbers);
         let table = table_from_bytes(&bytes);
         let mut field = Vec::new();
         let event = any_event(table.n, &mut numbers);

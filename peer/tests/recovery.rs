@@ -3,6 +3,9 @@
 //! purpose. The boundary is that of this program's own machine, and of the proved library where it is
 //! linked.
 
+mod other_forms;
+
+use other_forms::in_another_form;
 use peer::compare::{recovery_difference, tell_recovery};
 use peer::fuzzing::Fuzz;
 use peer::list::write_event;
@@ -314,19 +317,7 @@ fn tables_in_other_forms(library: &impl Library) {
     for k in 0..20_000 {
         let (table, i) = to_recover(&mut numbers);
         let mut bytes = bytes_of(&table);
-        let mut given = bytes.to_vec();
-        if k % 2 == 0 {
-            given.truncate(numbers.place(TABLE_BYTES + 1));
-            bytes[given.len()..].fill(0);
-        } else {
-            given.resize(TABLE_BYTES + numbers.place(50), numbers.byte());
-        }
-        if k % 3 == 0 {
-            for status in (1..465.min(given.len())).step_by(29) {
-                given[status] += 4;
-                given.get_mut(status + 18).into_iter().for_each(|activity| *activity += 9);
-            }
-        }
+        let given = in_another_form(k, &mut bytes, &mut numbers);
         let (mut out, mut expected) = ([7; 240], [7; 240]);
         let answer = library.recovery(&given, i, &mut out);
         let records = recovery(&table_from_bytes(&bytes), i);

@@ -1,0 +1,23 @@
+//! A table in bytes in another form that is read as the same, for the tests of the boundary.
+
+use peer::numbers::Numbers;
+use peer::proved::{TableBytes, TABLE_BYTES};
+
+/// The k-th form: cut short or with bytes behind it, and some with other remainders of status and activity.
+/// What is cut off is cleared in the bytes themselves too, as it is read as zeros.
+pub fn in_another_form(k: u32, bytes: &mut TableBytes, numbers: &mut Numbers) -> Vec<u8> {
+    let mut given = bytes.to_vec();
+    if k.is_multiple_of(2) {
+        given.truncate(numbers.place(TABLE_BYTES + 1));
+        bytes[given.len()..].fill(0);
+    } else {
+        given.resize(TABLE_BYTES + numbers.place(50), numbers.byte());
+    }
+    if k.is_multiple_of(3) {
+        for status in (1..465.min(given.len())).step_by(29) {
+            given[status] += 4;
+            given.get_mut(status + 18).into_iter().for_each(|activity| *activity += 9);
+        }
+    }
+    given
+}
