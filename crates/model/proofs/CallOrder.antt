@@ -370,7 +370,7 @@ by-onward : (P : Node → Type 0) (s : State) (e : Event) → ((d : Node) → d 
     → (Goes (nodeAt s (actor e)) (nodeAt s (actor e) .activity) (reactionTo s e) → P (reactionTo s e .node)) → P (nodeAt (after s e) (actor e))
 by-onward P s e f g =
     by-step (λ (r : Result). P (nodeAt (kept s r) (actor e))) s e (λ _. f _ refl)
-    (λ c. subst P (sym (own-record s e c)) (by (accepted-onward s e c)))
+    (λ c _. subst P (sym (own-record s e c)) (by (accepted-onward s e c)))
   where
     by : Onward (nodeAt s (actor e)) (nodeAt s (actor e) .activity) (reactionTo s e) → P (reactionTo s e .node)
     by (same q) = f _ q
@@ -411,7 +411,7 @@ ordered : (s : State) (e : Event) → ((j : ℕ) → Ordered (getD (s .nodes) j 
 unfolding effect
 ordered s e f =
     by-step (λ r. (j : ℕ) → Ordered (getD (kept s r .nodes) j startingNode)) s e (λ _. f)
-    (λ c. stored (s .nodes) (actor e - 1) (reactionTo s e .node) f (now (accepted-onward s e c)))
+    (λ c _. stored (s .nodes) (actor e - 1) (reactionTo s e .node) f (now (accepted-onward s e c)))
   where
     now : Onward (nodeAt s (actor e)) (nodeAt s (actor e) .activity) (reactionTo s e) → Ordered (reactionTo s e .node)
     now (same q) = subst (λ (a : Activity). Below (whomStill a) (whomNow a)) (sym q) (f (actor e - 1))

@@ -1,190 +1,265 @@
 -- The named cases, the wrong turnings, the further cases, those of T-03 and T-04 and the ends of what is in range, computed over the definitions.
-use mathlib.Core.Bool.{true}
-use mathlib.Core.Path.{_≡_, refl, _∙_, ap}
-use mathlib.Core.List.{List, [], _∷_, _++_}
+use Prim.Native.Nat.{ℕ, _+_, _≤_, _<_}
+use native.Mathlib.Omega.{arith}
+use mathlib.Core.Bool.{true, false}
+use mathlib.Core.Path.{_≡_, refl, sym, _∙_, ap, subst}
+use mathlib.Core.List.{List, [], _∷_, _++_, map}
+use lib.ListN.{length}
 use lib.Count.{onesIn, ones, leadingZeros}
 use lib.Bits.{bitAnd, bitOr}
-use Rattle.model.specs.Pick.{pick}
+use Rattle.model.specs.Pick.{pick, pick-true}
+use Rattle.model.specs.Counts.{total}
 use Rattle.model.specs.Node.{calls, replies}
+use Rattle.model.specs.Recovery.{recoveryRecords}
 use Rattle.model.specs.Procedures.{inviteNext, merges, handNext, finishes, forwardNext, askedAll, askAt, askAfter}
 use Rattle.model.specs.React.{checked, timedOut, ticked, expired, resumed, onAreYouCoordinator, onAreYouThere, onInvitation, onAccept, onReady, onReply, received, react}
-use Rattle.model.specs.Range.{activityInRange, nodeInRange, messageInRange}
-use Rattle.model.specs.State.{State, start, waits, oldest, withoutOldest, every, inRange}
-use Rattle.model.specs.Step.{reactionTo, remaining, effect, wrongNumber, wrongTask, wrongStatus, wrongActivity, noneWaits, grounds, judged, step, runFrom, run}
-use Rattle.model.specs.History.{updated, historyFrom}
-use Rattle.model.specs.Cases.{NamedCases, WrongTurnings, FurtherCases, setOf, none, node, three, joinsFormer, inFormerGroup, newMerges, afterMerge, bothInvite, invitedByBoth, joinsNew, inNewGroup, invitedOnce, InvitedTwice, HeldGroupCases, RecoveryCases, RangeCases}
-use Rattle.model.proofs.Whole.{run-append}
+use Rattle.model.specs.Range.{activityInRange, nodeInRange, messageInRange, countInRange}
+use Rattle.model.specs.State.{State, start, nodeAt, allWaiting, countsAside, baseInRange, waits, oldest, withoutOldest, howMany, countsOf, every, upTo, countsInRange, trafficInRange, inRange}
+use Rattle.model.specs.Step.{reactionTo, remaining, effect, wrongNumber, wrongTask, wrongStatus, wrongActivity, noneWaits, Ground, grounds, Result, refused, accepted, judged, step, kept, aside, after, runFrom, run}
+use Rattle.model.specs.History.{History, blank, updated, noted, historyFrom, history}
+use Rattle.model.specs.Cases.{NamedCases, WrongTurnings, FurtherCases, printedFields, collecting, k10, foundThree, setOf, none, node, three, joinsFormer, inFormerGroup, newMerges, afterMerge, bothInvite, invitedByBoth, joinsNew, inNewGroup, invitedOnce, InvitedTwice, HeldGroupCases, RecoveryCases, RangeCases}
+use Rattle.model.proofs.InRange.{start-in, run-in, stays-in-range}
+use Rattle.model.proofs.Waiting.{waiting-in}
+use Rattle.model.proofs.Aside.{told, waiting-small, waiting-told, aside-told, quick, aside-kept, run-aside, quick-append, counting, run-counting, quickHistory, history-aside, start-room, run-below}
 use Rattle.model.specs.declared.Status.the-variants.{Election, Reorganization}
 use Rattle.model.specs.declared.Activity.the-variants.{Idle, Collecting}
+use Rattle.model.specs.declared.Node.{Node}
+use Rattle.model.specs.declared.Message.{Message}
+use Rattle.model.specs.declared.Mark.the-variants.{Plain}
 use Rattle.model.specs.declared.Event.{Event}
-use Rattle.model.specs.declared.Event.the-variants.{Finish, Deliver}
+use Rattle.model.specs.declared.Event.the-variants.{Crash, Recover, Check, Timeout, Tick, Expire, Finish, Deliver}
+
+-- ── a case is computed with the counts set aside, so that neither their range nor 17 is computed at each event ──
+
+-- from a table in which all that was sent still waits
+one-step : (n : ℕ) (cs : List Node) (q : List Message) (e : Event) → baseInRange n cs q ≡ true → aside (step (allWaiting n cs q) e) ≡ told (allWaiting n cs q) e
+one-step n cs q e r = waiting-told n cs q r e
+
+refused-aside : (x : Result) (r : ℕ) → aside x ≡ refused r → x ≡ refused r
+refused-aside (refused k) r h = h
+refused-aside (accepted u k) r h = absurd (let z : _≡_ {A = ℕ} 1 0 = cc in omega arith)
+
+one-refused : (n : ℕ) (cs : List Node) (q : List Message) (e : Event) (r : ℕ) → baseInRange n cs q ≡ true → told (allWaiting n cs q) e ≡ refused r
+    → step (allWaiting n cs q) e ≡ refused r
+one-refused n cs q e r b h = refused-aside _ r (one-step n cs q e b ∙ h)
+
+one-after : (n : ℕ) (cs : List Node) (q : List Message) (e : Event) → baseInRange n cs q ≡ true
+    → countsAside (after (allWaiting n cs q) e) ≡ kept (allWaiting n cs q) (told (allWaiting n cs q) e)
+one-after n cs q e r = aside-kept (allWaiting n cs q) (step (allWaiting n cs q) e) ∙ ap (kept (allWaiting n cs q)) (one-step n cs q e r)
+
+some-steps : (n : ℕ) (cs : List Node) (q : List Message) (es : List Event) → baseInRange n cs q ≡ true → length es < 33554366
+    → countsAside (runFrom (allWaiting n cs q) es) ≡ quick (allWaiting n cs q) es
+some-steps n cs q es r h = run-aside (allWaiting n cs q) es (waiting-in n cs q r) (λ k. omega (arith, h, waiting-small n cs q r k))
+
+-- one that is not in range meets 1
+not-in-range : (n : ℕ) (cs : List Node) (q : List Message) (e : Event) → baseInRange n cs q ≡ false → step (allWaiting n cs q) e ≡ refused 1
+unfolding step grounds judged inRange
+not-in-range n cs q e r = rw (r, pick-true) refl
+
+-- from a starting table
+started : (n : ℕ) (es : List Event) → 1 ≤ n → n ≤ 16 → length es < 33554430 → countsAside (run n es) ≡ quick (countsAside (start n)) es
+started n es l h k = run-aside (start n) es (start-in n l h) (start-room (length es) k)
+
+two : (es : List Event) → length es < 33554430 → countsAside (run 2 es) ≡ quick (countsAside (start 2)) es
+two es k = started 2 es (omega arith) (omega arith) k
+
+pub two-counting : (es : List Event) → length es < 33554430 → run 2 es ≡ counting (start 2) es
+two-counting es k = run-counting (start 2) es (start-in 2 (omega arith) (omega arith)) (start-room (length es) k)
+
+in-three : (es : List Event) → length es < 33554430 → countsAside (run 3 es) ≡ quick (countsAside (start 3)) es
+in-three es k = started 3 es (omega arith) (omega arith) k
+
+-- an event after a run
+from-run : (n : ℕ) (es : List Event) (e : Event) → 1 ≤ n → n ≤ 16 → length es + 1 < 33554430 → aside (step (run n es) e) ≡ told (quick (countsAside (start n)) es) e
+from-run n es e l h k =
+    aside-told (run n es) e (stays-in-range .runs n l h es) (run-below n es (omega arith))
+    ∙ ap (λ (s : State). told s e) (started n es l h (omega arith))
+
+from-two : (es : List Event) (e : Event) (r : ℕ) → length es + 1 < 33554430 → told (quick (countsAside (start 2)) es) e ≡ refused r → step (run 2 es) e ≡ refused r
+from-two es e r k h = refused-aside _ r (from-run 2 es e (omega arith) (omega arith) k ∙ h)
+
+at-start : (e : Event) (r : ℕ) → told (countsAside (start 2)) e ≡ refused r → step (start 2) e ≡ refused r
+unfolding runFrom
+at-start e r h = from-two [] e r (omega arith) h
+
+after-two : (es : List Event) (e : Event) → length es + 1 < 33554430 → countsAside (after (run 2 es) e) ≡ kept (quick (countsAside (start 2)) es) (told (quick (countsAside (start 2)) es) e)
+after-two es e k =
+    aside-kept (run 2 es) (step (run 2 es) e)
+    ∙ ap (λ (s : State). kept s (aside (step (run 2 es) e))) (two es (omega arith))
+    ∙ ap (kept (quick (countsAside (start 2)) es)) (from-run 2 es e (omega arith) (omega arith) k)
+
+history-two : (es : List Event) → length es < 33554430 → history 2 es ≡ quickHistory (countsAside (start 2)) blank es
+history-two es k = history-aside (start 2) blank es (start-in 2 (omega arith) (omega arith)) (start-room (length es) k)
 
 pub named-cases : NamedCases
-unfolding pick onesIn ones leadingZeros bitAnd bitOr inviteNext merges handNext finishes forwardNext askedAll askAt askAfter checked timedOut ticked expired resumed onAreYouCoordinator onAreYouThere onInvitation onAccept onReady onReply received react activityInRange nodeInRange messageInRange waits oldest withoutOldest every inRange reactionTo remaining effect wrongNumber wrongTask wrongStatus wrongActivity noneWaits grounds judged step runFrom updated historyFrom
+unfolding total pick onesIn ones leadingZeros bitAnd bitOr inviteNext merges handNext finishes forwardNext askedAll askAt askAfter checked timedOut ticked expired resumed onAreYouCoordinator onAreYouThere onInvitation onAccept onReady onReply received react activityInRange nodeInRange messageInRange countsOf waits oldest withoutOldest every reactionTo remaining effect wrongNumber wrongTask wrongStatus wrongActivity noneWaits grounds judged updated
 named-cases =
     record {
       k1-low = refl;
       k1-high = refl;
       k1-first = refl;
       k1-last = refl;
-      k2 = refl;
-      k2-task = refl;
-      k2-other = refl;
-      k2-emptied = refl;
-      k3 = refl;
-      k4 = refl;
-      k4-crash = refl;
-      k5-passes = refl;
-      k5-ends = refl;
-      k5-merge-passes = refl;
-      k5-merge-ends = refl;
-      k5-no-group = refl;
-      k6-collects = refl;
-      k6-refused = refl;
-      k6-passes = refl;
-      k6-last = refl;
-      k6-high = refl;
-      k6-no-member = refl;
-      k6-idle = refl;
-      k6-idle-task = refl;
-      k7-waits = refl;
-      k7-first = refl;
-      k7-still = refl;
-      k7-second = refl;
-      k7-merges = refl;
-      k7-invites = refl;
-      k8 = refl;
-      k8-reorganizing = refl;
-      k8-owner = refl;
-      k8-normal = refl;
-      k8-no-member = refl;
-      k8-led = refl;
-      k9 = refl;
-      k9-yes = refl;
-      k9-no = refl;
-      k9-no-call = refl;
-      k10-first = refl;
-      k10-second = refl;
-      k10-messages = refl;
-      k10-task = refl;
-      k10-no-task = refl;
-      k11-refused = refl;
-      k11-passes = refl;
-      k11-room = refl;
-      k11-silent = refl;
-      k12 = refl;
-      k12-joins = refl;
-      k12-group = refl;
-      k12-led = refl;
-      k13 = refl;
-      k13-task = refl;
-      k13-down = refl;
+      k2 = ap (λ (s : State). printedFields s 1) (two (Recover 1 ∷ []) (omega arith));
+      k2-task = ap (λ (h : History). h .entry 16) (history-two (Recover 1 ∷ []) (omega arith));
+      k2-other = ap (λ (s : State). printedFields s 2) (two (Recover 1 ∷ []) (omega arith));
+      k2-emptied = one-step _ _ _ _ refl;
+      k3 = from-two (Recover 1 ∷ []) (Recover 1) _ (omega arith) refl;
+      k4 = ap (λ (s : State). printedFields s 1) (two (Recover 1 ∷ Crash 1 ∷ Recover 1 ∷ []) (omega arith));
+      k4-crash = one-step _ _ _ _ refl;
+      k5-passes = ap (λ (s : State). printedFields s 16) (one-after _ _ _ (Recover 16) refl);
+      k5-ends = one-refused _ _ _ _ _ refl refl;
+      k5-merge-passes = ap (λ (s : State). printedFields s 16) (one-after _ _ _ (Expire 16) refl);
+      k5-merge-ends = one-refused _ _ _ _ _ refl refl;
+      k5-no-group = one-after _ _ _ _ refl;
+      k6-collects = ap (λ (s : State). nodeAt s 2 .activity) (two collecting (omega arith));
+      k6-refused = from-two collecting (Finish 2 (record { number = 99 })) _ (omega arith) refl;
+      k6-passes = ap (λ (s : State). printedFields s 2) (after-two collecting (Finish 2 (record { number = 100 })) (omega arith));
+      k6-last = ap (λ (s : State). printedFields s 2) (after-two collecting (Finish 2 (record { number = 65535 })) (omega arith));
+      k6-high = from-two collecting (Finish 2 (record { number = 65536 })) _ (omega arith) refl;
+      k6-no-member = one-step _ _ _ _ refl;
+      k6-idle = one-refused _ _ _ _ _ refl refl;
+      k6-idle-task = one-refused _ _ _ _ _ refl refl;
+      k7-waits = ap (λ (s : State). nodeAt s 1 .activity) (in-three foundThree (omega arith));
+      k7-first = ap (λ (s : State). nodeAt s 1 .activity) (in-three (foundThree ++ (Tick 1 ∷ [])) (omega arith));
+      k7-still = ap (λ (s : State). nodeAt s 1 .status) (in-three (foundThree ++ (Tick 1 ∷ [])) (omega arith));
+      k7-second = ap (λ (s : State). nodeAt s 1 .activity) (in-three (foundThree ++ (Tick 1 ∷ Tick 1 ∷ [])) (omega arith));
+      k7-merges = ap (λ (s : State). printedFields s 1) (in-three (foundThree ++ (Tick 1 ∷ Tick 1 ∷ [])) (omega arith));
+      k7-invites = ap (λ (s : State). s .queue) (in-three (foundThree ++ (Tick 1 ∷ Tick 1 ∷ [])) (omega arith));
+      k8 = one-after _ _ _ _ refl;
+      k8-reorganizing = one-after _ _ _ _ refl;
+      k8-owner = one-after _ _ _ _ refl;
+      k8-normal = one-after _ _ _ _ refl;
+      k8-no-member = one-after _ _ _ _ refl;
+      k8-led = one-after _ _ _ _ refl;
+      k9 = one-after _ _ _ _ refl;
+      k9-yes = one-step _ _ _ _ refl;
+      k9-no = one-after _ _ _ _ refl;
+      k9-no-call = one-after _ _ _ _ refl;
+      k10-first = ap (λ (s : State). printedFields s 1) (two k10 (omega arith));
+      k10-second = ap (λ (s : State). printedFields s 2) (two k10 (omega arith));
+      k10-messages = ap (λ (s : State). length (s .queue)) (two k10 (omega arith));
+      k10-sent = ap (λ (s : State). total (s .sent)) (two-counting k10 (omega arith));
+      k10-delivered = ap (λ (s : State). total (s .delivered)) (two-counting k10 (omega arith));
+      k10-lost = ap (λ (s : State). total (s .lost)) (two-counting k10 (omega arith));
+      k10-task = ap (λ (h : History). h .entry 33) (history-two k10 (omega arith));
+      k10-no-task = ap (λ (h : History). h .entry 33) (history-two collecting (omega arith));
+      k11-refused = one-refused _ _ _ _ _ refl refl;
+      k11-passes = one-after _ _ _ _ refl;
+      k11-room = ap (λ (s : State). s .queue) (one-after _ _ _ (Check 1) refl);
+      k11-silent = one-step _ _ _ _ refl;
+      k12 = one-after _ _ _ _ refl;
+      k12-joins = one-after _ _ _ _ refl;
+      k12-group = one-after _ _ _ _ refl;
+      k12-led = one-after _ _ _ _ refl;
+      k13 = at-start (Finish 9 (record { number = 5 })) _ refl;
+      k13-task = at-start (Finish 2 (record { number = 5 })) _ refl;
+      k13-down = at-start (Finish 2 (record { number = 100 })) _ refl;
     }
 
 pub wrong-turnings : WrongTurnings
-unfolding pick onesIn ones leadingZeros bitAnd bitOr inviteNext merges handNext finishes forwardNext askedAll askAt askAfter checked timedOut ticked expired resumed onAreYouCoordinator onAreYouThere onInvitation onAccept onReady onReply received react activityInRange nodeInRange messageInRange waits oldest withoutOldest every inRange reactionTo remaining effect wrongNumber wrongTask wrongStatus wrongActivity noneWaits grounds judged step runFrom updated historyFrom
+unfolding pick onesIn ones leadingZeros bitAnd bitOr inviteNext merges handNext finishes forwardNext askedAll askAt askAfter checked timedOut ticked expired resumed onAreYouCoordinator onAreYouThere onInvitation onAccept onReady onReply received react activityInRange nodeInRange messageInRange countsOf waits oldest withoutOldest every reactionTo remaining effect wrongNumber wrongTask wrongStatus wrongActivity noneWaits grounds judged updated
 wrong-turnings =
     record {
-      members-aside = refl;
-      members-invited = refl;
-      task-waits = refl;
-      task-comes = refl;
-      task-of-other = refl;
-      task-too-soon = refl;
-      ready-on = refl;
-      ready-no-more = refl;
+      members-aside = one-step _ _ _ _ refl;
+      members-invited = some-steps _ _ _ _ refl (omega arith);
+      task-waits = ap (λ (s : State). printedFields s 1) (two (collecting ++ (Finish 2 (record { number = 100 }) ∷ [])) (omega arith));
+      task-comes = one-after _ _ _ _ refl;
+      task-of-other = one-after _ _ _ _ refl;
+      task-too-soon = one-after _ _ _ _ refl;
+      ready-on = one-after _ _ _ _ refl;
+      ready-no-more = one-step _ _ _ _ refl;
     }
 
 pub further-cases : FurtherCases
-unfolding pick onesIn ones leadingZeros bitAnd bitOr inviteNext merges handNext finishes forwardNext askedAll askAt askAfter checked timedOut ticked expired resumed onAreYouCoordinator onAreYouThere onInvitation onAccept onReady onReply received react activityInRange nodeInRange messageInRange waits oldest withoutOldest every inRange reactionTo remaining effect wrongNumber wrongTask wrongStatus wrongActivity noneWaits grounds judged step runFrom updated historyFrom
+unfolding pick onesIn ones leadingZeros bitAnd bitOr inviteNext merges handNext finishes forwardNext askedAll askAt askAfter checked timedOut ticked expired resumed onAreYouCoordinator onAreYouThere onInvitation onAccept onReady onReply received react activityInRange nodeInRange messageInRange countsOf waits oldest withoutOldest every reactionTo remaining effect wrongNumber wrongTask wrongStatus wrongActivity noneWaits grounds judged updated
 further-cases =
     record {
-      highest-found = refl;
-      asks-others = refl;
-      reply-newer = refl;
-      reply-other = refl;
-      oldest-delivered = refl;
-      oldest-lost = refl;
-      lost-down = refl;
-      delivered-from-down = refl;
-      check-led = refl;
-      check-one = refl;
-      timeout-own = refl;
-      timeout-own-reorganizing = refl;
-      timeout-led = refl;
-      timeout-reorganizing = refl;
-      contact-yes = refl;
-      contact-no = refl;
-      contact-expires = refl;
-      coordinator-yes = refl;
-      coordinator-election = refl;
-      coordinator-led = refl;
-      there-yes = refl;
-      there-reorganizing = refl;
-      there-group = refl;
-      there-led = refl;
-      there-no-member = refl;
-      invited-forwards = refl;
-      invited-accepts = refl;
-      invited-asking = refl;
-      invited-waiting = refl;
-      accepted-replies = refl;
-      forwarded-accepts = refl;
-      accepting-expires = refl;
-      invites-highest = refl;
-      invites-on = refl;
-      forwards-each = refl;
-      forwards-highest = refl;
-      forwards-on = refl;
-      forwarding-expires = refl;
-      forwarding-ends = refl;
-      hands-each = refl;
-      hands-highest = refl;
-      hands-last = refl;
-      asks-up = refl;
-      ticks-keep = refl;
-      invite-no = refl;
-      hand-no = refl;
-      forward-no = refl;
-      accept-no = refl;
-      ready-normal = refl;
-      ready-busy = refl;
+      highest-found = one-step _ _ _ _ refl;
+      asks-others = one-step _ _ _ _ refl;
+      reply-newer = one-step _ _ _ _ refl;
+      reply-other = one-step _ _ _ _ refl;
+      oldest-delivered = one-step _ _ _ _ refl;
+      oldest-lost = one-step _ _ _ _ refl;
+      lost-down = one-step _ _ _ _ refl;
+      delivered-from-down = one-step _ _ _ _ refl;
+      check-led = one-step _ _ _ _ refl;
+      check-one = from-run 1 (Recover 1 ∷ []) (Check 1) (omega arith) (omega arith) (omega arith) ∙ ap (λ (s : State). accepted s Plain) (sym (started 1 (Recover 1 ∷ []) (omega arith) (omega arith) (omega arith)));
+      timeout-own = one-step _ _ _ _ refl;
+      timeout-own-reorganizing = one-step _ _ _ _ refl;
+      timeout-led = one-step _ _ _ _ refl;
+      timeout-reorganizing = one-step _ _ _ _ refl;
+      contact-yes = one-step _ _ _ _ refl;
+      contact-no = one-step _ _ _ _ refl;
+      contact-expires = one-step _ _ _ _ refl;
+      coordinator-yes = one-step _ _ _ _ refl;
+      coordinator-election = one-step _ _ _ _ refl;
+      coordinator-led = one-step _ _ _ _ refl;
+      there-yes = one-step _ _ _ _ refl;
+      there-reorganizing = one-step _ _ _ _ refl;
+      there-group = one-step _ _ _ _ refl;
+      there-led = one-step _ _ _ _ refl;
+      there-no-member = one-step _ _ _ _ refl;
+      invited-forwards = one-step _ _ _ _ refl;
+      invited-accepts = one-step _ _ _ _ refl;
+      invited-asking = one-step _ _ _ _ refl;
+      invited-waiting = one-step _ _ _ _ refl;
+      accepted-replies = one-step _ _ _ _ refl;
+      forwarded-accepts = one-step _ _ _ _ refl;
+      accepting-expires = one-step _ _ _ _ refl;
+      invites-highest = some-steps _ _ _ _ refl (omega arith);
+      invites-on = one-step _ _ _ _ refl;
+      forwards-each = some-steps _ _ _ _ refl (omega arith);
+      forwards-highest = one-step _ _ _ _ refl;
+      forwards-on = one-step _ _ _ _ refl;
+      forwarding-expires = one-step _ _ _ _ refl;
+      forwarding-ends = one-step _ _ _ _ refl;
+      hands-each = some-steps _ _ _ _ refl (omega arith);
+      hands-highest = one-step _ _ _ _ refl;
+      hands-last = one-step _ _ _ _ refl;
+      asks-up = some-steps _ _ _ _ refl (omega arith);
+      ticks-keep = one-step _ _ _ _ refl;
+      invite-no = one-step _ _ _ _ refl;
+      hand-no = one-step _ _ _ _ refl;
+      forward-no = one-step _ _ _ _ refl;
+      accept-no = one-step _ _ _ _ refl;
+      ready-normal = one-step _ _ _ _ refl;
+      ready-busy = one-step _ _ _ _ refl;
       fields-asks = refl;
       fields-calls = refl;
       fields-readies = refl;
       fields-replies = refl;
-      range-node = refl;
-      range-message = refl;
-      range-queue = refl;
-      range-count = refl;
-      range-kept = refl;
-      number-none = refl;
-      number-same = refl;
-      number-same-lost = refl;
-      number-sender = refl;
-      number-receiver = refl;
-      down-crash = refl;
-      down-check = refl;
-      down-timeout = refl;
-      down-tick = refl;
-      down-expire = refl;
-      down-deliver = refl;
-      down-none-waits = refl;
-      activity-check = refl;
-      activity-timeout = refl;
-      activity-tick = refl;
-      activity-expire = refl;
-      activity-collecting = refl;
-      activity-idle = refl;
-      none-to-deliver = refl;
-      none-to-lose = refl;
-      calls-end = refl;
-      calls-last = refl;
-      calls-reply = refl;
-      ends-twelve = refl;
-      ends-thirteen = refl;
-      ends-fourteen = refl;
-      ends-pass = refl;
+      range-node = not-in-range _ _ _ _ refl;
+      range-message = not-in-range _ _ _ _ refl;
+      range-queue = not-in-range _ _ _ _ refl;
+      range-count = not-in-range _ _ _ _ refl;
+      range-kept = one-refused _ _ _ _ _ refl refl;
+      number-none = one-refused _ _ _ _ _ refl refl;
+      number-same = one-refused _ _ _ _ _ refl refl;
+      number-same-lost = one-refused _ _ _ _ _ refl refl;
+      number-sender = one-refused _ _ _ _ _ refl refl;
+      number-receiver = one-refused _ _ _ _ _ refl refl;
+      down-crash = at-start (Crash 1) _ refl;
+      down-check = at-start (Check 1) _ refl;
+      down-timeout = at-start (Timeout 1) _ refl;
+      down-tick = at-start (Tick 1) _ refl;
+      down-expire = at-start (Expire 1) _ refl;
+      down-deliver = one-refused _ _ _ _ _ refl refl;
+      down-none-waits = one-refused _ _ _ _ _ refl refl;
+      activity-check = one-refused _ _ _ _ _ refl refl;
+      activity-timeout = one-refused _ _ _ _ _ refl refl;
+      activity-tick = one-refused _ _ _ _ _ refl refl;
+      activity-expire = one-refused _ _ _ _ _ refl refl;
+      activity-collecting = one-refused _ _ _ _ _ refl refl;
+      activity-idle = one-refused _ _ _ _ _ refl refl;
+      none-to-deliver = one-refused _ _ _ _ _ refl refl;
+      none-to-lose = one-refused _ _ _ _ _ refl refl;
+      calls-end = one-refused _ _ _ _ _ refl refl;
+      calls-last = one-step _ _ _ _ refl;
+      calls-reply = one-step _ _ _ _ refl;
+      ends-twelve = one-refused _ _ _ _ _ refl refl;
+      ends-thirteen = one-refused _ _ _ _ _ refl refl;
+      ends-fourteen = one-refused _ _ _ _ _ refl refl;
+      ends-pass = one-step _ _ _ _ refl;
     }
 
 -- `joinsNew` in two: 1 accepts, so that 3 collects; 3 hands Ready to both
@@ -199,80 +274,90 @@ threeCollects =
 abbrev handing : List Event
 handing = Finish 3 (record { number = 300 }) ∷ Deliver 3 2 ∷ Deliver 2 3 ∷ Deliver 3 1 ∷ Deliver 1 3 ∷ []
 
+abbrev toNew : List Event
+toNew = newMerges ++ (bothInvite ++ joinsNew)
+
+abbrev joined : State
+joined = inNewGroup (calls 2 3 1 (record { number = 5 }) (record { number = 34 }) ∷ [])
+
 -- the parts of the story, each from the table before it
 record Parts : Type 0 where
-  pub former : run 3 joinsFormer ≡ inFormerGroup
-  pub merges : runFrom inFormerGroup newMerges ≡ afterMerge
-  pub both : runFrom afterMerge bothInvite ≡ invitedByBoth
-  pub joins : runFrom invitedByBoth accepting ≡ threeCollects
-  pub hands : runFrom threeCollects handing ≡ inNewGroup (calls 2 3 1 (record { number = 5 }) (record { number = 34 }) ∷ [])
-  pub again : runFrom (inNewGroup (calls 2 3 1 (record { number = 5 }) (record { number = 34 }) ∷ [])) (Deliver 2 1 ∷ []) ≡ inNewGroup (replies 1 2 (record { number = 5 }) true ∷ [])
-  pub dropped : runFrom (inNewGroup (calls 2 3 1 (record { number = 5 }) (record { number = 34 }) ∷ [])) (Deliver 2 1 ∷ Deliver 1 2 ∷ []) ≡ inNewGroup []
+  pub former : quick (countsAside (start 3)) joinsFormer ≡ inFormerGroup
+  pub merges : quick inFormerGroup newMerges ≡ afterMerge
+  pub both : quick afterMerge bothInvite ≡ invitedByBoth
+  pub joins : quick invitedByBoth accepting ≡ threeCollects
+  pub hands : quick threeCollects handing ≡ inNewGroup (calls 2 3 1 (record { number = 5 }) (record { number = 34 }) ∷ [])
+  pub again : quick (inNewGroup (calls 2 3 1 (record { number = 5 }) (record { number = 34 }) ∷ [])) (Deliver 2 1 ∷ []) ≡ inNewGroup (replies 1 2 (record { number = 5 }) true ∷ [])
+  pub dropped : quick (inNewGroup (calls 2 3 1 (record { number = 5 }) (record { number = 34 }) ∷ [])) (Deliver 2 1 ∷ Deliver 1 2 ∷ []) ≡ inNewGroup []
 
 parts : Parts
-unfolding pick onesIn ones leadingZeros bitAnd bitOr inviteNext merges handNext finishes forwardNext askedAll askAt askAfter checked timedOut ticked expired resumed onAreYouCoordinator onAreYouThere onInvitation onAccept onReady onReply received react activityInRange nodeInRange messageInRange waits oldest withoutOldest every inRange reactionTo remaining effect wrongNumber wrongTask wrongStatus wrongActivity noneWaits grounds judged step runFrom updated historyFrom
+unfolding pick onesIn ones leadingZeros bitAnd bitOr inviteNext merges handNext finishes forwardNext askedAll askAt askAfter checked timedOut ticked expired resumed onAreYouCoordinator onAreYouThere onInvitation onAccept onReady onReply received react activityInRange nodeInRange messageInRange countsOf waits oldest withoutOldest every reactionTo remaining effect wrongNumber wrongTask wrongStatus wrongActivity noneWaits grounds judged updated
 parts = record { former = refl; merges = refl; both = refl; joins = refl; hands = refl; again = refl; dropped = refl }
 
-onward : (s t u : State) (es fs : List Event) → runFrom s es ≡ t → runFrom t fs ≡ u → runFrom s (es ++ fs) ≡ u
-onward s t u es fs p q = run-append s es fs ∙ ap (λ (v : State). runFrom v fs) p ∙ q
+onward : (s t u : State) (es fs : List Event) → quick s es ≡ t → quick t fs ≡ u → quick s (es ++ fs) ≡ u
+onward s t u es fs p q = quick-append s es fs ∙ ap (λ (v : State). quick v fs) p ∙ q
 
-from-former : (es : List Event) (u : State) → runFrom inFormerGroup es ≡ u → run 3 (joinsFormer ++ es) ≡ u
-from-former es u = onward (start 3) inFormerGroup u joinsFormer es (parts .former)
+from-former : (es : List Event) (u : State) → length (joinsFormer ++ es) < 33554430 → quick inFormerGroup es ≡ u → countsAside (run 3 (joinsFormer ++ es)) ≡ u
+from-former es u k h = in-three (joinsFormer ++ es) k ∙ onward (countsAside (start 3)) inFormerGroup u joinsFormer es (parts .former) h
 
 pub invited-twice : InvitedTwice
 invited-twice =
     record {
-      former = parts .former;
-      merges = from-former newMerges _ (parts .merges);
-      both = from-former (newMerges ++ bothInvite) _ (onward _ _ _ newMerges bothInvite (parts .merges) (parts .both));
-      normal = normal;
-      only-messages = onward _ _ _ invitedOnce (Deliver 2 1 ∷ []) normal (parts .again);
-      reply-dropped = onward _ _ _ invitedOnce (Deliver 2 1 ∷ Deliver 1 2 ∷ []) normal (parts .dropped);
+      former = in-three joinsFormer (omega arith) ∙ parts .former;
+      merges = from-former newMerges afterMerge (omega arith) (parts .merges);
+      both = from-former (newMerges ++ bothInvite) invitedByBoth (omega arith) (onward inFormerGroup afterMerge invitedByBoth newMerges bothInvite (parts .merges) (parts .both));
+      normal = from-former toNew joined (omega arith) normal;
+      only-messages = from-former (toNew ++ (Deliver 2 1 ∷ [])) (inNewGroup (replies 1 2 (record { number = 5 }) true ∷ [])) (omega arith)
+          (onward inFormerGroup joined (inNewGroup (replies 1 2 (record { number = 5 }) true ∷ [])) toNew (Deliver 2 1 ∷ []) normal (parts .again));
+      reply-dropped = from-former (toNew ++ (Deliver 2 1 ∷ Deliver 1 2 ∷ [])) (inNewGroup []) (omega arith)
+          (onward inFormerGroup joined (inNewGroup []) toNew (Deliver 2 1 ∷ Deliver 1 2 ∷ []) normal (parts .dropped));
     }
   where
-    normal : run 3 invitedOnce ≡ inNewGroup (calls 2 3 1 (record { number = 5 }) (record { number = 34 }) ∷ [])
-    normal = from-former _ _ (onward _ _ _ newMerges (bothInvite ++ joinsNew) (parts .merges) (onward _ _ _ bothInvite joinsNew (parts .both) (onward _ _ _ accepting handing (parts .joins) (parts .hands))))
+    normal : quick inFormerGroup toNew ≡ joined
+    normal =
+        onward inFormerGroup afterMerge joined newMerges (bothInvite ++ joinsNew) (parts .merges)
+        (onward afterMerge invitedByBoth joined bothInvite joinsNew (parts .both) (onward invitedByBoth threeCollects joined accepting handing (parts .joins) (parts .hands)))
 
 pub held-group-cases : HeldGroupCases
-unfolding pick onesIn ones leadingZeros bitAnd bitOr inviteNext merges handNext finishes forwardNext askedAll askAt askAfter checked timedOut ticked expired resumed onAreYouCoordinator onAreYouThere onInvitation onAccept onReady onReply received react activityInRange nodeInRange messageInRange waits oldest withoutOldest every inRange reactionTo remaining effect wrongNumber wrongTask wrongStatus wrongActivity noneWaits grounds judged step runFrom updated historyFrom
+unfolding pick onesIn ones leadingZeros bitAnd bitOr inviteNext merges handNext finishes forwardNext askedAll askAt askAfter checked timedOut ticked expired resumed onAreYouCoordinator onAreYouThere onInvitation onAccept onReady onReply received react activityInRange nodeInRange messageInRange countsOf waits oldest withoutOldest every reactionTo remaining effect wrongNumber wrongTask wrongStatus wrongActivity noneWaits grounds judged updated
 held-group-cases =
     record {
-      normal = refl;
-      reorganizing = refl;
-      election = refl;
-      owner = refl;
-      down = refl;
-      no-call-needed = refl;
-      queue-full = refl;
-      older-group = refl;
-      newer-group = refl;
-      call-needed = refl;
+      normal = one-step _ _ _ _ refl;
+      reorganizing = one-step _ _ _ _ refl;
+      election = one-step _ _ _ _ refl;
+      owner = one-step _ _ _ _ refl;
+      down = one-refused _ _ _ _ _ refl refl;
+      no-call-needed = one-step _ _ _ _ refl;
+      queue-full = one-step _ _ _ _ refl;
+      older-group = one-step _ _ _ _ refl;
+      newer-group = one-step _ _ _ _ refl;
+      call-needed = one-refused _ _ _ _ _ refl refl;
     }
 
 pub recovery-cases : RecoveryCases
-unfolding pick onesIn ones leadingZeros bitAnd bitOr inviteNext merges handNext finishes forwardNext askedAll askAt askAfter checked timedOut ticked expired resumed onAreYouCoordinator onAreYouThere onInvitation onAccept onReady onReply received react activityInRange nodeInRange messageInRange waits oldest withoutOldest every inRange reactionTo remaining effect wrongNumber wrongTask wrongStatus wrongActivity noneWaits grounds judged step runFrom updated historyFrom
+unfolding pick onesIn ones leadingZeros bitAnd bitOr inviteNext merges handNext finishes forwardNext askedAll askAt askAfter checked timedOut ticked expired resumed onAreYouCoordinator onAreYouThere onInvitation onAccept onReady onReply received react activityInRange nodeInRange messageInRange countsOf waits oldest withoutOldest every reactionTo remaining effect wrongNumber wrongTask wrongStatus wrongActivity noneWaits grounds judged updated
 recovery-cases =
     record {
       k2 = refl;
       each = refl;
-      left = refl;
-      k4 = refl;
+      left = one-step _ _ _ _ refl;
+      k4 = ap (λ (s : State). map (λ (c : Node). c .group .number) (recoveryRecords 1 (nodeAt s 1))) (two (Recover 1 ∷ Crash 1 ∷ []) (omega arith));
       k5 = refl;
-      range-number = refl;
-      range-status = refl;
-      range-counter = refl;
-      status-counter = refl;
-      number-status = refl;
-      number-counter = refl;
-      number-zero = refl;
-      number-above = refl;
+      range-number = not-in-range _ _ _ _ refl;
+      range-status = not-in-range _ _ _ _ refl;
+      range-counter = not-in-range _ _ _ _ refl;
+      status-counter = one-refused _ _ _ _ _ refl refl;
+      number-status = one-refused _ _ _ _ _ refl refl;
+      number-counter = one-refused _ _ _ _ _ refl refl;
+      number-zero = at-start (Recover 0) _ refl;
+      number-above = at-start (Recover 3) _ refl;
       between = refl;
       between-k2 = refl;
       inside = refl;
     }
 
 pub range-cases : RangeCases
-unfolding pick bitOr activityInRange nodeInRange messageInRange every inRange
+unfolding pick bitOr activityInRange nodeInRange messageInRange countInRange countsOf howMany upTo countsInRange trafficInRange every inRange
 range-cases =
     record {
       count-ends = refl;

@@ -3,7 +3,7 @@ use Prim.Native.Nat.{ℕ, zero, suc, _+_, _-_, _<_, _≤_}
 use native.Mathlib.Omega.{arith}
 use mathlib.Core.Bool.{Bool, true, false, not, _&&_, _||_, true≢false}
 use mathlib.Core.Logic.{_⊎_, inl, inr, ⊎-elim}
-use mathlib.Core.Path.{_≡_, refl, sym, ap, subst}
+use mathlib.Core.Path.{_≡_, refl, sym, _∙_, ap, subst}
 use mathlib.Core.List.{List, [], _∷_}
 use lib.Dec.{eqb, leb}
 use lib.ListN.{length, getD}
@@ -11,10 +11,11 @@ use lib.Seq.{getD-set-same}
 use borrow.Author.Tests.{eqb-true, eqb-false, leb-true, not-true}
 use Rattle.node_set.specs.NodeSet.{has, within}
 use Rattle.model.specs.Pick.{by-test}
-use Rattle.model.specs.Limits.{nodeLimit, queueLimit, counterEnd, callEnd, tickEnd, taskLow, taskEnd}
+use Rattle.model.specs.Limits.{nodeLimit, queueLimit, counterEnd, callEnd, trafficEnd, tickEnd, taskLow, taskEnd}
+use Rattle.model.specs.Counts.{countPlaces, pairPlace, senderAt, receiverAt, countAt}
 use Rattle.model.specs.Node.{isDown, isIdle, ownerOf, counterOf}
-use Rattle.model.specs.Range.{isNode, isOther, isSetOfOthers, isGroup, isGivenTask, isCall, isGroupOrNone, isLed, carriesGroup, activityInRange, nodeInRange, messageInRange}
-use Rattle.model.specs.State.{State, startingNode, nodeAt, goes, waits, oldest, every, inRange}
+use Rattle.model.specs.Range.{isNode, isOther, isSetOfOthers, isGroup, isGivenTask, isCall, isGroupOrNone, isLed, carriesGroup, activityInRange, nodeInRange, messageInRange, isPair, countInRange}
+use Rattle.model.specs.State.{State, startingNode, nodeAt, goes, waits, oldest, howMany, every, upTo, addsUp, countsInRange, trafficInRange, inRange}
 use Rattle.model.specs.Step.{actor, reactionTo, effect}
 use Rattle.model.proofs.Local.{both-left, both-right}
 use Rattle.model.proofs.Judged.{Clear}
@@ -225,12 +226,43 @@ message-facts n m e =
       task = λ c. given-is _ (otherwise (not (eqb (m .kind) 5)) _ (ap not c) (r .1 .1 .1 .1 .1 .0));
     }
 
+-- ── counts ──
+
+-- a and b are 1 to 16: there is a count from a to b
+pub record Counting (a b : ℕ) : Type 0 where
+  pub low : 1 ≤ a
+  pub high : a ≤ 16
+  pub low-to : 1 ≤ b
+  pub high-to : b ≤ 16
+
+-- of the count x at place k
+pub record CountFacts (n k x : ℕ) : Type 0 where
+  pub bounded : x ≤ trafficEnd
+  pub none : isPair n (senderAt k) (receiverAt k) ≡ false → x ≡ 0
+
+pub count-facts : (n k x : ℕ) → countInRange n k x ≡ true → CountFacts n k x
+unfolding countInRange
+count-facts n k x e =
+    record {
+      bounded = leb-true x trafficEnd (both-left (leb x trafficEnd) _ e);
+      none = λ q. ⊎-elim (λ z. eqb-true x 0 z) (λ z. absurd (true≢false (sym z ∙ q))) (either (eqb x 0) _ (both-right (leb x trafficEnd) _ e));
+    }
+
 -- ── a table ──
 pub every-at : {A : Type 0} (f : ℕ → A → Bool) (k : ℕ) (l : List A) (i : ℕ) (d : A) → every f k l ≡ true → i < length l → f (k + i) (getD l i d) ≡ true
 unfolding every
 every-at f k [] i d e h = absurd (omega arith)
 every-at f k (x ∷ l) zero d e h = subst (λ (j : ℕ). f j x ≡ true) (omega arith) (both-left (f k x) _ e)
 every-at f k (x ∷ l) (suc i) d e h = subst (λ (j : ℕ). f j (getD l i d) ≡ true) (omega arith) (every-at f (k + 1) l i d (both-right (f k x) _ e) (omega arith))
+
+pub upTo-at : (k : ℕ) (f : ℕ → Bool) (j : ℕ) → upTo k f ≡ true → 1 ≤ j → j ≤ k → f j ≡ true
+unfolding upTo
+upTo-at zero f j e l h = absurd (omega arith)
+upTo-at (suc k) f j e l h = at-last (eqb j (suc k)) refl (upTo-at k f j (both-left (upTo k f) _ e) l)
+  where
+    at-last : (t : Bool) → eqb j (suc k) ≡ t → (j ≤ k → f j ≡ true) → f j ≡ true
+    at-last true q g = subst (λ (i : ℕ). f i ≡ true) (sym (eqb-true j (suc k) q)) (both-right (upTo k f) _ e)
+    at-last false q g = let d = eqb-false j (suc k) q in g (omega arith)
 
 -- the tests of a table after the first
 abbrev tableTests : State → List Bool
@@ -240,6 +272,7 @@ tableTests s =
     ∷ leb (length (s .queue)) queueLimit
     ∷ every (nodeInRange (s .n)) 1 (s .nodes)
     ∷ every (λ k. messageInRange (s .n)) 1 (s .queue)
+    ∷ trafficInRange s
     ∷ []
 
 table-parts : (s : State) → inRange s ≡ true → Hold (leb 1 (s .n) ∷ tableTests s)
@@ -256,6 +289,48 @@ pub in-range-size : (s : State) → inRange s ≡ true → (1 ≤ s .n) × (s .n
 in-range-size s e =
     let r = table-parts s e in
     (leb-true 1 (s .n) (r .0), leb-true (s .n) 16 (r .1 .0), eqb-true _ _ (r .1 .1 .0), leb-true _ 64 (r .1 .1 .1 .0))
+
+in-range-traffic : (s : State) → inRange s ≡ true → trafficInRange s ≡ true
+in-range-traffic s e = table-parts s e .1 .1 .1 .1 .1 .1 .0
+
+traffic-parts : (s : State) → inRange s ≡ true
+    → Hold (countsInRange (s .n) (s .sent) ∷ countsInRange (s .n) (s .delivered) ∷ countsInRange (s .n) (s .lost) ∷ upTo (s .n) (λ a. upTo (s .n) (λ b. addsUp s a b)) ∷ [])
+unfolding trafficInRange
+traffic-parts s e = parts _ (countsInRange (s .n) (s .delivered) ∷ countsInRange (s .n) (s .lost) ∷ upTo (s .n) (λ a. upTo (s .n) (λ b. addsUp s a b)) ∷ []) (in-range-traffic s e)
+
+-- of a list of counts in range
+pub counts-length : (n : ℕ) (l : List ℕ) → countsInRange n l ≡ true → length l ≡ 256
+unfolding countsInRange
+counts-length n l e = eqb-true _ _ (both-left (eqb (length l) countPlaces) _ e)
+
+pub counts-each : (n : ℕ) (l : List ℕ) → countsInRange n l ≡ true → every (countInRange n) 0 l ≡ true
+unfolding countsInRange
+counts-each n l e = both-right (eqb (length l) countPlaces) _ e
+
+pub in-range-places : (s : State) → inRange s ≡ true → (length (s .sent) ≡ 256) × (length (s .delivered) ≡ 256) × (length (s .lost) ≡ 256)
+in-range-places s e =
+    let r = traffic-parts s e in
+    (counts-length (s .n) _ (r .0), counts-length (s .n) _ (r .1 .0), counts-length (s .n) _ (r .1 .1 .0))
+
+pub in-range-each : (s : State) → inRange s ≡ true
+    → (every (countInRange (s .n)) 0 (s .sent) ≡ true) × (every (countInRange (s .n)) 0 (s .delivered) ≡ true) × (every (countInRange (s .n)) 0 (s .lost) ≡ true)
+in-range-each s e =
+    let r = traffic-parts s e in
+    (counts-each (s .n) _ (r .0), counts-each (s .n) _ (r .1 .0), counts-each (s .n) _ (r .1 .1 .0))
+
+-- no count of a list in range is above the end
+pub count-bounded : (n : ℕ) (l : List ℕ) (a b : ℕ) → length l ≡ 256 → every (countInRange n) 0 l ≡ true → Counting a b → countAt l a b ≤ trafficEnd
+count-bounded n l a b h e p =
+    count-facts n _ _ (every-at (countInRange n) 0 l (pairPlace a b) 0 e (omega (arith, h, p .low, p .high, p .low-to, p .high-to))) .bounded
+
+-- "Sent is delivered plus lost plus those waiting"
+pub in-range-sum : (s : State) (a b : ℕ) → inRange s ≡ true → 1 ≤ a → a ≤ s .n → 1 ≤ b → b ≤ s .n
+    → countAt (s .sent) a b ≡ countAt (s .delivered) a b + countAt (s .lost) a b + howMany (goes a b) (s .queue)
+in-range-sum s a b e l h m k =
+    eqb-true _ _
+    (upTo-at (s .n) (λ y. addsUp s a y) b
+    (upTo-at (s .n) (λ x. upTo (s .n) (λ y. addsUp s x y)) a (traffic-parts s e .1 .1 .1 .0) l h)
+    m k)
 
 pub in-range-node : (s : State) (j : ℕ) → inRange s ≡ true → 1 ≤ j → j ≤ s .n → nodeInRange (s .n) j (nodeAt s j) ≡ true
 in-range-node s j e l h =

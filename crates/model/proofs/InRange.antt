@@ -2,7 +2,7 @@
 use Prim.Native.Nat.{ℕ, zero, suc, _+_, _-_, _<_, _≤_}
 use native.Mathlib.Omega.{arith}
 use native.Mathlib.Nat.{le-refl}
-use mathlib.Core.Bool.{Bool, true, false, _&&_, true≢false}
+use mathlib.Core.Bool.{Bool, true, false, _&&_, _||_, true≢false}
 use mathlib.Core.Logic.{inl}
 use mathlib.Core.Path.{_≡_, refl, sym, _∙_, ap, subst}
 use mathlib.Core.List.{List, [], _∷_, _++_}
@@ -11,17 +11,20 @@ use lib.ListN.{length, set, replicate, length-append, length-set, length-replica
 use borrow.Author.Tests.{eqb-true, eqb-false, eq-eqb, le-leb, not-true, not-false}
 use Rattle.node_set.proofs.Laws.{empty-within, empty-lacks}
 use Rattle.model.specs.Pick.{by-test}
-use Rattle.model.specs.Limits.{nodeLimit, queueLimit, counterEnd, callEnd}
-use Rattle.model.specs.Range.{nodeInRange, messageInRange}
+use Rattle.model.specs.Limits.{nodeLimit, queueLimit, counterEnd, callEnd, trafficEnd}
+use Rattle.model.specs.Counts.{pairPlace, senderAt, receiverAt, countAt, oneMore, noCounts}
+use Rattle.model.specs.Range.{isNode, isPair, nodeInRange, messageInRange, countInRange}
 use Rattle.model.specs.React.{react}
-use Rattle.model.specs.State.{State, startingNode, start, nodeAt, waits, oldest, withoutOldest, every, inRange}
-use Rattle.model.specs.Step.{actor, reactionTo, remaining, sent, effect, wrongTask, wrongStatus, noneWaits, isSending, Ground, grounds, Result, refused, accepted, judged, step, kept, after, runFrom, run}
+use Rattle.model.specs.State.{State, startingNode, start, nodeAt, waits, goes, oldest, withoutOldest, howMany, every, upTo, addsUp, countsInRange, trafficInRange, inRange}
+use Rattle.model.specs.Step.{actor, reactionTo, remaining, sent, withSent, withDelivered, withLost, effect, wrongNumber, wrongTask, wrongStatus, noneWaits, isSending, pairAtEnd, Ground, grounds, Result, refused, accepted, judged, step, kept, after, runFrom, run}
 use Rattle.model.specs.Claims.{StaysInRange}
-use Rattle.model.proofs.Judged.{Clear, by-step, accepted-is}
+use Rattle.model.specs.Traffic.{sends, delivers, loses}
+use Rattle.model.proofs.Judged.{Clear, NotAtEnd, by-step, accepted-is}
 use Rattle.model.proofs.Local.{both-left, both-right}
 use Rattle.model.proofs.Locality.{taken-out}
 use Rattle.model.proofs.Numbers.{actor-in}
-use Rattle.model.proofs.Fields.{given-is, NodeFacts, node-facts, message-facts, in-range-nodes, in-range-queue, in-range-size, in-range-node, in-range-oldest, oldest-goes}
+use Rattle.model.proofs.Fields.{node-is, other-is, given-is, NodeFacts, node-facts, message-facts, Counting, count-bounded, in-range-nodes, in-range-queue, in-range-size, in-range-places, in-range-each, in-range-sum, in-range-node, in-range-oldest, oldest-goes}
+use Rattle.model.proofs.Counts.{none-counted, many-append, upTo-all, is-count, pair-counting, sent-more, sent-room, sent-length, delivered-more, delivered-length, lost-more, lost-length, out-counted}
 use Rattle.model.proofs.Range.{both, is-node, Place, OutgoingIn, ReactionIn, Room, InputIn, react-in}
 use Rattle.model.specs.declared.Message.{Message}
 use Rattle.model.specs.declared.Outgoing.{Outgoing}
@@ -33,7 +36,7 @@ use Rattle.model.specs.declared.Event.{Event}
 use Rattle.model.specs.declared.Event.the-variants.{Crash, Recover, Check, Timeout, Tick, Expire, Finish, Deliver, Lose}
 
 -- ── a test of every element ──
-every-set : {A : Type 0} (f : ℕ → A → Bool) (k : ℕ) (l : List A) (i : ℕ) (x : A) → every f k l ≡ true → f (k + i) x ≡ true → every f k (set l i x) ≡ true
+pub every-set : {A : Type 0} (f : ℕ → A → Bool) (k : ℕ) (l : List A) (i : ℕ) (x : A) → every f k l ≡ true → f (k + i) x ≡ true → every f k (set l i x) ≡ true
 unfolding every
 every-set f k [] i x e h = refl
 every-set f k (y ∷ l) zero x e h = both (f k x) _ (subst (λ (j : ℕ). f j x ≡ true) (omega arith) h) (both-right (f k y) _ e)
@@ -41,7 +44,7 @@ every-set f k (y ∷ l) (suc i) x e h =
     both (f k y) _ (both-left (f k y) _ e)
     (every-set f (k + 1) l i x (both-right (f k y) _ e) (subst (λ (j : ℕ). f j x ≡ true) (omega arith) h))
 
-every-replicate : {A : Type 0} (f : ℕ → A → Bool) (k n : ℕ) (x : A) → ((j : ℕ) → f j x ≡ true) → every f k (replicate n x) ≡ true
+pub every-replicate : {A : Type 0} (f : ℕ → A → Bool) (k n : ℕ) (x : A) → ((j : ℕ) → f j x ≡ true) → every f k (replicate n x) ≡ true
 unfolding every
 every-replicate f k zero x h = refl
 every-replicate f k (suc n) x h = both (f k x) _ (h k) (every-replicate f (k + 1) n x h)
@@ -89,7 +92,7 @@ spare : (x : Bool) (a b : ℕ) → (x && eqb a b) ≡ false → a ≤ b → x �
 spare true a b e h t = let d = eqb-false a b e in omega arith
 spare false a b e h t = absurd (true≢false (sym t))
 
-record EventIn (s : State) (e : Event) : Type 0 where
+pub record EventIn (s : State) (e : Event) : Type 0 where
   pub place : Place (s .n) (actor e)
   pub reaction : ReactionIn (s .n) (actor e) (reactionTo s e)
   pub fewer : length (remaining s e) ≤ length (s .queue)
@@ -125,7 +128,7 @@ module _ (s : State) (e : Event) (c : Clear s e) where
         stays = rw q (every-without (messageInRange (s .n)) a b 1 (s .queue) (in-range-queue s (c .in-range)));
       }
 
-event-in : (s : State) (e : Event) → Clear s e → EventIn s e
+pub event-in : (s : State) (e : Event) → Clear s e → EventIn s e
 unfolding reactionTo remaining wrongTask wrongStatus noneWaits
 event-in s (Crash i) c = alone s (Crash i) c refl (acts s (Crash i) c Input.Crash refl tt)
 event-in s (Recover i) c = alone s (Recover i) c refl (acts s (Recover i) c Input.Recover refl tt)
@@ -144,9 +147,95 @@ event-in s (Deliver a b) c =
 event-in s (Lose a b) c =
     taking s (Lose a b) c a b (not-false _ (c .waiting)) refl (record { node = stands s (Lose a b) c; outgoing = tt })
 
-effect-in : (s : State) (e : Event) → Clear s e → inRange (effect s e) ≡ true
-unfolding effect inRange
-effect-in s e c =
+-- the counts after an accepted event
+pub record Counted (s : State) (e : Event) (a b : ℕ) : Type 0 where
+  pub sent : countAt (effect s e .sent) a b ≡ countAt (s .sent) a b + sends a b s e
+  pub delivered : countAt (effect s e .delivered) a b ≡ countAt (s .delivered) a b + delivers a b s e
+  pub lost : countAt (effect s e .lost) a b ≡ countAt (s .lost) a b + loses a b s e
+  pub waiting : howMany (goes a b) (effect s e .queue) + delivers a b s e + loses a b s e ≡ howMany (goes a b) (s .queue) + sends a b s e
+
+pub event-counted : (s : State) (e : Event) → Clear s e → (a b : ℕ) → Counting a b → Counted s e a b
+unfolding effect
+event-counted s e c a b p =
+    record {
+      sent = sent-more (s .n) (s .sent) (reactionTo s e .outgoing) a b small (size .0) (event-in s e c .reaction .outgoing) p;
+      delivered = delivered-more (s .n) (s .delivered) a b small (size .1) p s e (c .number);
+      lost = lost-more (s .n) (s .lost) a b small (size .2) p s e (c .number);
+      waiting = omega (arith, many-append (goes a b) (remaining s e) (sent (reactionTo s e .outgoing)), out-counted s e a b (c .waiting));
+    }
+  where
+    small : s .n ≤ 16
+    small = in-range-size s (c .in-range) .1
+
+    size : (length (s .sent) ≡ 256) × (length (s .delivered) ≡ 256) × (length (s .lost) ≡ 256)
+    size = in-range-places s (c .in-range)
+
+-- one more of a pair is in range below the end
+pub more-each : (n : ℕ) (l : List ℕ) (a b : ℕ) → n ≤ 16 → isPair n a b ≡ true → every (countInRange n) 0 l ≡ true → countAt l a b < trafficEnd → every (countInRange n) 0 (oneMore l a b) ≡ true
+more-each n l a b h p e k = every-set (countInRange n) 0 l (pairPlace a b) (countAt l a b + 1) e (is-count n a b (countAt l a b + 1) h p (omega arith))
+
+sent-each : (n : ℕ) (l : List ℕ) (o : Outgoing) → n ≤ 16 → length l ≡ 256 → OutgoingIn n o → pairAtEnd l o ≡ false → every (countInRange n) 0 l ≡ true → every (countInRange n) 0 (withSent l o) ≡ true
+unfolding messageInRange
+sent-each n l Nothing h k x d e = e
+sent-each n l (Send m) h k x d e =
+    let p : isPair n (m .sender) (m .receiver) ≡ true = both-left _ _ (both-left _ _ (both-left _ _ (both-left _ _ x))) in
+    let b = count-bounded n l (m .sender) (m .receiver) k e (pair-counting n (m .sender) (m .receiver) h p) in
+    let z = eqb-false (countAt l (m .sender) (m .receiver)) trafficEnd d in
+    more-each n l (m .sender) (m .receiver) h p e (omega arith)
+
+delivered-each : (n : ℕ) (l : List ℕ) (s : State) (e : Event) → n ≤ 16 → wrongNumber n e ≡ false → every (countInRange n) 0 l ≡ true
+    → ((a b : ℕ) → isPair n a b ≡ true → countAt l a b + delivers a b s e ≤ trafficEnd) → every (countInRange n) 0 (withDelivered l e) ≡ true
+delivered-each n l s (Crash i) h q x f = x
+delivered-each n l s (Recover i) h q x f = x
+delivered-each n l s (Check i) h q x f = x
+delivered-each n l s (Timeout i) h q x f = x
+delivered-each n l s (Tick i) h q x f = x
+delivered-each n l s (Expire i) h q x f = x
+delivered-each n l s (Finish i t) h q x f = x
+delivered-each n l s (Deliver a b) h q x f =
+    let p = not-false _ q in
+    let k : countAt l a b + 1 ≤ trafficEnd = rw (eq-eqb a a refl, eq-eqb b b refl) at (f a b p) in
+    more-each n l a b h p x (omega arith)
+delivered-each n l s (Lose a b) h q x f = x
+
+lost-each : (n : ℕ) (l : List ℕ) (s : State) (e : Event) → n ≤ 16 → wrongNumber n e ≡ false → every (countInRange n) 0 l ≡ true
+    → ((a b : ℕ) → isPair n a b ≡ true → countAt l a b + loses a b s e ≤ trafficEnd) → every (countInRange n) 0 (withLost l e) ≡ true
+lost-each n l s (Crash i) h q x f = x
+lost-each n l s (Recover i) h q x f = x
+lost-each n l s (Check i) h q x f = x
+lost-each n l s (Timeout i) h q x f = x
+lost-each n l s (Tick i) h q x f = x
+lost-each n l s (Expire i) h q x f = x
+lost-each n l s (Finish i t) h q x f = x
+lost-each n l s (Deliver a b) h q x f = x
+lost-each n l s (Lose a b) h q x f =
+    let p = not-false _ q in
+    let k : countAt l a b + 1 ≤ trafficEnd = rw (eq-eqb a a refl, eq-eqb b b refl) at (f a b p) in
+    more-each n l a b h p x (omega arith)
+
+-- the counts of a pair of nodes after an accepted event
+record PairIn (s : State) (e : Event) (a b : ℕ) : Type 0 where
+  pub sum : countAt (effect s e .sent) a b ≡ countAt (effect s e .delivered) a b + countAt (effect s e .lost) a b + howMany (goes a b) (effect s e .queue)
+  pub delivered : countAt (s .delivered) a b + delivers a b s e ≤ trafficEnd
+  pub lost : countAt (s .lost) a b + loses a b s e ≤ trafficEnd
+
+pair-in : (s : State) (e : Event) → Clear s e → NotAtEnd s e → (a b : ℕ) → 1 ≤ a → a ≤ s .n → 1 ≤ b → b ≤ s .n → PairIn s e a b
+unfolding effect
+pair-in s e c d a b l h m k =
+    let n = in-range-size s (c .in-range) .1 in
+    let p : Counting a b = record { low = l; high = omega (arith, n); low-to = m; high-to = omega (arith, n) } in
+    let x = event-counted s e c a b p in
+    let r = sent-room (s .sent) (reactionTo s e .outgoing) a b d (count-bounded (s .n) (s .sent) a b (in-range-places s (c .in-range) .0) (in-range-each s (c .in-range) .0) p) in
+    let t = in-range-sum s a b (c .in-range) l h m k in
+    record {
+      sum = omega (arith, x .sent, x .delivered, x .lost, x .waiting, t);
+      delivered = omega (arith, x .waiting, t, r);
+      lost = omega (arith, x .waiting, t, r);
+    }
+
+effect-in : (s : State) (e : Event) → Clear s e → NotAtEnd s e → inRange (effect s e) ≡ true
+unfolding effect inRange trafficInRange countsInRange
+effect-in s e c d =
     rw (
       le-leb 1 (s .n) (size .0),
       le-leb (s .n) nodeLimit (size .1),
@@ -154,6 +243,14 @@ effect-in s e c =
       le-leb _ queueLimit (sent-fits (remaining s e) (reactionTo s e .outgoing) (omega (arith, x .fewer, size .3)) (c .room)),
       every-set (nodeInRange (s .n)) 1 (s .nodes) (actor e - 1) (reactionTo s e .node) (in-range-nodes s (c .in-range)) stored,
       every-append (messageInRange (s .n)) 1 (remaining s e) (sent (reactionTo s e .outgoing)) (x .stays) (sent-in (s .n) (reactionTo s e .outgoing) (x .reaction .outgoing)),
+      eq-eqb _ 256 (sent-length (s .sent) (reactionTo s e .outgoing) ∙ places .0),
+      eq-eqb _ 256 (delivered-length (s .delivered) e ∙ places .1),
+      eq-eqb _ 256 (lost-length (s .lost) e ∙ places .2),
+      sent-each (s .n) (s .sent) (reactionTo s e .outgoing) (size .1) (places .0) (x .reaction .outgoing) d (each .0),
+      delivered-each (s .n) (s .delivered) s e (size .1) (c .number) (each .1) (λ a b q. paired a b q .delivered),
+      lost-each (s .n) (s .lost) s e (size .1) (c .number) (each .2) (λ a b q. paired a b q .lost),
+      upTo-all (s .n) (λ a. upTo (s .n) (λ b. addsUp (effect s e) a b)) (λ a l h. upTo-all (s .n) (λ b. addsUp (effect s e) a b) (λ b m k.
+          eq-eqb _ _ (pair-in s e c d a b l h m k .sum))),
     )
   where
     x : EventIn s e
@@ -162,17 +259,29 @@ effect-in s e c =
     size : (1 ≤ s .n) × (s .n ≤ 16) × (length (s .nodes) ≡ s .n) × (length (s .queue) ≤ 64)
     size = in-range-size s (c .in-range)
 
+    places : (length (s .sent) ≡ 256) × (length (s .delivered) ≡ 256) × (length (s .lost) ≡ 256)
+    places = in-range-places s (c .in-range)
+
+    each : (every (countInRange (s .n)) 0 (s .sent) ≡ true) × (every (countInRange (s .n)) 0 (s .delivered) ≡ true) × (every (countInRange (s .n)) 0 (s .lost) ≡ true)
+    each = in-range-each s (c .in-range)
+
+    paired : (a b : ℕ) → isPair (s .n) a b ≡ true → PairIn s e a b
+    paired a b q =
+        let i = node-is (s .n) a (both-left _ _ q) in
+        let j = other-is (s .n) a b (both-right (isNode (s .n) a) _ q) in
+        pair-in s e c d a b (i .low) (i .high) (j .low) (j .high)
+
     stored : nodeInRange (s .n) (1 + (actor e - 1)) (reactionTo s e .node) ≡ true
     stored = subst (λ (j : ℕ). nodeInRange (s .n) j (reactionTo s e .node) ≡ true) (omega (arith, x .place .low)) (x .reaction .node)
 
 -- ── refusals ──
 
 -- no ground of the list numbered x applies, where those before it do not
-data Misses (x : ℕ) : List Ground → Type 0 where
+pub data Misses (x : ℕ) : List Ground → Type 0 where
   end : Misses x []
   past : {g : Ground} {gs : List Ground} → (g .number ≡ x → g .applies ≡ true → ⊥) → (g .applies ≡ false → Misses x gs) → Misses x (g ∷ gs)
 
-not-refused : (x : ℕ) (u : State) (k : Mark) {gs : List Ground} → Misses x gs → judged (accepted u k) gs ≡ refused x → ⊥
+pub not-refused : (x : ℕ) (u : State) (k : Mark) {gs : List Ground} → Misses x gs → judged (accepted u k) gs ≡ refused x → ⊥
 unfolding judged
 not-refused x u k end = λ e. let z : _≡_ {A = ℕ} 0 1 = cc in omega arith
 not-refused x u k (past f h) = by-test (λ (r : Result). r ≡ refused x → ⊥) (λ t q. f (cc) t) (λ t. not-refused x u k (h t))
@@ -189,7 +298,8 @@ in-range-not-one s e r =
     (λ _. past (λ z _. omega arith)
     (λ _. past (λ z _. omega arith)
     (λ _. past (λ z _. omega arith)
-    (λ _. past (λ z _. omega arith) (λ _. end))))))))))
+    (λ _. past (λ z _. omega arith)
+    (λ _. past (λ z _. omega arith) (λ _. end)))))))))))
 
 -- a delivery takes a message out, so there is room for another
 pub delivery-never-full : (s : State) (a b : ℕ) → step s (Deliver a b) ≡ refused 14 → ⊥
@@ -204,20 +314,29 @@ delivery-never-full s a b =
     (λ _. past (λ z _. omega arith)
     (λ w. past (λ z _. omega arith)
     (λ _. past (λ z _. omega arith)
-    (λ _. past (λ _ t. full (not-false _ r) (not-false _ w) (both-right (isSending (reactionTo s (Deliver a b) .outgoing)) _ t)) (λ _. end))))))))))
+    (λ _. past (λ _ t. full (not-false _ r) (not-false _ w) (both-right (isSending (reactionTo s (Deliver a b) .outgoing)) _ t))
+    (λ _. past (λ z _. omega arith) (λ _. end)))))))))))
   where
     full : inRange s ≡ true → waits a b (s .queue) ≡ true → eqb (length (withoutOldest a b (s .queue))) queueLimit ≡ true → ⊥
     full r w e = omega (arith, eqb-true (length (withoutOldest a b (s .queue))) queueLimit e, without-length a b (s .queue) w, in-range-size s r .3)
 
 -- ── the claims ──
-start-in : (n : ℕ) → 1 ≤ n → n ≤ nodeLimit → inRange (start n) ≡ true
-unfolding inRange every
+pub none-in : (n k : ℕ) → countInRange n k 0 ≡ true
+unfolding countInRange
+none-in n k = refl
+
+pub start-in : (n : ℕ) → 1 ≤ n → n ≤ nodeLimit → inRange (start n) ≡ true
+unfolding inRange trafficInRange countsInRange every howMany
 start-in n l h =
     rw (
       le-leb 1 n l,
       le-leb n nodeLimit h,
       eq-eqb _ n (length-replicate n startingNode),
       every-replicate (nodeInRange n) 1 n startingNode (λ j. is-node n j startingNode (starting j)),
+      every-replicate (countInRange n) 0 256 0 (none-in n),
+      upTo-all n (λ a. upTo n (λ b. addsUp (start n) a b)) (λ a i j. upTo-all n (λ b. addsUp (start n) a b) (λ b k m.
+          let q = none-counted a b (record { low = i; high = omega (arith, h); low-to = k; high-to = omega (arith, h) }) in
+          eq-eqb (countAt noCounts a b) (countAt noCounts a b + countAt noCounts a b + 0) (omega (arith, q)))),
     )
   where
     starting : (j : ℕ) → NodeFacts n j startingNode
@@ -238,14 +357,14 @@ start-in n l h =
 pub run-in : (s : State) (es : List Event) → inRange s ≡ true → inRange (runFrom s es) ≡ true
 unfolding runFrom
 run-in s [] r = r
-run-in s (e ∷ es) r = run-in (after s e) es (by-step (λ x. inRange (kept s x) ≡ true) s e (λ _. r) (λ c. effect-in s e c))
+run-in s (e ∷ es) r = run-in (after s e) es (by-step (λ x. inRange (kept s x) ≡ true) s e (λ _. r) (λ c d. effect-in s e c d))
 
 pub stays-in-range : StaysInRange
 stays-in-range =
     record {
       starts = start-in;
       keeps = λ s e u k q.
-          let a = accepted-is s e u k q in subst (λ (v : State). inRange v ≡ true) (sym (a .state)) (effect-in s e (a .clear));
+          let a = accepted-is s e u k q in subst (λ (v : State). inRange v ≡ true) (sym (a .state)) (effect-in s e (a .clear) (a .not-at-end));
       runs = λ n l h es. run-in (start n) es (start-in n l h);
       never-one = λ n l h es e. in-range-not-one (run n es) e (run-in (start n) es (start-in n l h));
     }

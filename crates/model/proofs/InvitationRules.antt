@@ -9,14 +9,17 @@ use lib.ListN.{length, getD, set}
 use borrow.Author.Tests.{eqb-true, eq-eqb, le-leb, ne-eqb}
 use Rattle.node_set.specs.NodeSet.{without}
 use Rattle.model.specs.Pick.{pick, pick-true, by-test}
-use Rattle.model.specs.Limits.{queueLimit, counterEnd, callEnd}
+use Rattle.model.specs.Limits.{queueLimit, counterEnd, callEnd, trafficEnd}
+use Rattle.model.specs.Counts.{countAt, oneMore}
 use Rattle.model.specs.Node.{isNormal, ownerOf, nextCall, invited, calls, replies}
 use Rattle.model.specs.Procedures.{next, reaction, forwardNext}
 use Rattle.model.specs.React.{onlyReplies, onInvitation, react}
 use Rattle.model.specs.State.{State, start, startingNode, nodeAt, goes, waits, oldest, withoutOldest, inRange}
-use Rattle.model.specs.Step.{reactionTo, remaining, sent, effect, wrongNumber, forms, isCalling, isSending, grounds, Result, refused, accepted, judged, step, kept, runFrom, run}
-use Rattle.model.specs.Claims.{InvitationReaches, Owns, Holds, NoPlainReply, withPlainReply, withCall, InvitationRules}
+use Rattle.model.specs.Step.{reactionTo, remaining, sent, withSent, effect, wrongNumber, forms, isCalling, isSending, pairAtEnd, grounds, Result, refused, accepted, judged, step, kept, runFrom, run}
+use Rattle.model.specs.Claims.{InvitationReaches, Owns, Holds, NoPlainReply, withPlainReply, withCall, MaySend, InvitationRules}
 use Rattle.model.proofs.Judged.{Clear, by-step, clear-accepts}
+use Rattle.model.proofs.Refusals.{clear-ends}
+use Rattle.model.proofs.Traffic.{run-n, traffic-agrees}
 use Rattle.model.proofs.Local.{both-left, both-right}
 use Rattle.model.proofs.Whole.{run-append}
 use Rattle.model.proofs.Fields.{IsNode, IsOther, MessageFacts, message-facts, in-range-size, in-range-oldest, oldest-goes}
@@ -128,24 +131,47 @@ module _ (s : State) (a b : ℕ) (x : InvitationReaches s a b) where
       off false e = refl
 
   -- what the node does says what the step is
-  leaves : (d : Node) (y : Message) → reactionTo s (Deliver a b) ≡ reaction d (Send y) Plain → Clear s (Deliver a b)
-      → step s (Deliver a b) ≡ accepted (record { n = s .n; nodes = set (s .nodes) (b - 1) d; queue = withoutOldest a b (s .queue) ++ (y ∷ []) }) Plain
-  unfolding effect remaining
-  leaves d y e h =
-      clear-accepts s (Deliver a b) h
-      ∙ ap (λ (r : Reaction). accepted (record { n = s .n; nodes = set (s .nodes) (b - 1) (r .node); queue = withoutOldest a b (s .queue) ++ sent (r .outgoing) }) (r .mark)) e
+  abbrev left : Reaction → State
+  left r = record {
+    n = s .n;
+    nodes = set (s .nodes) (b - 1) (r .node);
+    queue = withoutOldest a b (s .queue) ++ sent (r .outgoing);
+    sent = withSent (s .sent) (r .outgoing);
+    delivered = oneMore (s .delivered) a b;
+    lost = s .lost;
+  }
 
-  plainly : onlyReplies b (nodeAt s b) (oldest a b (s .queue) .group) ≡ true → step s (Deliver a b) ≡ accepted (withPlainReply s a b) Plain
-  plainly e =
-      leaves (nodeAt s b) (replies b a (oldest a b (s .queue) .call) true) answer
-      (clear (ap (λ (r : Reaction). forms (r .mark)) answer) (ap (λ (r : Reaction). isCalling (r .outgoing) && eqb (nodeAt s b .last .number) callEnd) answer))
-      ∙ ap (λ (l : List Node). accepted (record { n = s .n; nodes = l; queue = withPlainReply s a b .queue }) Plain) (set-same (s .nodes) (b - 1) startingNode)
-    where
-      answer : reactionTo s (Deliver a b) ≡ reaction (nodeAt s b) (Send (replies b a (oldest a b (s .queue) .call) true)) Plain
-      answer =
-          reacts s a b (x .kind)
-          ∙ plain-reply b (nodeAt s b) (oldest a b (s .queue)) e
-          ∙ ap (λ (j : ℕ). reaction (nodeAt s b) (Send (replies b j (oldest a b (s .queue) .call) true)) Plain) from
+  leaves : (d : Node) (y : Message) → (countAt (s .sent) (y .sender) (y .receiver) ≡ trafficEnd → ⊥) → reactionTo s (Deliver a b) ≡ reaction d (Send y) Plain → Clear s (Deliver a b)
+      → step s (Deliver a b) ≡ accepted (left (reaction d (Send y) Plain)) Plain
+  unfolding effect remaining
+  leaves d y w e h =
+      clear-accepts s (Deliver a b) h (ap (λ (r : Reaction). pairAtEnd (s .sent) (r .outgoing)) e ∙ ne-eqb _ trafficEnd w)
+      ∙ ap (λ (r : Reaction). accepted (left r) (r .mark)) e
+
+  module _ (e : onlyReplies b (nodeAt s b) (oldest a b (s .queue) .group) ≡ true) where
+    answer : reactionTo s (Deliver a b) ≡ reaction (nodeAt s b) (Send (replies b a (oldest a b (s .queue) .call) true)) Plain
+    answer =
+        reacts s a b (x .kind)
+        ∙ plain-reply b (nodeAt s b) (oldest a b (s .queue)) e
+        ∙ ap (λ (j : ℕ). reaction (nodeAt s b) (Send (replies b j (oldest a b (s .queue) .call) true)) Plain) from
+
+    plain-clear : Clear s (Deliver a b)
+    plain-clear = clear (ap (λ (r : Reaction). forms (r .mark)) answer) (ap (λ (r : Reaction). isCalling (r .outgoing) && eqb (nodeAt s b .last .number) callEnd) answer)
+
+    plainly : (countAt (s .sent) b a ≡ trafficEnd → ⊥) → step s (Deliver a b) ≡ accepted (withPlainReply s a b) Plain
+    plainly w =
+        leaves (nodeAt s b) (replies b a (oldest a b (s .queue) .call) true) w answer plain-clear
+        ∙ ap (λ (l : List Node). accepted (record {
+          n = s .n;
+          nodes = l;
+          queue = withPlainReply s a b .queue;
+          sent = withPlainReply s a b .sent;
+          delivered = withPlainReply s a b .delivered;
+          lost = s .lost;
+        }) Plain) (set-same (s .nodes) (b - 1) startingNode)
+
+    plain-end : countAt (s .sent) b a ≡ trafficEnd → step s (Deliver a b) ≡ refused 17
+    plain-end w = clear-ends s (Deliver a b) plain-clear (ap (λ (r : Reaction). pairAtEnd (s .sent) (r .outgoing)) answer ∙ eq-eqb _ _ w)
 
   module _ (y : NoPlainReply s a b) where
     calling-clear : nodeAt s b .last .number < callEnd → Clear s (Deliver a b)
@@ -162,20 +188,20 @@ module _ (s : State) (a b : ℕ) (x : InvitationReaches s a b) where
         ∙ ap (λ (j : ℕ). forwardNext b (invited (nodeAt s b) (oldest a b (s .queue) .group)) (rest s a b (x .kind)) j (oldest a b (s .queue) .call)) from
         ∙ ap joins e
 
-    accepts : nodeAt s b .last .number < callEnd → rest s a b (x .kind) ≡ 0
+    accepts : MaySend s b → nodeAt s b .last .number < callEnd → rest s a b (x .kind) ≡ 0
         → step s (Deliver a b)
         ≡ accepted (withCall s a b (Accepting a (oldest a b (s .queue) .call))
         (calls b 4 (ownerOf (oldest a b (s .queue) .group .number)) (nextCall (nodeAt s b)) (oldest a b (s .queue) .group))) Plain
     unfolding forwardNext
-    accepts l e = leaves _ _ (acting 0 e ∙ pick-true _ _) (calling-clear l)
+    accepts w l e = leaves _ _ (w _) (acting 0 e ∙ pick-true _ _) (calling-clear l)
 
-    forwards : nodeAt s b .last .number < callEnd → rest s a b (x .kind) ≡ nodeAt s b .members → 0 < nodeAt s b .members
+    forwards : MaySend s b → nodeAt s b .last .number < callEnd → rest s a b (x .kind) ≡ nodeAt s b .members → 0 < nodeAt s b .members
         → step s (Deliver a b)
         ≡ accepted (withCall s a b
         (Forwarding (without (nodeAt s b .members) (next (nodeAt s b .members))) (next (nodeAt s b .members)) a (oldest a b (s .queue) .call))
         (calls b 3 (next (nodeAt s b .members)) (nextCall (nodeAt s b)) (oldest a b (s .queue) .group))) Plain
     unfolding forwardNext pick
-    forwards l e p = leaves _ _ (acting (nodeAt s b .members) e ∙ rw (ne-eqb (nodeAt s b .members) 0 (λ q. omega arith))) (calling-clear l)
+    forwards w l e p = leaves _ _ (w _) (acting (nodeAt s b .members) e ∙ rw (ne-eqb (nodeAt s b .members) 0 (λ q. omega arith))) (calling-clear l)
 
     calls-end : nodeAt s b .last .number ≡ callEnd → step s (Deliver a b) ≡ refused 13
     unfolding step grounds judged pick
@@ -187,7 +213,7 @@ out-of-range : (s : State) (es : List Event) → inRange s ≡ false → runFrom
 unfolding runFrom
 out-of-range s [] r = refl
 out-of-range s (e ∷ es) r =
-    ap (λ (u : State). runFrom u es) (by-step (λ (x : Result). kept s x ≡ s) s e (λ _. refl) (λ c. absurd (true≢false (sym (c .in-range) ∙ r)))) ∙ out-of-range s es r
+    ap (λ (u : State). runFrom u es) (by-step (λ (x : Result). kept s x ≡ s) s e (λ _. refl) (λ c _. absurd (true≢false (sym (c .in-range) ∙ r)))) ∙ out-of-range s es r
 
 -- where a message waits, the table of a run is in range, whatever n is
 kind-in-range : (n : ℕ) (es : List Event) (a b : ℕ) → oldest a b (run n es .queue) .kind ≡ 3 → inRange (run n es) ≡ true
@@ -204,15 +230,22 @@ pub invitation-rules : InvitationRules
 unfolding runFrom
 invitation-rules =
     record {
-      not-normal = λ s a b x e. plainly s a b x (where-not-normal b (nodeAt s b) _ e);
-      owned = λ s a b x e. plainly s a b x (where-owned b (nodeAt s b) _ e);
-      held = λ s a b x e. plainly s a b x (where-held b (nodeAt s b) _ e);
-      forwards = λ s a b x y l o p. forwards s a b x y l (own s b o) p;
-      accepts = λ s a b x y l o. accepts s a b x y l (none s b o);
+      not-normal = λ s a b x w e. plainly s a b x (where-not-normal b (nodeAt s b) _ e) (w a);
+      owned = λ s a b x w e. plainly s a b x (where-owned b (nodeAt s b) _ e) (w a);
+      held = λ s a b x w e. plainly s a b x (where-held b (nodeAt s b) _ e) (w a);
+      forwards = λ s a b x w y l o p. forwards s a b x y w l (own s b o) p;
+      accepts = λ s a b x w y l o. accepts s a b x y w l (none s b o);
       calls-end = calls-end;
+      reply-end = λ s a b x e. plain-end s a b x (where-held b (nodeAt s b) _ e);
       runs = λ n es a b u k g.
+          let r = kind-in-range n es a b k in
+          let x : InvitationReaches (run n es) a b = record { in-range = r; not-down = u; kind = k } in
+          let h = where-held b (nodeAt (run n es) b) _ g in
+          let z = in-range-size (run n es) r in
+          let q = run-n (start n) es in
           run-append (start n) es (Deliver a b ∷ [])
-          ∙ ap (kept (run n es)) (plainly (run n es) a b (record { in-range = kind-in-range n es a b k; not-down = u; kind = k }) (where-held b (nodeAt (run n es) b) _ g));
+          ∙ ap (kept (run n es))
+          (plainly (run n es) a b x h (λ w. traffic-agrees n (omega (arith, q, z .0)) (omega (arith, q, z .1)) .never-seventeen es (Deliver a b) (plain-end (run n es) a b x h w)));
     }
   where
     own : (s : State) (b : ℕ) → nodeAt s b .coordinator ≡ b → pick (eqb (nodeAt s b .coordinator) b) (nodeAt s b .members) 0 ≡ nodeAt s b .members

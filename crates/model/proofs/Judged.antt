@@ -13,7 +13,7 @@ use Rattle.model.specs.Node.{isIdle, isWaiting, isCollecting, hasOpenCal
 use Rattle.model.specs.Procedures.{stays}
 use Rattle.model.specs.React.{react}
 use Rattle.model.specs.State.{State, nodeAt, oldest, inRange}
-use Rattle.model.specs.Step.{actor, reactionTo, remaining, effect, wrongNumber, wrongTask, wrongStatus, wrongActivity, noneWaits, forms, isCalling, isSending, Ground, grounds, Result, refused, accepted, judged, step}
+use Rattle.model.specs.Step.{actor, reactionTo, remaining, effect, wrongNumber, wrongTask, wrongStatus, wrongActivity, noneWaits, forms, isCalling, isSending, pairAtEnd, Ground, grounds, Result, refused, accepted, judged, step}
 use Rattle.model.specs.Claims.{NoneApplies}
 use Rattle.model.specs.declared.Activity.{Activity}
 use Rattle.model.specs.declared.Mark.{Mark}
@@ -28,7 +28,7 @@ unfolding judged
 judged-by P r [] f g = g tt
 judged-by P r (x ∷ gs) f g = by-test P (λ _. f (x .number)) (λ q. judged-by P r gs f (λ c. g (q, c)))
 
--- what is known where an event is accepted, ground by ground
+-- what is known where none of the grounds 1 to 14 applies, ground by ground
 pub record Clear (s : State) (e : Event) : Type 0 where
   pub in-range : inRange s ≡ true
   pub number : wrongNumber (s .n) e ≡ false
@@ -40,12 +40,17 @@ pub record Clear (s : State) (e : Event) : Type 0 where
   pub calls : isCalling (reactionTo s e .outgoing) && eqb (nodeAt s (actor e) .last .number) callEnd ≡ false
   pub room : isSending (reactionTo s e .outgoing) && eqb (length (remaining s e)) queueLimit ≡ false
 
+-- and 17 does not apply
+abbrev pub NotAtEnd : State → Event → Type 0
+NotAtEnd s e = pairAtEnd (s .sent) (reactionTo s e .outgoing) ≡ false
+
 -- what holds of every refusal, and of the effect where no ground applies, holds of the step
-pub by-step : (P : Result → Type 0) (s : State) (e : Event) → ((x : ℕ) → P (refused x)) → (Clear s e → P (accepted (effect s e) (reactionTo s e .mark))) → P (step s e)
+pub by-step : (P : Result → Type 0) (s : State) (e : Event) → ((x : ℕ) → P (refused x)) → (Clear s e → NotAtEnd s e → P (accepted (effect s e) (reactionTo s e .mark))) → P (step s e)
 unfolding step grounds
 by-step P s e f g =
     judged-by P _ _ f
-    (λ c. g (record {
+    (λ c. g
+    (record {
       in-range = not-false _ (c .0);
       number = c .1 .0;
       task = c .1 .1 .0;
@@ -55,7 +60,8 @@ by-step P s e f g =
       counter = c .1 .1 .1 .1 .1 .1 .0;
       calls = c .1 .1 .1 .1 .1 .1 .1 .0;
       room = c .1 .1 .1 .1 .1 .1 .1 .1 .0;
-    }))
+    })
+    (c .1 .1 .1 .1 .1 .1 .1 .1 .1 .0))
 
 judged-none : (x : Result) (gs : List Ground) → NoneApplies gs → judged x gs ≡ x
 unfolding judged
@@ -68,20 +74,21 @@ pub none-applies : (s : State) (e : Event) → NoneApplies (grounds s e) → ste
 unfolding step
 none-applies s e c = judged-none _ (grounds s e) c
 
-pub clear-accepts : (s : State) (e : Event) → Clear s e → step s e ≡ accepted (effect s e) (reactionTo s e .mark)
+pub clear-accepts : (s : State) (e : Event) → Clear s e → NotAtEnd s e → step s e ≡ accepted (effect s e) (reactionTo s e .mark)
 unfolding grounds
-clear-accepts s e c =
-    none-applies s e (ap not (c .in-range), (c .number, (c .task, (c .status, (c .activity, (c .waiting, (c .counter, (c .calls, (c .room, tt)))))))))
+clear-accepts s e c d =
+    none-applies s e (ap not (c .in-range), (c .number, (c .task, (c .status, (c .activity, (c .waiting, (c .counter, (c .calls, (c .room, (d, tt))))))))))
 
 -- what an accepted event is
 pub record Accepted (s : State) (e : Event) (u : State) (k : Mark) : Type 0 where
   pub clear : Clear s e
+  pub not-at-end : NotAtEnd s e
   pub state : u ≡ effect s e
   pub mark : k ≡ reactionTo s e .mark
 
 pub accepted-is : (s : State) (e : Event) (u : State) (k : Mark) → step s e ≡ accepted u k → Accepted s e u k
 accepted-is s e u k =
-    by-step (λ r. r ≡ accepted u k → Accepted s e u k) s e (λ x q. absurd (apart x q)) (λ c q. record { clear = c; state = (cc); mark = (cc) })
+    by-step (λ r. r ≡ accepted u k → Accepted s e u k) s e (λ x q. absurd (apart x q)) (λ c d q. record { clear = c; not-at-end = d; state = (cc); mark = (cc) })
   where
     apart : (x : ℕ) → refused x ≡ accepted u k → ⊥
     apart x q = let z : _≡_ {A = ℕ} 0 1 = cc in omega arith

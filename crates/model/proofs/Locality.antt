@@ -105,6 +105,9 @@ effect-little s e c low =
       one-out = takes-out s e c;
       one-in = refl;
       few = omega (arith, length-append (remaining s e) (sent (reactionTo s e .outgoing)), out-short (s .queue) e (remaining s e) (takes-out s e c), sent-short (reactionTo s e .outgoing));
+      sent-counts = refl;
+      delivered-counts = refl;
+      lost-counts = refl;
     }
 
 pub step-is-local : StepIsLocal

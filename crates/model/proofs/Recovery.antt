@@ -13,7 +13,7 @@ use Rattle.model.specs.Recovery.{recoveryRecords, stopped, recovered}
 use Rattle.model.specs.Procedures.{recovers, handNext, forwardNext, askedAll, askAt, askAfter}
 use Rattle.model.specs.React.{checked, timedOut, ticked, expired, resumed, onAreYouCoordinator, onAreYouThere, onInvitation, onAccept, onReady, onReply, received, react}
 use Rattle.model.specs.State.{State, nodeAt, oldest}
-use Rattle.model.specs.Step.{actor, reactionTo, remaining, sent, effect, grounds, accepted, judged, step}
+use Rattle.model.specs.Step.{actor, reactionTo, remaining, sent, withSent, withDelivered, withLost, effect, grounds, accepted, judged, step}
 use Rattle.model.specs.Claims.{recoveryGrounds, recoversAtExpire, recordAfter, RecoveryRules}
 use Rattle.model.proofs.Judged.{Clear, accepted-is, by-reaction}
 use Rattle.model.proofs.Fields.{node-is, node-facts, in-range-node, own-record}
@@ -173,15 +173,22 @@ module _ (s : State) (e : Event) (u : State) (q : step s e ≡ accepted u Recove
       .is
       (sym (accepted-is s e u Recovers q .mark))
 
-  abbrev stored : Node → List Message → State
-  stored c l = record { n = s .n; nodes = set (s .nodes) (actor e - 1) c; queue = l }
+  abbrev stored : Node → List Message → List ℕ → State
+  stored c l k = record {
+    n = s .n;
+    nodes = set (s .nodes) (actor e - 1) c;
+    queue = l;
+    sent = k;
+    delivered = withDelivered (s .delivered) e;
+    lost = withLost (s .lost) e;
+  }
 
-  same-table : u ≡ stored (recovered (actor e) (nodeAt s (actor e))) (remaining s e)
+  same-table : u ≡ stored (recovered (actor e) (nodeAt s (actor e))) (remaining s e) (s .sent)
   unfolding effect
   same-table =
       accepted-is s e u Recovers q .state
-      ∙ ap (λ (r : Reaction). stored (r .node) (remaining s e ++ sent (r .outgoing))) reaction-is
-      ∙ ap (stored (recovered (actor e) (nodeAt s (actor e)))) (append-nil (remaining s e))
+      ∙ ap (λ (r : Reaction). stored (r .node) (remaining s e ++ sent (r .outgoing)) (withSent (s .sent) (r .outgoing))) reaction-is
+      ∙ ap (λ (l : List Message). stored (recovered (actor e) (nodeAt s (actor e))) l (s .sent)) (append-nil (remaining s e))
 
   every-recovery : recordAfter 8 (recoveryRecords (actor e) (stopped (nodeAt s (actor e)))) ≡ nodeAt u (actor e)
   every-recovery =

@@ -9,10 +9,10 @@ use lib.Dec.{eqb, leb}
 use borrow.Author.Tests.{eqb-true, leb-true}
 use Rattle.model.specs.Pick.{pick, pick-true, pick-false, by-test}
 use Rattle.model.specs.State.{State}
-use Rattle.model.specs.Step.{Ground, ground, grounds, Result, refused, accepted, judged, step}
+use Rattle.model.specs.Step.{reactionTo, pairAtEnd, Ground, ground, grounds, Result, refused, accepted, judged, step}
 use Rattle.model.specs.Answers.{resultNumber}
 use Rattle.model.specs.Claims.{Accepts, NoneApplies, FirstApplies, RefusesByGround}
-use Rattle.model.proofs.Judged.{none-applies}
+use Rattle.model.proofs.Judged.{Clear, none-applies}
 use Rattle.model.proofs.Local.{both-left, both-right}
 use Rattle.model.proofs.Fields.{either}
 use Rattle.model.proofs.InRange.{delivery-never-full}
@@ -35,21 +35,24 @@ judged-number f u k [] h = tt
 judged-number f u k (g ∷ gs) h =
     by-test (Passes f) (λ _. both-left (f (g .number)) _ h) (λ _. judged-number f u k gs (both-right (f (g .number)) _ h))
 
--- 1, or 7 to 14
+-- 1, 7 to 14, or 17
 abbrev ofEvents : ℕ → Bool
-ofEvents r = eqb r 1 || (leb 7 r && leb r 14)
+ofEvents r = eqb r 1 || ((leb 7 r && leb r 14) || eqb r 17)
 
 step-number : (s : State) (e : Event) → Passes ofEvents (step s e)
 unfolding step grounds
 step-number s e = judged-number ofEvents _ _ _ refl
 
-numbers : (s : State) (e : Event) (r : ℕ) → step s e ≡ refused r → (r ≡ 1) ⊎ ((7 ≤ r) × (r ≤ 14))
+numbers : (s : State) (e : Event) (r : ℕ) → step s e ≡ refused r → (r ≡ 1) ⊎ (((7 ≤ r) × (r ≤ 14)) ⊎ (r ≡ 17))
 numbers s e r q =
-    ⊎-elim (λ x. inl (eqb-true r 1 x)) (λ x. inr (leb-true 7 r (both-left (leb 7 r) _ x), leb-true r 14 (both-right (leb 7 r) _ x)))
-    (either (eqb r 1) (leb 7 r && leb r 14) (subst (Passes ofEvents) q (step-number s e)))
+    ⊎-elim (λ x. inl (eqb-true r 1 x))
+    (λ x. inr
+    (⊎-elim (λ y. inl (leb-true 7 r (both-left (leb 7 r) _ y), leb-true r 14 (both-right (leb 7 r) _ y))) (λ y. inr (eqb-true r 17 y))
+    (either (leb 7 r && leb r 14) (eqb r 17) x)))
+    (either (eqb r 1) ((leb 7 r && leb r 14) || eqb r 17) (subst (Passes ofEvents) q (step-number s e)))
 
 never-zero : (s : State) (e : Event) → step s e ≡ refused 0 → ⊥
-never-zero s e q = ⊎-elim (λ z. omega arith) (λ z. omega (arith, z .0)) (numbers s e 0 q)
+never-zero s e q = ⊎-elim (λ z. omega arith) (λ z. ⊎-elim (λ y. omega (arith, y .0)) (λ y. omega arith) z) (numbers s e 0 q)
 
 zero-accepts : (s : State) (e : Event) → resultNumber (step s e) ≡ 0 → Accepts s e
 zero-accepts s e z = by-result (step s e) refl
@@ -57,6 +60,11 @@ zero-accepts s e z = by-result (step s e) refl
     by-result : (x : Result) → step s e ≡ x → Accepts s e
     by-result (refused r) q = absurd (never-zero s e (q ∙ ap refused (sym (ap resultNumber q) ∙ z)))
     by-result (accepted u k) q = record { state = u; mark = k; is = q }
+
+-- 17 is given where no other ground applies, and it does
+pub clear-ends : (s : State) (e : Event) → Clear s e → pairAtEnd (s .sent) (reactionTo s e .outgoing) ≡ true → step s e ≡ refused 17
+unfolding step grounds judged pick
+clear-ends s e c t = rw (c .in-range, c .number, c .task, c .status, c .activity, c .waiting, c .counter, c .calls, c .room, t)
 
 -- ── the first ground that applies ──
 
@@ -106,9 +114,9 @@ pub refuses-by-ground : RefusesByGround
 refuses-by-ground = record { first = first; first-given = first-given; none = none; none-accepts = none-accepts; numbers = numbers; never-zero = never-zero; zero-accepts = zero-accepts; delivery-never-full = delivery-never-full }
 
 -- so the number of a result is small
-pub result-small : (s : State) (e : Event) → resultNumber (step s e) ≤ 14
+pub result-small : (s : State) (e : Event) → resultNumber (step s e) ≤ 17
 result-small s e = by (step s e) refl
   where
-    by : (x : Result) → step s e ≡ x → resultNumber x ≤ 14
-    by (refused r) q = ⊎-elim (λ h. omega arith) (λ h. h .1) (numbers s e r q)
+    by : (x : Result) → step s e ≡ x → resultNumber x ≤ 17
+    by (refused r) q = ⊎-elim (λ h. omega arith) (λ h. ⊎-elim (λ y. omega (arith, y .1)) (λ y. omega arith) h) (numbers s e r q)
     by (accepted u k) q = omega arith

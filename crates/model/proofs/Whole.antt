@@ -178,7 +178,7 @@ step-onward : (h : History) (s : State) (e : Event) → Good h s → Onward h s 
 step-onward h s e ok =
     by-step (Onward h s e) s e
     (λ r. record { good = ok; grows = grows-refl h })
-    (λ c.
+    (λ c _.
     let x = event-ok h s (ok .history) (ok .state) e c in
     let g = grown h s (ok .history) (ok .state) e x in
     record {
@@ -332,7 +332,7 @@ run-fixes n small =
     -- every table of a run has n nodes
     same-n : (s : State) (es : List Event) → s .n ≡ n → runFrom s es .n ≡ n
     same-n s [] q = q
-    same-n s (e ∷ es) q = same-n (after s e) es (by-step (λ r. kept s r .n ≡ n) s e (λ x. q) (λ c. effect-n s e ∙ q))
+    same-n s (e ∷ es) q = same-n (after s e) es (by-step (λ r. kept s r .n ≡ n) s e (λ x. q) (λ c _. effect-n s e ∙ q))
 
     reach : (es : List Event) {i : ℕ} → i ≤ n → i ≤ run n es .n
     reach es h = omega (arith, same-n (start n) es refl, h)

@@ -1,18 +1,19 @@
 -- "Named cases": what is claimed of K1 to K13, jointly, over the definitions. Where 01 names one side of a rule, the other side stands beside it. "Wrong
--- turnings in this protocol" follow, then further cases, those of 02's T-03 and T-04, and the ends of what is in range. The tables are in range where nothing else is said;
+-- turnings in this protocol" follow, then further cases, those of 02's T-03, T-04 and T-05, and the ends of what is in range. The tables are in range where nothing else is said;
 -- not each of them is one that a run reaches.
-use Prim.Native.Nat.{ℕ}
+use Prim.Native.Nat.{ℕ, _+_}
 use mathlib.Core.Bool.{Bool, true, false}
 use mathlib.Core.Path.{_≡_}
 use mathlib.Core.List.{List, [], _∷_, _++_, map}
 use lib.ListN.{length, set, replicate}
 use Rattle.node_set.specs.NodeSet.{with, count}
 use Rattle.model.specs.Pick.{pick}
+use Rattle.model.specs.Counts.{pairPlace, countAt, noCounts, total}
 use Rattle.model.specs.Node.{groupOf, asks, calls, readies, replies}
 use Rattle.model.specs.Recovery.{recoveryRecords, stopped}
 use Rattle.model.specs.Range.{nodeInRange, messageInRange}
-use Rattle.model.specs.State.{State, startingNode, start, wrongCount, nodeAt, inRange}
-use Rattle.model.specs.Step.{Result, refused, accepted, step, after, runFrom, run}
+use Rattle.model.specs.State.{State, startingNode, start, wrongCount, nodeAt, allWaiting, countsAside, countsInRange, inRange}
+use Rattle.model.specs.Step.{Result, refused, accepted, aside, step, after, runFrom, run}
 use Rattle.model.specs.History.{Entry, NoTask, Task, history}
 use Rattle.model.specs.Answers.{statusNumber}
 use Rattle.model.specs.declared.Status.{Status}
@@ -57,24 +58,40 @@ setOf (i ∷ is) = with (setOf is) i
 abbrev pub none : ℕ
 none = setOf []
 
--- ── tables ──
+-- ── tables, in which all that was sent still waits. Tables before and after an event are given with the counts of T-05 set aside, but for those in TrafficCases ──
+
+-- T-05: the table with d more messages from a to b that were sent and delivered, and l more that were sent and lost
+abbrev pub past : ℕ → ℕ → ℕ → ℕ → State → State
+past a b d l s = record {
+  n = s .n;
+  nodes = s .nodes;
+  queue = s .queue;
+  sent = set (s .sent) (pairPlace a b) (countAt (s .sent) a b + d + l);
+  delivered = set (s .delivered) (pairPlace a b) (countAt (s .delivered) a b + d);
+  lost = set (s .lost) (pairPlace a b) (countAt (s .lost) a b + l);
+}
+
+-- one more that was delivered; one more that was lost
+abbrev pub delivering : ℕ → ℕ → State → State
+delivering a b s = past a b 1 0 s
+
+abbrev pub losing : ℕ → ℕ → State → State
+losing a b s = past a b 0 1 s
 
 -- K5: 16 nodes, of which node 16 has the counter k and the group formed with it, and the others are as at the start
 abbrev pub counted : Status → Activity → ℕ → State
-counted s a k = record {
-  n = 16;
-  nodes = set (replicate 16 startingNode) 15
-      (record { status = s; counter = k; group = groupNo (groupOf k 16); coordinator = 16; task = taskNo 16; members = none; last = callNo 16; activity = a });
-  queue = [];
-}
+counted s a k =
+    allWaiting 16
+    (set (replicate 16 startingNode) 15
+    (record { status = s; counter = k; group = groupNo (groupOf k 16); coordinator = 16; task = taskNo 16; members = none; last = callNo 16; activity = a }))
+    []
 
 -- two nodes: node 1 is Normal in its own group 16, and node 2 is c
 abbrev pub beside : Node → List Message → State
-beside c q = record {
-  n = 2;
-  nodes = record { status = Normal; counter = 1; group = groupNo 16; coordinator = 1; task = taskNo 1; members = none; last = callNo 3; activity = Idle } ∷ c ∷ [];
-  queue = q;
-}
+beside c q =
+    allWaiting 2
+    (record { status = Normal; counter = 1; group = groupNo 16; coordinator = 1; task = taskNo 1; members = none; last = callNo 3; activity = Idle } ∷ c ∷ [])
+    q
 
 -- node 2 as the coordinator of its group 33, with the members m and two former calls
 abbrev pub pair : Status → ℕ → Activity → List Message → State
@@ -95,7 +112,7 @@ alone = record { status = Normal; counter = 3; group = groupNo 49; coordinator =
 
 -- three nodes: node 1 is c, and the others are as at the start
 abbrev pub first : Node → List Message → State
-first c q = record { n = 3; nodes = c ∷ startingNode ∷ startingNode ∷ []; queue = q }
+first c q = allWaiting 3 (c ∷ startingNode ∷ startingNode ∷ []) q
 
 -- node 1 as the coordinator of its group 16, with the members 2 and 3 and the last call number k
 abbrev pub leader : Status → ℕ → Activity → Node
@@ -152,13 +169,13 @@ pub record NamedCases : Type 0 where
   -- the other node stays as it was
   pub k2-other : printedFields (run 2 (Recover 1 ∷ [])) 2 ≡ 2 ∷ 0 ∷ 0 ∷ 0 ∷ 0 ∷ 0 ∷ 0 ∷ []
   -- with members before: they are emptied, and the last call number is kept
-  pub k2-emptied : step (pair Down (setOf (1 ∷ [])) Idle []) (Recover 2) ≡ accepted (beside alone []) Recovers
+  pub k2-emptied : aside (step (pair Down (setOf (1 ∷ [])) Idle []) (Recover 2)) ≡ accepted (beside alone []) Recovers
   -- "K3 recover 1 again: 9."
   pub k3 : step (run 2 (Recover 1 ∷ [])) (Recover 1) ≡ refused 9
   -- "K4 crash 1, recover 1: group 32."
   pub k4 : printedFields (run 2 (Recover 1 ∷ Crash 1 ∷ Recover 1 ∷ [])) 1 ≡ 1 ∷ 3 ∷ 1 ∷ 32 ∷ 1 ∷ 2 ∷ 0 ∷ []
   -- a crash ends what the node does: all else is kept, and messages keep waiting
-  pub k4-crash : step (pair Normal (setOf (1 ∷ [])) (Asking 1 none) (invitation 16)) (Crash 2) ≡ accepted (pair Down (setOf (1 ∷ [])) Idle (invitation 16)) Plain
+  pub k4-crash : aside (step (pair Normal (setOf (1 ∷ [])) (Asking 1 none) (invitation 16)) (Crash 2)) ≡ accepted (pair Down (setOf (1 ∷ [])) Idle (invitation 16)) Plain
   -- "K5 cabinet 16 with counter 1,048,574 recovers into group 16,777,215; with 1,048,575: 12."
   pub k5-passes : printedFields (after (counted Down Idle 1048574) (Recover 16)) 16 ≡ 16 ∷ 3 ∷ 16 ∷ 16777215 ∷ 16 ∷ 1048575 ∷ 0 ∷ []
   pub k5-ends : step (counted Down Idle 1048575) (Recover 16) ≡ refused 12
@@ -166,7 +183,7 @@ pub record NamedCases : Type 0 where
   pub k5-merge-passes : printedFields (after (counted Normal (Asking 15 (setOf (1 ∷ []))) 1048574) (Expire 16)) 16 ≡ 16 ∷ 1 ∷ 16 ∷ 16777215 ∷ 16 ∷ 1048575 ∷ 0 ∷ []
   pub k5-merge-ends : step (counted Normal (Asking 15 (setOf (1 ∷ []))) 1048575) (Expire 16) ≡ refused 12
   -- where none was found, no group is needed
-  pub k5-no-group : after (counted Normal (Asking 15 none) 1048575) (Expire 16) ≡ counted Normal Idle 1048575
+  pub k5-no-group : countsAside (after (counted Normal (Asking 15 none) 1048575) (Expire 16)) ≡ counted Normal Idle 1048575
   -- "K6 finish by a collecting cabinet: task 99 gives 8, 100 passes."
   pub k6-collects : nodeAt (run 2 collecting) 2 .activity ≡ Collecting
   pub k6-refused : step (run 2 collecting) (Finish 2 (taskNo 99)) ≡ refused 8
@@ -175,7 +192,7 @@ pub record NamedCases : Type 0 where
   pub k6-last : printedFields (after (run 2 collecting) (Finish 2 (taskNo 65535))) 2 ≡ 2 ∷ 2 ∷ 2 ∷ 33 ∷ 65535 ∷ 2 ∷ 1 ∷ []
   pub k6-high : step (run 2 collecting) (Finish 2 (taskNo 65536)) ≡ refused 8
   -- with no member it is Normal at once
-  pub k6-no-member : step (pair Election none Collecting []) (Finish 2 (taskNo 100)) ≡ accepted (pair Normal none Idle []) Plain
+  pub k6-no-member : aside (step (pair Election none Collecting []) (Finish 2 (taskNo 100))) ≡ accepted (pair Normal none Idle []) Plain
   -- by one that is idle: 10, but 8 comes first
   pub k6-idle : step (pair Normal none Idle []) (Finish 2 (taskNo 100)) ≡ refused 10
   pub k6-idle-task : step (pair Normal none Idle []) (Finish 2 (taskNo 99)) ≡ refused 8
@@ -188,47 +205,51 @@ pub record NamedCases : Type 0 where
   -- the question to 2 still waits; behind it, 3 is invited
   pub k7-invites : run 3 (foundThree ++ (Tick 1 ∷ Tick 1 ∷ [])) .queue ≡ asks 1 2 (callNo 1) ∷ calls 1 3 3 (callNo 3) (groupNo 32) ∷ []
   -- "K8 an invitation to a cabinet in Election changes nothing but the messages."
-  pub k8 : after (pair Election (setOf (1 ∷ [])) Collecting (invitation 16)) (Deliver 1 2) ≡ pair Election (setOf (1 ∷ [])) Collecting plain
+  pub k8 : countsAside (after (pair Election (setOf (1 ∷ [])) Collecting (invitation 16)) (Deliver 1 2)) ≡ pair Election (setOf (1 ∷ [])) Collecting plain
   -- nor to one in Reorganization, nor to one that owns the group (nor, by T-03, to one that holds it: HeldGroupCases)
-  pub k8-reorganizing : after (pair Reorganization (setOf (1 ∷ [])) Collecting (invitation 16)) (Deliver 1 2) ≡ pair Reorganization (setOf (1 ∷ [])) Collecting plain
-  pub k8-owner : after (pair Normal (setOf (1 ∷ [])) Collecting (invitation 17)) (Deliver 1 2) ≡ pair Normal (setOf (1 ∷ [])) Collecting plain
+  pub k8-reorganizing : countsAside (after (pair Reorganization (setOf (1 ∷ [])) Collecting (invitation 16)) (Deliver 1 2)) ≡ pair Reorganization (setOf (1 ∷ [])) Collecting plain
+  pub k8-owner : countsAside (after (pair Normal (setOf (1 ∷ [])) Collecting (invitation 17)) (Deliver 1 2)) ≡ pair Normal (setOf (1 ∷ [])) Collecting plain
   -- a Normal one of another group acts on it: it forwards the invitation to its member
-  pub k8-normal : after (pair Normal (setOf (1 ∷ [])) Collecting (invitation 16)) (Deliver 1 2)
+  pub k8-normal : countsAside (after (pair Normal (setOf (1 ∷ [])) Collecting (invitation 16)) (Deliver 1 2))
       ≡ beside (follower Election 16 100 (setOf (1 ∷ [])) 3 (Forwarding none 1 1 (callNo 3))) (calls 2 3 1 (callNo 3) (groupNo 16) ∷ [])
   -- with no member, or where another leads it, it calls Accept at once
-  pub k8-no-member : after (pair Normal none Collecting (invitation 16)) (Deliver 1 2)
+  pub k8-no-member : countsAside (after (pair Normal none Collecting (invitation 16)) (Deliver 1 2))
       ≡ beside (follower Election 16 100 none 3 (Accepting 1 (callNo 3))) (calls 2 4 1 (callNo 3) (groupNo 16) ∷ [])
-  pub k8-led : after (beside (follower Normal 32 100 (setOf (1 ∷ [])) 2 Idle) (invitation 16)) (Deliver 1 2)
+  pub k8-led : countsAside (after (beside (follower Normal 32 100 (setOf (1 ∷ [])) 2 Idle) (invitation 16)) (Deliver 1 2))
       ≡ beside (follower Election 16 100 (setOf (1 ∷ [])) 3 (Accepting 1 (callNo 3))) (calls 2 4 1 (callNo 3) (groupNo 16) ∷ [])
   -- "K9 a reply with an older call number is only dropped."
-  pub k9 : after (pair Normal (setOf (1 ∷ [])) (Asking 1 none) (reply 1 true)) (Deliver 1 2) ≡ pair Normal (setOf (1 ∷ [])) (Asking 1 none) []
+  pub k9 : countsAside (after (pair Normal (setOf (1 ∷ [])) (Asking 1 none) (reply 1 true)) (Deliver 1 2)) ≡ pair Normal (setOf (1 ∷ [])) (Asking 1 none) []
   -- with the last call number it goes on: yes, so that 1 is found, and as it was the last to be asked, node 2 merges
-  pub k9-yes : step (pair Normal (setOf (1 ∷ [])) (Asking 1 none) (reply 2 true)) (Deliver 1 2)
+  pub k9-yes : aside (step (pair Normal (setOf (1 ∷ [])) (Asking 1 none) (reply 2 true)) (Deliver 1 2))
       ≡ accepted (beside (merger (Inviting none (setOf (1 ∷ [])) 1)) (calls 2 3 1 (callNo 3) (groupNo 49) ∷ [])) Merges
   -- no, so that none is found
-  pub k9-no : after (pair Normal (setOf (1 ∷ [])) (Asking 1 none) (reply 2 false)) (Deliver 1 2) ≡ pair Normal (setOf (1 ∷ [])) Idle []
+  pub k9-no : countsAside (after (pair Normal (setOf (1 ∷ [])) (Asking 1 none) (reply 2 false)) (Deliver 1 2)) ≡ pair Normal (setOf (1 ∷ [])) Idle []
   -- without an open call, the number does not help
-  pub k9-no-call : after (pair Election none Collecting (reply 2 true)) (Deliver 1 2) ≡ pair Election none Collecting []
+  pub k9-no-call : countsAside (after (pair Election none Collecting (reply 2 true)) (Deliver 1 2)) ≡ pair Election none Collecting []
   -- "Case K10": what its lines print; 02, T-02: "K10 prints the same."
   pub k10-first : printedFields (run 2 k10) 1 ≡ 1 ∷ 3 ∷ 2 ∷ 33 ∷ 100 ∷ 1 ∷ 0 ∷ []
   pub k10-second : printedFields (run 2 k10) 2 ≡ 2 ∷ 3 ∷ 2 ∷ 33 ∷ 100 ∷ 2 ∷ 1 ∷ []
   pub k10-messages : length (run 2 k10 .queue) ≡ 0
+  -- 02, T-05: "K10 gains the lines `sent 8`, `delivered 8`, `lost 0`."
+  pub k10-sent : total (run 2 k10 .sent) ≡ 8
+  pub k10-delivered : total (run 2 k10 .delivered) ≡ 8
+  pub k10-lost : total (run 2 k10 .lost) ≡ 0
   -- the history's task of group 33, and before the finish none
   pub k10-task : history 2 k10 .entry 33 ≡ Task 100
   pub k10-no-task : history 2 collecting .entry 33 ≡ NoTask
   -- "K11 with 64 waiting, a check that must ask: 14; a delivery passes."
   pub k11-refused : step (pair Normal none Idle (queued 64)) (Check 1) ≡ refused 14
-  pub k11-passes : after (pair Normal none Idle (queued 64)) (Deliver 2 1) ≡ pair Normal none Idle (queued 63 ++ (replies 1 2 (callNo 1) true ∷ []))
+  pub k11-passes : countsAside (after (pair Normal none Idle (queued 64)) (Deliver 2 1)) ≡ pair Normal none Idle (queued 63 ++ (replies 1 2 (callNo 1) true ∷ []))
   -- with 63 waiting it asks; with 64, a check that need not ask passes
   pub k11-room : after (pair Normal none Idle (queued 63)) (Check 1) .queue ≡ queued 63 ++ (asks 1 2 (callNo 4) ∷ [])
-  pub k11-silent : step (pair Reorganization none Idle (queued 64)) (Check 2) ≡ accepted (pair Reorganization none Idle (queued 64)) Plain
+  pub k11-silent : aside (step (pair Reorganization none Idle (queued 64)) (Check 2)) ≡ accepted (pair Reorganization none Idle (queued 64)) Plain
   -- "K12 Accept reaching its group's owner in Reorganization: members unchanged."
-  pub k12 : after (pair Reorganization none Collecting (accept 33)) (Deliver 1 2) ≡ pair Reorganization none Collecting plain
+  pub k12 : countsAside (after (pair Reorganization none Collecting (accept 33)) (Deliver 1 2)) ≡ pair Reorganization none Collecting plain
   -- in Election the sender joins
-  pub k12-joins : after (pair Election none Collecting (accept 33)) (Deliver 1 2) ≡ pair Election (setOf (1 ∷ [])) Collecting plain
+  pub k12-joins : countsAside (after (pair Election none Collecting (accept 33)) (Deliver 1 2)) ≡ pair Election (setOf (1 ∷ [])) Collecting plain
   -- not so by the Accept of another group, nor where another leads the node
-  pub k12-group : after (pair Election none Collecting (accept 17)) (Deliver 1 2) ≡ pair Election none Collecting plain
-  pub k12-led : after (beside (follower Election 16 100 none 2 Collecting) (accept 16)) (Deliver 1 2) ≡ beside (follower Election 16 100 none 2 Collecting) plain
+  pub k12-group : countsAside (after (pair Election none Collecting (accept 17)) (Deliver 1 2)) ≡ pair Election none Collecting plain
+  pub k12-led : countsAside (after (beside (follower Election 16 100 none 2 Collecting) (accept 16)) (Deliver 1 2)) ≡ beside (follower Election 16 100 none 2 Collecting) plain
   -- "K13 n = 2, finish 9 with task 5: 7."
   pub k13 : step (start 2) (Finish 9 (taskNo 5)) ≡ refused 7
   -- with the number of a node: 8; with a task as well: 9, as it is Down
@@ -239,7 +260,7 @@ pub record NamedCases : Type 0 where
 
 pub record WrongTurnings : Type 0 where
   -- "Emptying members before they are set aside: old members get no invitation." Node 1 has found 2, and its members are 2 and 3.
-  pub members-aside : step (first (leader Normal 1 (Waiting 1 (setOf (2 ∷ [])))) []) (Tick 1)
+  pub members-aside : aside (step (first (leader Normal 1 (Waiting 1 (setOf (2 ∷ [])))) []) (Tick 1))
       ≡ accepted (first (record {
         status = Election;
         counter = 2;
@@ -251,7 +272,7 @@ pub record WrongTurnings : Type 0 where
         activity = Inviting none (setOf (2 ∷ 3 ∷ [])) 2;
       }) (calls 1 3 2 (callNo 2) (groupNo 32) ∷ [])) Merges
   -- 2, which was found, is invited, then 3 and 2, which were set aside; none of them answers, and then node 1 collects
-  pub members-invited : runFrom (first (leader Normal 1 (Waiting 1 (setOf (2 ∷ [])))) []) (Tick 1 ∷ Expire 1 ∷ Expire 1 ∷ Expire 1 ∷ [])
+  pub members-invited : countsAside (runFrom (first (leader Normal 1 (Waiting 1 (setOf (2 ∷ [])))) []) (Tick 1 ∷ Expire 1 ∷ Expire 1 ∷ Expire 1 ∷ []))
       ≡ first (record {
         status = Election;
         counter = 2;
@@ -265,14 +286,14 @@ pub record WrongTurnings : Type 0 where
   -- "Taking the task with the invitation: one group, two tasks." Node 2 has finished with task 100. Node 1, which it invited, has its solo task until Ready comes.
   pub task-waits : printedFields (run 2 (collecting ++ (Finish 2 (taskNo 100) ∷ []))) 1 ≡ 1 ∷ 2 ∷ 2 ∷ 33 ∷ 1 ∷ 1 ∷ 0 ∷ []
   -- the task comes with the Ready of its group, in Reorganization
-  pub task-comes : after (beside (follower Reorganization 32 100 none 2 Idle) (ready 32 200)) (Deliver 1 2) ≡ beside (follower Normal 32 200 none 2 Idle) plain
-  pub task-of-other : after (beside (follower Reorganization 32 100 none 2 Idle) (ready 16 200)) (Deliver 1 2) ≡ beside (follower Reorganization 32 100 none 2 Idle) plain
-  pub task-too-soon : after (beside (follower Election 32 100 none 2 Idle) (ready 32 200)) (Deliver 1 2) ≡ beside (follower Election 32 100 none 2 Idle) plain
+  pub task-comes : countsAside (after (beside (follower Reorganization 32 100 none 2 Idle) (ready 32 200)) (Deliver 1 2)) ≡ beside (follower Normal 32 200 none 2 Idle) plain
+  pub task-of-other : countsAside (after (beside (follower Reorganization 32 100 none 2 Idle) (ready 16 200)) (Deliver 1 2)) ≡ beside (follower Reorganization 32 100 none 2 Idle) plain
+  pub task-too-soon : countsAside (after (beside (follower Election 32 100 none 2 Idle) (ready 32 200)) (Deliver 1 2)) ≡ beside (follower Election 32 100 none 2 Idle) plain
   -- "Sending Ready on after a recovery, under the new group." Node 1 hands Ready to 3, and 2 is still to come. An answer: 2 is next.
-  pub ready-on : after (first (leader Reorganization 1 (Handing (setOf (2 ∷ [])) 3)) (replies 3 1 (callNo 1) true ∷ [])) (Deliver 3 1)
+  pub ready-on : countsAside (after (first (leader Reorganization 1 (Handing (setOf (2 ∷ [])) 3)) (replies 3 1 (callNo 1) true ∷ [])) (Deliver 3 1))
       ≡ first (leader Reorganization 2 (Handing none 2)) (readies 1 2 (callNo 2) (groupNo 16) (taskNo 100) ∷ [])
   -- no answer: it recovers, and sends nothing
-  pub ready-no-more : step (first (leader Reorganization 1 (Handing (setOf (2 ∷ [])) 3)) []) (Expire 1)
+  pub ready-no-more : aside (step (first (leader Reorganization 1 (Handing (setOf (2 ∷ [])) 3)) []) (Expire 1))
       ≡ accepted (first (record {
         status = Normal;
         counter = 2;
@@ -305,15 +326,15 @@ filled s g o t m l a = node s 1 g o t m l a
 
 -- three nodes
 abbrev pub three : Node → Node → Node → List Message → State
-three a b c q = record { n = 3; nodes = a ∷ b ∷ c ∷ []; queue = q }
+three a b c q = allWaiting 3 (a ∷ b ∷ c ∷ []) q
 
 -- four nodes: node 2 is c, and the others are as at the start
 abbrev pub second : Node → List Message → State
-second c q = record { n = 4; nodes = startingNode ∷ c ∷ startingNode ∷ startingNode ∷ []; queue = q }
+second c q = allWaiting 4 (startingNode ∷ c ∷ startingNode ∷ startingNode ∷ []) q
 
 -- and node 4 is c
 abbrev pub fourth : Node → List Message → State
-fourth c q = record { n = 4; nodes = startingNode ∷ startingNode ∷ startingNode ∷ c ∷ []; queue = q }
+fourth c q = allWaiting 4 (startingNode ∷ startingNode ∷ startingNode ∷ c ∷ []) q
 
 -- node 2 as the coordinator of its group 17, with the task 100, the members m and the last call number k
 abbrev pub middle : Status → ℕ → ℕ → Activity → Node
@@ -376,74 +397,74 @@ twoOfPair = asks 1 2 (callNo 2) ∷ asks 2 1 (callNo 1) ∷ asks 1 2 (callNo 3) 
 
 pub record FurtherCases : Type 0 where
   -- "let p be the highest found": of 1 and 3, so that node 2 waits one tick
-  pub highest-found : step (asker 3 (setOf (1 ∷ [])) (replies 3 2 (callNo 4) true ∷ [])) (Deliver 3 2)
+  pub highest-found : aside (step (asker 3 (setOf (1 ∷ [])) (replies 3 2 (callNo 4) true ∷ [])) (Deliver 3 2))
       ≡ accepted (three startingNode (filled Normal 17 2 2 none 4 (Waiting 1 (setOf (1 ∷ 3 ∷ [])))) startingNode []) Plain
   -- "in turn": node 2 leaves itself out
-  pub asks-others : step (asker 1 none (replies 1 2 (callNo 4) false ∷ [])) (Deliver 1 2)
+  pub asks-others : aside (step (asker 1 none (replies 1 2 (callNo 4) false ∷ [])) (Deliver 1 2))
       ≡ accepted (three startingNode (filled Normal 17 2 2 none 5 (Asking 3 none)) startingNode (asks 2 3 (callNo 5) ∷ [])) Plain
   -- "if a call is open with this number": a newer number is dropped too
-  pub reply-newer : step (pair Normal (setOf (1 ∷ [])) (Asking 1 none) (reply 3 true)) (Deliver 1 2) ≡ accepted (pair Normal (setOf (1 ∷ [])) (Asking 1 none) []) Plain
+  pub reply-newer : aside (step (pair Normal (setOf (1 ∷ [])) (Asking 1 none) (reply 3 true)) (Deliver 1 2)) ≡ accepted (pair Normal (setOf (1 ∷ [])) (Asking 1 none) []) Plain
   -- "Matching a reply by its sender instead of its call number": by the number it goes on, whoever sent it, and "asking adds the cabinet asked"
-  pub reply-other : step (asker 3 none (replies 1 2 (callNo 4) true ∷ [])) (Deliver 1 2)
+  pub reply-other : aside (step (asker 3 none (replies 1 2 (callNo 4) true ∷ [])) (Deliver 1 2))
       ≡ accepted (three startingNode (filled Normal 17 2 2 none 4 (Waiting 1 (setOf (3 ∷ [])))) startingNode []) Plain
   -- "deliver a b: that message is taken out", the oldest from a to b, and the newer one stays
-  pub oldest-delivered : step (pair Normal none Idle twoOfPair) (Deliver 1 2)
+  pub oldest-delivered : aside (step (pair Normal none Idle twoOfPair) (Deliver 1 2))
       ≡ accepted (pair Normal none Idle (asks 2 1 (callNo 1) ∷ asks 1 2 (callNo 3) ∷ replies 2 1 (callNo 2) true ∷ [])) Plain
   -- "lose a b: the oldest message from a to b vanishes"
-  pub oldest-lost : step (pair Normal none Idle twoOfPair) (Lose 1 2) ≡ accepted (pair Normal none Idle (asks 2 1 (callNo 1) ∷ asks 1 2 (callNo 3) ∷ [])) Plain
+  pub oldest-lost : aside (step (pair Normal none Idle twoOfPair) (Lose 1 2)) ≡ accepted (pair Normal none Idle (asks 2 1 (callNo 1) ∷ asks 1 2 (callNo 3) ∷ [])) Plain
   -- lose: also where the receiver is Down
-  pub lost-down : step (pair Down none Idle question) (Lose 1 2) ≡ accepted (pair Down none Idle []) Plain
+  pub lost-down : aside (step (pair Down none Idle question) (Lose 1 2)) ≡ accepted (pair Down none Idle []) Plain
   -- deliver: also where the sender is Down
-  pub delivered-from-down : step (pair Down none Idle (queued 1)) (Deliver 2 1) ≡ accepted (pair Down none Idle (replies 1 2 (callNo 1) true ∷ [])) Plain
+  pub delivered-from-down : aside (step (pair Down none Idle (queued 1)) (Deliver 2 1)) ≡ accepted (pair Down none Idle (replies 1 2 (callNo 1) true ∷ [])) Plain
   -- "check i: .. Otherwise, or with n = 1, nothing changes": by a Normal member, and with n = 1
-  pub check-led : step (beside (follower Normal 32 100 none 2 Idle) []) (Check 2) ≡ accepted (beside (follower Normal 32 100 none 2 Idle) []) Plain
-  pub check-one : step (run 1 (Recover 1 ∷ [])) (Check 1) ≡ accepted (run 1 (Recover 1 ∷ [])) Plain
+  pub check-led : aside (step (beside (follower Normal 32 100 none 2 Idle) []) (Check 2)) ≡ accepted (beside (follower Normal 32 100 none 2 Idle) []) Plain
+  pub check-one : aside (step (run 1 (Recover 1 ∷ [])) (Check 1)) ≡ accepted (countsAside (run 1 (Recover 1 ∷ []))) Plain
   -- "timeout i: if its own coordinator, nothing changes. Else it calls AreYouThere on its coordinator, with its group.", whatever its status
-  pub timeout-own : step (pair Normal (setOf (1 ∷ [])) Idle []) (Timeout 2) ≡ accepted (pair Normal (setOf (1 ∷ [])) Idle []) Plain
-  pub timeout-own-reorganizing : step (pair Reorganization (setOf (1 ∷ [])) Idle []) (Timeout 2) ≡ accepted (pair Reorganization (setOf (1 ∷ [])) Idle []) Plain
-  pub timeout-led : step (beside (follower Normal 32 100 none 2 Idle) []) (Timeout 2)
+  pub timeout-own : aside (step (pair Normal (setOf (1 ∷ [])) Idle []) (Timeout 2)) ≡ accepted (pair Normal (setOf (1 ∷ [])) Idle []) Plain
+  pub timeout-own-reorganizing : aside (step (pair Reorganization (setOf (1 ∷ [])) Idle []) (Timeout 2)) ≡ accepted (pair Reorganization (setOf (1 ∷ [])) Idle []) Plain
+  pub timeout-led : aside (step (beside (follower Normal 32 100 none 2 Idle) []) (Timeout 2))
       ≡ accepted (beside (follower Normal 32 100 none 3 Contacting) (calls 2 2 1 (callNo 3) (groupNo 32) ∷ [])) Plain
-  pub timeout-reorganizing : step (beside (follower Reorganization 32 100 none 2 Idle) []) (Timeout 2)
+  pub timeout-reorganizing : aside (step (beside (follower Reorganization 32 100 none 2 Idle) []) (Timeout 2))
       ≡ accepted (beside (follower Reorganization 32 100 none 3 Contacting) (calls 2 2 1 (callNo 3) (groupNo 32) ∷ [])) Plain
   -- "contacting is idle on yes and recovers on no"; expire: it recovers
-  pub contact-yes : step (beside (follower Normal 32 100 none 2 Contacting) (reply 2 true)) (Deliver 1 2) ≡ accepted (beside (follower Normal 32 100 none 2 Idle) []) Plain
-  pub contact-no : step (beside (follower Normal 32 100 none 2 Contacting) (reply 2 false)) (Deliver 1 2) ≡ accepted (beside alone []) Recovers
-  pub contact-expires : step (beside (follower Normal 32 100 none 2 Contacting) []) (Expire 2) ≡ accepted (beside alone []) Recovers
+  pub contact-yes : aside (step (beside (follower Normal 32 100 none 2 Contacting) (reply 2 true)) (Deliver 1 2)) ≡ accepted (beside (follower Normal 32 100 none 2 Idle) []) Plain
+  pub contact-no : aside (step (beside (follower Normal 32 100 none 2 Contacting) (reply 2 false)) (Deliver 1 2)) ≡ accepted (beside alone []) Recovers
+  pub contact-expires : aside (step (beside (follower Normal 32 100 none 2 Contacting) []) (Expire 2)) ≡ accepted (beside alone []) Recovers
   -- "1: reply yes exactly when Normal and its own coordinator": no by one in Election, and by one that another leads
-  pub coordinator-yes : step (pair Normal none Idle question) (Deliver 1 2) ≡ accepted (pair Normal none Idle plain) Plain
-  pub coordinator-election : step (pair Election none Collecting question) (Deliver 1 2) ≡ accepted (pair Election none Collecting denial) Plain
-  pub coordinator-led : step (beside (follower Normal 32 100 none 2 Idle) question) (Deliver 1 2) ≡ accepted (beside (follower Normal 32 100 none 2 Idle) denial) Plain
+  pub coordinator-yes : aside (step (pair Normal none Idle question) (Deliver 1 2)) ≡ accepted (pair Normal none Idle plain) Plain
+  pub coordinator-election : aside (step (pair Election none Collecting question) (Deliver 1 2)) ≡ accepted (pair Election none Collecting denial) Plain
+  pub coordinator-led : aside (step (beside (follower Normal 32 100 none 2 Idle) question) (Deliver 1 2)) ≡ accepted (beside (follower Normal 32 100 none 2 Idle) denial) Plain
   -- "2: yes exactly when the group is equal, it is its own coordinator and the sender is a member", whatever its status
-  pub there-yes : step (pair Normal (setOf (1 ∷ [])) Idle (there 33)) (Deliver 1 2) ≡ accepted (pair Normal (setOf (1 ∷ [])) Idle plain) Plain
-  pub there-reorganizing : step (pair Reorganization (setOf (1 ∷ [])) Idle (there 33)) (Deliver 1 2) ≡ accepted (pair Reorganization (setOf (1 ∷ [])) Idle plain) Plain
-  pub there-group : step (pair Normal (setOf (1 ∷ [])) Idle (there 17)) (Deliver 1 2) ≡ accepted (pair Normal (setOf (1 ∷ [])) Idle denial) Plain
-  pub there-led : step (beside (follower Normal 32 100 (setOf (1 ∷ [])) 2 Idle) (there 32)) (Deliver 1 2)
+  pub there-yes : aside (step (pair Normal (setOf (1 ∷ [])) Idle (there 33)) (Deliver 1 2)) ≡ accepted (pair Normal (setOf (1 ∷ [])) Idle plain) Plain
+  pub there-reorganizing : aside (step (pair Reorganization (setOf (1 ∷ [])) Idle (there 33)) (Deliver 1 2)) ≡ accepted (pair Reorganization (setOf (1 ∷ [])) Idle plain) Plain
+  pub there-group : aside (step (pair Normal (setOf (1 ∷ [])) Idle (there 17)) (Deliver 1 2)) ≡ accepted (pair Normal (setOf (1 ∷ [])) Idle denial) Plain
+  pub there-led : aside (step (beside (follower Normal 32 100 (setOf (1 ∷ [])) 2 Idle) (there 32)) (Deliver 1 2))
       ≡ accepted (beside (follower Normal 32 100 (setOf (1 ∷ [])) 2 Idle) denial) Plain
-  pub there-no-member : step (pair Normal none Idle (there 33)) (Deliver 1 2) ≡ accepted (pair Normal none Idle denial) Plain
+  pub there-no-member : aside (step (pair Normal none Idle (there 33)) (Deliver 1 2)) ≡ accepted (pair Normal none Idle denial) Plain
   -- "3: .. it forwards the invitation to each member": node 3, which leads node 2, is invited by node 1
-  pub invited-forwards : step (merging (filled Normal 18 3 100 none 9 Idle) formerCoordinator (calls 1 3 3 (callNo 7) (groupNo 32) ∷ [])) (Deliver 1 3)
+  pub invited-forwards : aside (step (merging (filled Normal 18 3 100 none 9 Idle) formerCoordinator (calls 1 3 3 (callNo 7) (groupNo 32) ∷ [])) (Deliver 1 3))
       ≡ accepted (merging (filled Normal 18 3 100 none 9 Idle) forwarder (calls 3 3 2 (callNo 5) (groupNo 32) ∷ [])) Plain
   -- "the new group and its owner as coordinator": node 2's caller is 3 and its coordinator is 1; "then it calls Accept on the new coordinator"
-  pub invited-accepts : step (merging (filled Normal 18 3 100 none 9 Idle) forwarder (calls 3 3 2 (callNo 5) (groupNo 32) ∷ [])) (Deliver 3 2)
+  pub invited-accepts : aside (step (merging (filled Normal 18 3 100 none 9 Idle) forwarder (calls 3 3 2 (callNo 5) (groupNo 32) ∷ [])) (Deliver 3 2))
       ≡ accepted (merging (filled Election 32 1 100 none 10 (Accepting 3 (callNo 5))) forwarder (calls 2 4 1 (callNo 10) (groupNo 32) ∷ [])) Plain
   -- "its activity stops": node 2 asks, or waits for its last tick, when node 1 invites it; it forwards the invitation to its member
-  pub invited-asking : step (beside (node Normal 2 33 2 100 (setOf (1 ∷ [])) 6 (Asking 1 none)) (invitation 16)) (Deliver 1 2)
+  pub invited-asking : aside (step (beside (node Normal 2 33 2 100 (setOf (1 ∷ [])) 6 (Asking 1 none)) (invitation 16)) (Deliver 1 2))
       ≡ accepted (beside (node Election 2 16 1 100 (setOf (1 ∷ [])) 7 (Forwarding none 1 1 (callNo 3))) (calls 2 3 1 (callNo 7) (groupNo 16) ∷ [])) Plain
-  pub invited-waiting : step (beside (node Normal 2 33 2 100 (setOf (1 ∷ [])) 6 (Waiting 1 (setOf (1 ∷ [])))) (invitation 16)) (Deliver 1 2)
+  pub invited-waiting : aside (step (beside (node Normal 2 33 2 100 (setOf (1 ∷ [])) 6 (Waiting 1 (setOf (1 ∷ [])))) (invitation 16)) (Deliver 1 2))
       ≡ accepted (beside (node Election 2 16 1 100 (setOf (1 ∷ [])) 7 (Forwarding none 1 1 (callNo 3))) (calls 2 3 1 (callNo 7) (groupNo 16) ∷ [])) Plain
   -- "accepting turns to Reorganization, replies to its caller and is idle": with the number of the caller's call
-  pub accepted-replies : step (merging (filled Election 32 1 100 none 10 (Accepting 3 (callNo 5))) forwarder (replies 1 2 (callNo 10) true ∷ [])) (Deliver 1 2)
+  pub accepted-replies : aside (step (merging (filled Election 32 1 100 none 10 (Accepting 3 (callNo 5))) forwarder (replies 1 2 (callNo 10) true ∷ [])) (Deliver 1 2))
       ≡ accepted (merging (filled Reorganization 32 1 100 none 10 Idle) forwarder (replies 2 3 (callNo 5) true ∷ [])) Plain
   -- the reply lets node 3 go on: it has forwarded to each member, and accepts in its turn
-  pub forwarded-accepts : step (merging (filled Reorganization 32 1 100 none 10 Idle) forwarder (replies 2 3 (callNo 5) true ∷ [])) (Deliver 2 3)
+  pub forwarded-accepts : aside (step (merging (filled Reorganization 32 1 100 none 10 Idle) forwarder (replies 2 3 (callNo 5) true ∷ [])) (Deliver 2 3))
       ≡ accepted (merging (filled Reorganization 32 1 100 none 10 Idle) (filled Election 32 1 100 (setOf (2 ∷ [])) 6 (Accepting 1 (callNo 7)))
       (calls 3 4 1 (callNo 6) (groupNo 32) ∷ [])) Plain
   -- expire, accepting: "it recovers ..; an invitation's caller then gets no reply"
-  pub accepting-expires : step (beside (follower Election 32 100 (setOf (1 ∷ [])) 2 (Accepting 1 (callNo 3))) []) (Expire 2) ≡ accepted (beside alone []) Recovers
+  pub accepting-expires : aside (step (beside (follower Election 32 100 (setOf (1 ∷ [])) 2 (Accepting 1 (callNo 3))) []) (Expire 2)) ≡ accepted (beside alone []) Recovers
   -- 02, T-02: "Whoever picks the next cabinet from a set shall now pick the highest, in inviting": node 2 has found 1, 3 and 4 and sets 1 and 4 aside, "one in both
   -- is invited twice"; then it collects
-  pub invites-highest : runFrom (second (middle Normal (setOf (1 ∷ 4 ∷ [])) 4 (Waiting 1 (setOf (1 ∷ 3 ∷ 4 ∷ [])))) [])
-      (Tick 2 ∷ Expire 2 ∷ Expire 2 ∷ Expire 2 ∷ Expire 2 ∷ Expire 2 ∷ [])
+  pub invites-highest : countsAside (runFrom (second (middle Normal (setOf (1 ∷ 4 ∷ [])) 4 (Waiting 1 (setOf (1 ∷ 3 ∷ 4 ∷ [])))) [])
+      (Tick 2 ∷ Expire 2 ∷ Expire 2 ∷ Expire 2 ∷ Expire 2 ∷ Expire 2 ∷ []))
       ≡ second (record {
         status = Election;
         counter = 2;
@@ -461,10 +482,10 @@ pub record FurtherCases : Type 0 where
       ∷ calls 2 3 1 (callNo 9) (groupNo 33)
       ∷ [])
   -- an answer lets it go on with those found, and leaves those set aside: 3 has answered, and joined before that
-  pub invites-on : step (first (filled Election 16 1 1 (setOf (3 ∷ [])) 4 (Inviting (setOf (2 ∷ [])) (setOf (2 ∷ 3 ∷ [])) 3)) (replies 3 1 (callNo 4) true ∷ [])) (Deliver 3 1)
+  pub invites-on : aside (step (first (filled Election 16 1 1 (setOf (3 ∷ [])) 4 (Inviting (setOf (2 ∷ [])) (setOf (2 ∷ 3 ∷ [])) 3)) (replies 3 1 (callNo 4) true ∷ [])) (Deliver 3 1))
       ≡ accepted (first (filled Election 16 1 1 (setOf (3 ∷ [])) 5 (Inviting none (setOf (2 ∷ 3 ∷ [])) 2)) (calls 1 3 2 (callNo 5) (groupNo 16) ∷ [])) Plain
   -- "forwarding": node 2, invited by 3 into a group of node 1, forwards to 4, 3 and 1, its members, and then accepts
-  pub forwards-each : runFrom (second (middle Normal (setOf (1 ∷ 3 ∷ 4 ∷ [])) 4 Idle) (calls 3 3 2 (callNo 8) (groupNo 32) ∷ [])) (Deliver 3 2 ∷ Expire 2 ∷ Expire 2 ∷ Expire 2 ∷ [])
+  pub forwards-each : countsAside (runFrom (second (middle Normal (setOf (1 ∷ 3 ∷ 4 ∷ [])) 4 Idle) (calls 3 3 2 (callNo 8) (groupNo 32) ∷ [])) (Deliver 3 2 ∷ Expire 2 ∷ Expire 2 ∷ Expire 2 ∷ []))
       ≡ second (filled Election 32 1 100 (setOf (1 ∷ 3 ∷ 4 ∷ [])) 8 (Accepting 3 (callNo 8)))
       (calls 2 3 4 (callNo 5) (groupNo 32)
       ∷ calls 2 3 3 (callNo 6) (groupNo 32)
@@ -472,26 +493,26 @@ pub record FurtherCases : Type 0 where
       ∷ calls 2 4 1 (callNo 8) (groupNo 32)
       ∷ [])
   -- node 1 forwards to 3, then to 2
-  pub forwards-highest : step (first (leader Normal 1 Idle) (calls 2 3 1 (callNo 8) (groupNo 33) ∷ [])) (Deliver 2 1)
+  pub forwards-highest : aside (step (first (leader Normal 1 Idle) (calls 2 3 1 (callNo 8) (groupNo 33) ∷ [])) (Deliver 2 1))
       ≡ accepted (first (filled Election 33 2 100 (setOf (2 ∷ 3 ∷ [])) 2 (Forwarding (setOf (2 ∷ [])) 3 2 (callNo 8))) (calls 1 3 3 (callNo 2) (groupNo 33) ∷ [])) Plain
   -- the answer, and expire, forwarding: "on to the next", and after the last it accepts
-  pub forwards-on : step (first (filled Election 33 2 100 (setOf (2 ∷ 3 ∷ [])) 2 (Forwarding (setOf (2 ∷ [])) 3 2 (callNo 8))) (replies 3 1 (callNo 2) true ∷ [])) (Deliver 3 1)
+  pub forwards-on : aside (step (first (filled Election 33 2 100 (setOf (2 ∷ 3 ∷ [])) 2 (Forwarding (setOf (2 ∷ [])) 3 2 (callNo 8))) (replies 3 1 (callNo 2) true ∷ [])) (Deliver 3 1))
       ≡ accepted (first (filled Election 33 2 100 (setOf (2 ∷ 3 ∷ [])) 3 (Forwarding none 2 2 (callNo 8))) (calls 1 3 2 (callNo 3) (groupNo 33) ∷ [])) Plain
-  pub forwarding-expires : step (first (filled Election 33 2 100 (setOf (2 ∷ 3 ∷ [])) 2 (Forwarding (setOf (2 ∷ [])) 3 2 (callNo 8))) []) (Expire 1)
+  pub forwarding-expires : aside (step (first (filled Election 33 2 100 (setOf (2 ∷ 3 ∷ [])) 2 (Forwarding (setOf (2 ∷ [])) 3 2 (callNo 8))) []) (Expire 1))
       ≡ accepted (first (filled Election 33 2 100 (setOf (2 ∷ 3 ∷ [])) 3 (Forwarding none 2 2 (callNo 8))) (calls 1 3 2 (callNo 3) (groupNo 33) ∷ [])) Plain
-  pub forwarding-ends : step (first (filled Election 33 2 100 (setOf (2 ∷ 3 ∷ [])) 3 (Forwarding none 2 2 (callNo 8))) []) (Expire 1)
+  pub forwarding-ends : aside (step (first (filled Election 33 2 100 (setOf (2 ∷ 3 ∷ [])) 3 (Forwarding none 2 2 (callNo 8))) []) (Expire 1))
       ≡ accepted (first (filled Election 33 2 100 (setOf (2 ∷ 3 ∷ [])) 4 (Accepting 2 (callNo 8))) (calls 1 4 2 (callNo 4) (groupNo 33) ∷ [])) Plain
   -- "and handing": "It hands Ready to each member", of node 2 to 4, then to 3, which says no, and to 1
-  pub hands-each : runFrom (second (middle Election (setOf (1 ∷ 3 ∷ 4 ∷ [])) 4 Collecting) (replies 4 2 (callNo 5) true ∷ replies 3 2 (callNo 6) false ∷ [])) (Finish 2 (taskNo 100) ∷ Deliver 4 2 ∷ Deliver 3 2 ∷ [])
+  pub hands-each : countsAside (runFrom (second (middle Election (setOf (1 ∷ 3 ∷ 4 ∷ [])) 4 Collecting) (replies 4 2 (callNo 5) true ∷ replies 3 2 (callNo 6) false ∷ [])) (Finish 2 (taskNo 100) ∷ Deliver 4 2 ∷ Deliver 3 2 ∷ []))
       ≡ second (middle Reorganization (setOf (1 ∷ 3 ∷ 4 ∷ [])) 7 (Handing none 1))
       (readies 2 4 (callNo 5) (groupNo 17) (taskNo 100) ∷ readies 2 3 (callNo 6) (groupNo 17) (taskNo 100) ∷ readies 2 1 (callNo 7) (groupNo 17) (taskNo 100) ∷ [])
   -- of node 1 to 3 first (from such a table then to 2: WrongTurnings.ready-on); "after the last .. Normal and idle"
-  pub hands-highest : step (first (leader Election 1 Collecting) []) (Finish 1 (taskNo 200))
+  pub hands-highest : aside (step (first (leader Election 1 Collecting) []) (Finish 1 (taskNo 200)))
       ≡ accepted (first (filled Reorganization 16 1 200 (setOf (2 ∷ 3 ∷ [])) 2 (Handing (setOf (2 ∷ [])) 3)) (readies 1 3 (callNo 2) (groupNo 16) (taskNo 200) ∷ [])) Plain
-  pub hands-last : step (first (leader Reorganization 2 (Handing none 2)) (replies 2 1 (callNo 2) true ∷ [])) (Deliver 2 1) ≡ accepted (first (leader Normal 2 Idle) []) Plain
+  pub hands-last : aside (step (first (leader Reorganization 2 (Handing none 2)) (replies 2 1 (callNo 2) true ∷ [])) (Deliver 2 1)) ≡ accepted (first (leader Normal 2 Idle) []) Plain
   -- "Asking still goes from 1 up": node 4, with the member 2, asks 1, which says yes, 2, which does not answer, and 3, which says no; so it has found 1
-  pub asks-up : runFrom (fourth (filled Normal 19 4 4 (setOf (2 ∷ [])) 3 Idle) (replies 1 4 (callNo 4) true ∷ replies 3 4 (callNo 6) false ∷ []))
-      (Check 4 ∷ Deliver 1 4 ∷ Expire 4 ∷ Deliver 3 4 ∷ [])
+  pub asks-up : countsAside (runFrom (fourth (filled Normal 19 4 4 (setOf (2 ∷ [])) 3 Idle) (replies 1 4 (callNo 4) true ∷ replies 3 4 (callNo 6) false ∷ []))
+      (Check 4 ∷ Deliver 1 4 ∷ Expire 4 ∷ Deliver 3 4 ∷ []))
       ≡ fourth (record {
         status = Election;
         counter = 2;
@@ -504,18 +525,18 @@ pub record FurtherCases : Type 0 where
       })
       (asks 4 1 (callNo 4) ∷ asks 4 2 (callNo 5) ∷ asks 4 3 (callNo 6) ∷ calls 4 3 1 (callNo 7) (groupNo 35) ∷ [])
   -- "tick i: one tick less": those found are kept
-  pub ticks-keep : step (first (leader Normal 1 (Waiting 2 (setOf (2 ∷ 3 ∷ [])))) []) (Tick 1) ≡ accepted (first (leader Normal 1 (Waiting 1 (setOf (2 ∷ 3 ∷ [])))) []) Plain
+  pub ticks-keep : aside (step (first (leader Normal 1 (Waiting 2 (setOf (2 ∷ 3 ∷ [])))) []) (Tick 1)) ≡ accepted (first (leader Normal 1 (Waiting 1 (setOf (2 ∷ 3 ∷ [])))) []) Plain
   -- "it goes on": inviting, handing, forwarding and accepting do so by a no too
-  pub invite-no : step (first (filled Election 16 1 1 none 4 (Inviting none (setOf (2 ∷ [])) 3)) (replies 3 1 (callNo 4) false ∷ [])) (Deliver 3 1)
+  pub invite-no : aside (step (first (filled Election 16 1 1 none 4 (Inviting none (setOf (2 ∷ [])) 3)) (replies 3 1 (callNo 4) false ∷ [])) (Deliver 3 1))
       ≡ accepted (first (filled Election 16 1 1 none 5 (Inviting none none 2)) (calls 1 3 2 (callNo 5) (groupNo 16) ∷ [])) Plain
-  pub hand-no : step (first (leader Reorganization 2 (Handing none 2)) (replies 2 1 (callNo 2) false ∷ [])) (Deliver 2 1) ≡ accepted (first (leader Normal 2 Idle) []) Plain
-  pub forward-no : step (first (filled Election 33 2 100 (setOf (2 ∷ 3 ∷ [])) 3 (Forwarding none 2 2 (callNo 8))) (replies 2 1 (callNo 3) false ∷ [])) (Deliver 2 1)
+  pub hand-no : aside (step (first (leader Reorganization 2 (Handing none 2)) (replies 2 1 (callNo 2) false ∷ [])) (Deliver 2 1)) ≡ accepted (first (leader Normal 2 Idle) []) Plain
+  pub forward-no : aside (step (first (filled Election 33 2 100 (setOf (2 ∷ 3 ∷ [])) 3 (Forwarding none 2 2 (callNo 8))) (replies 2 1 (callNo 3) false ∷ [])) (Deliver 2 1))
       ≡ accepted (first (filled Election 33 2 100 (setOf (2 ∷ 3 ∷ [])) 4 (Accepting 2 (callNo 8))) (calls 1 4 2 (callNo 4) (groupNo 33) ∷ [])) Plain
-  pub accept-no : step (merging (filled Election 32 1 100 none 10 (Accepting 3 (callNo 5))) forwarder (replies 1 2 (callNo 10) false ∷ [])) (Deliver 1 2)
+  pub accept-no : aside (step (merging (filled Election 32 1 100 none 10 (Accepting 3 (callNo 5))) forwarder (replies 1 2 (callNo 10) false ∷ [])) (Deliver 1 2))
       ≡ accepted (merging (filled Reorganization 32 1 100 none 10 Idle) forwarder (replies 2 3 (callNo 5) true ∷ [])) Plain
   -- "5: if in Reorganization ..": a Normal node only replies; the activity is kept
-  pub ready-normal : step (beside (follower Normal 32 100 none 2 Idle) (ready 32 200)) (Deliver 1 2) ≡ accepted (beside (follower Normal 32 100 none 2 Idle) plain) Plain
-  pub ready-busy : step (beside (follower Reorganization 32 100 none 2 Contacting) (ready 32 200)) (Deliver 1 2)
+  pub ready-normal : aside (step (beside (follower Normal 32 100 none 2 Idle) (ready 32 200)) (Deliver 1 2)) ≡ accepted (beside (follower Normal 32 100 none 2 Idle) plain) Plain
+  pub ready-busy : aside (step (beside (follower Reorganization 32 100 none 2 Contacting) (ready 32 200)) (Deliver 1 2))
       ≡ accepted (beside (follower Normal 32 200 none 2 Contacting) plain) Plain
   -- the messages, field by field: "1 AreYouCoordinator; 2 AreYouThere (group); 3 Invitation (group); 4 Accept (group); 5 Ready (group, task); 6 reply (yes or no ..)"
   pub fields-asks : asks 1 2 (callNo 3)
@@ -558,14 +579,14 @@ pub record FurtherCases : Type 0 where
   pub none-to-lose : step (pair Normal none Idle plain) (Lose 1 2) ≡ refused 11
   -- 13 "a call is needed, last call number 16,777,215": one less passes, and a reply needs no call
   pub calls-end : step (beside (filled Normal 17 2 2 none 16777215 Idle) []) (Check 2) ≡ refused 13
-  pub calls-last : step (beside (filled Normal 17 2 2 none 16777214 Idle) []) (Check 2)
+  pub calls-last : aside (step (beside (filled Normal 17 2 2 none 16777214 Idle) []) (Check 2))
       ≡ accepted (beside (filled Normal 17 2 2 none 16777215 (Asking 1 none)) (asks 2 1 (callNo 16777215) ∷ [])) Plain
-  pub calls-reply : step (beside (filled Normal 17 2 2 none 16777215 Idle) question) (Deliver 1 2) ≡ accepted (beside (filled Normal 17 2 2 none 16777215 Idle) plain) Plain
+  pub calls-reply : aside (step (beside (filled Normal 17 2 2 none 16777215 Idle) question) (Deliver 1 2)) ≡ accepted (beside (filled Normal 17 2 2 none 16777215 Idle) plain) Plain
   -- the merge at the last tick needs a group, a call and a message: 12 before 13 before 14
   pub ends-twelve : step (ending 1048575 16777215 (queued 64)) (Tick 2) ≡ refused 12
   pub ends-thirteen : step (ending 1048574 16777215 (queued 64)) (Tick 2) ≡ refused 13
   pub ends-fourteen : step (ending 1048574 16777214 (queued 64)) (Tick 2) ≡ refused 14
-  pub ends-pass : step (ending 1048574 16777214 (queued 63)) (Tick 2)
+  pub ends-pass : aside (step (ending 1048574 16777214 (queued 63)) (Tick 2))
       ≡ accepted (beside (record {
         status = Election;
         counter = 1048575;
@@ -577,7 +598,7 @@ pub record FurtherCases : Type 0 where
         activity = Inviting none none 1;
       }) (queued 63 ++ (calls 2 3 1 (callNo 16777215) (groupNo 16777201) ∷ []))) Merges
 
--- ── 02, T-03: "An invitation that arrives twice." The events of its story, with the table that each part of them leads to ──
+-- ── 02, T-03: "An invitation that arrives twice." The events of its story, with the table that each part of them leads to, T-05's counts aside ──
 
 -- nodes 1 and 2 recover, and 2 takes 1 into its group 33, with task 250; its question to 3, which is Down, is lost
 abbrev pub joinsFormer : List Event
@@ -644,41 +665,41 @@ invitedOnce = joinsFormer ++ (newMerges ++ (bothInvite ++ joinsNew))
 
 pub record InvitedTwice : Type 0 where
   -- "its former coordinator"
-  pub former : run 3 joinsFormer ≡ inFormerGroup
+  pub former : countsAside (run 3 joinsFormer) ≡ inFormerGroup
   -- "a new coordinator"
-  pub merges : run 3 (joinsFormer ++ newMerges) ≡ afterMerge
+  pub merges : countsAside (run 3 (joinsFormer ++ newMerges)) ≡ afterMerge
   -- "A cabinet was invited by a new coordinator, and the same invitation was also forwarded to it by its former coordinator."
-  pub both : run 3 (joinsFormer ++ (newMerges ++ bothInvite)) ≡ invitedByBoth
+  pub both : countsAside (run 3 (joinsFormer ++ (newMerges ++ bothInvite))) ≡ invitedByBoth
   -- "The forwarded one was slow. It came when the cabinet was Normal in the new group": it alone still waits
-  pub normal : run 3 invitedOnce ≡ inNewGroup (calls 2 3 1 (callNo 5) (groupNo 34) ∷ [])
+  pub normal : countsAside (run 3 invitedOnce) ≡ inNewGroup (calls 2 3 1 (callNo 5) (groupNo 34) ∷ [])
   -- "an invitation to the group a cabinet already holds gets a plain reply and changes nothing else": before and after it only the messages differ
-  pub only-messages : run 3 (invitedOnce ++ (Deliver 2 1 ∷ [])) ≡ inNewGroup (replies 1 2 (callNo 5) true ∷ [])
+  pub only-messages : countsAside (run 3 (invitedOnce ++ (Deliver 2 1 ∷ []))) ≡ inNewGroup (replies 1 2 (callNo 5) true ∷ [])
   -- node 2 no longer waits for the reply, and drops it
-  pub reply-dropped : run 3 (invitedOnce ++ (Deliver 2 1 ∷ Deliver 1 2 ∷ [])) ≡ inNewGroup []
+  pub reply-dropped : countsAside (run 3 (invitedOnce ++ (Deliver 2 1 ∷ Deliver 1 2 ∷ []))) ≡ inNewGroup []
 
 -- "an invitation to the group a cabinet already holds", and to another: node 2 is in group 32, which node 1 owns, and node 1 invites it
 pub record HeldGroupCases : Type 0 where
   -- Normal: activity, members and all else of the record are kept
-  pub normal : step (beside (follower Normal 32 100 (setOf (1 ∷ [])) 2 Contacting) (invitation 32)) (Deliver 1 2)
+  pub normal : aside (step (beside (follower Normal 32 100 (setOf (1 ∷ [])) 2 Contacting) (invitation 32)) (Deliver 1 2))
       ≡ accepted (beside (follower Normal 32 100 (setOf (1 ∷ [])) 2 Contacting) plain) Plain
   -- in Reorganization and in Election, where 01 alone has a plain reply
-  pub reorganizing : step (beside (follower Reorganization 32 100 none 2 Contacting) (invitation 32)) (Deliver 1 2)
+  pub reorganizing : aside (step (beside (follower Reorganization 32 100 none 2 Contacting) (invitation 32)) (Deliver 1 2))
       ≡ accepted (beside (follower Reorganization 32 100 none 2 Contacting) plain) Plain
-  pub election : step (beside (follower Election 32 100 none 2 (Accepting 1 (callNo 2))) (invitation 32)) (Deliver 1 2)
+  pub election : aside (step (beside (follower Election 32 100 none 2 (Accepting 1 (callNo 2))) (invitation 32)) (Deliver 1 2))
       ≡ accepted (beside (follower Election 32 100 none 2 (Accepting 1 (callNo 2))) plain) Plain
   -- where it owns the group as well, its own group 33: the same
-  pub owner : step (pair Normal none Idle (invitation 33)) (Deliver 1 2) ≡ accepted (pair Normal none Idle plain) Plain
+  pub owner : aside (step (pair Normal none Idle (invitation 33)) (Deliver 1 2)) ≡ accepted (pair Normal none Idle plain) Plain
   -- Down: 9
   pub down : step (beside (follower Down 32 100 none 2 Idle) (invitation 32)) (Deliver 1 2) ≡ refused 9
   -- a reply is no call, and the message delivered is out: neither 13 nor 14 is met
-  pub no-call-needed : step (beside (follower Normal 32 100 none 16777215 Idle) (invitation 32)) (Deliver 1 2)
+  pub no-call-needed : aside (step (beside (follower Normal 32 100 none 16777215 Idle) (invitation 32)) (Deliver 1 2))
       ≡ accepted (beside (follower Normal 32 100 none 16777215 Idle) plain) Plain
-  pub queue-full : step (beside (follower Normal 32 100 none 2 Idle) (invitation 32 ++ queued 63)) (Deliver 1 2)
+  pub queue-full : aside (step (beside (follower Normal 32 100 none 2 Idle) (invitation 32 ++ queued 63)) (Deliver 1 2))
       ≡ accepted (beside (follower Normal 32 100 none 2 Idle) (queued 63 ++ plain)) Plain
   -- to an older or a newer group of the same coordinator: the node goes into Election and calls Accept
-  pub older-group : step (beside (follower Normal 32 100 none 5 Contacting) (invitation 16)) (Deliver 1 2)
+  pub older-group : aside (step (beside (follower Normal 32 100 none 5 Contacting) (invitation 16)) (Deliver 1 2))
       ≡ accepted (beside (follower Election 16 100 none 6 (Accepting 1 (callNo 3))) (calls 2 4 1 (callNo 6) (groupNo 16) ∷ [])) Plain
-  pub newer-group : step (beside (follower Normal 32 100 none 5 Contacting) (invitation 48)) (Deliver 1 2)
+  pub newer-group : aside (step (beside (follower Normal 32 100 none 5 Contacting) (invitation 48)) (Deliver 1 2))
       ≡ accepted (beside (follower Election 48 100 none 6 (Accepting 1 (callNo 3))) (calls 2 4 1 (callNo 6) (groupNo 48) ∷ [])) Plain
   -- for which it needs a call number
   pub call-needed : step (beside (follower Normal 32 100 none 16777215 Idle) (invitation 16)) (Deliver 1 2) ≡ refused 13
@@ -691,7 +712,7 @@ downFollower = node Down 5 48 1 300 (setOf (1 ∷ 3 ∷ [])) 9 Idle
 
 -- a table with node 2 as c, in which node 3 is as at the start
 abbrev pub withFollower : Node → State
-withFollower c = record { n = 3; nodes = node Normal 3 48 1 300 (setOf (2 ∷ [])) 4 Idle ∷ c ∷ startingNode ∷ []; queue = invitation 48 }
+withFollower c = allWaiting 3 (node Normal 3 48 1 300 (setOf (2 ∷ [])) 4 Idle ∷ c ∷ startingNode ∷ []) (invitation 48)
 
 pub record RecoveryCases : Type 0 where
   -- K2: the first recovery of node 1
@@ -717,7 +738,7 @@ pub record RecoveryCases : Type 0 where
       ∷ node Normal 6 97 2 2 none 9 Idle
       ∷ []
   -- and recover 2 leaves the last of them, and nothing else changes
-  pub left : step (withFollower downFollower) (Recover 2) ≡ accepted (withFollower (node Normal 6 97 2 2 none 9 Idle)) Recovers
+  pub left : aside (step (withFollower downFollower) (Recover 2)) ≡ accepted (withFollower (node Normal 6 97 2 2 none 9 Idle)) Recovers
   -- K4: after a crash, the second recovery; K5: the last that the counter allows
   pub k4 : map (λ c. c .group .number) (recoveryRecords 1 (nodeAt (run 2 (Recover 1 ∷ Crash 1 ∷ [])) 1)) ≡ 16 ∷ 16 ∷ 32 ∷ 32 ∷ 32 ∷ 32 ∷ 32 ∷ 32 ∷ []
   pub k5 : map (λ c. c .group .number) (recoveryRecords 16 (nodeAt (counted Down Idle 1048574) 16))
@@ -729,7 +750,7 @@ pub record RecoveryCases : Type 0 where
   pub range-counter : step (beside (node Down 1048575 0 0 0 none 0 Idle) (invitation 0)) (Recover 2) ≡ refused 1
   pub status-counter : step (counted Normal Idle 1048575) (Recover 16) ≡ refused 9
   pub number-status : step (withFollower downFollower) (Recover 0) ≡ refused 7
-  pub number-counter : step (record { n = 1; nodes = node Down 1048575 0 0 0 none 0 Idle ∷ []; queue = [] }) (Recover 0) ≡ refused 7
+  pub number-counter : step (allWaiting 1 (node Down 1048575 0 0 0 none 0 Idle ∷ []) []) (Recover 0) ≡ refused 7
   pub number-zero : step (start 2) (Recover 0) ≡ refused 7
   pub number-above : step (start 2) (Recover 3) ≡ refused 7
   -- of the records before the last some are out of range: while the group is new and the coordinator is not, and at the first recovery (K2) while there is no group
@@ -747,12 +768,82 @@ pub record RecoveryCases : Type 0 where
       ∷ node Normal 6 97 2 2 none 9 Idle
       ∷ []
 
--- ── records, messages and tables at the ends of what is in range, and just outside: node 2 of three, and messages among three ──
+-- ── 02, T-05: traffic totals ──
 
 -- the numbers of the list with which f holds
 abbrev pub among : (ℕ → Bool) → List ℕ → List ℕ
 among f [] = []
 among f (x ∷ xs) = pick (f x) (x ∷ among f xs) (among f xs)
+
+-- 33,554,366 messages from 2 to 1 were delivered, so that with 64 more that count is at its end; node 2 merges at its last tick and calls 1
+abbrev pub endingAfter : ℕ → ℕ → ℕ → ℕ → State
+endingAfter d k l waiting = past 2 1 d 0 (ending k l (queued waiting))
+
+-- counts of which one, from a to b, is k, and the others are 0
+abbrev pub only : ℕ → ℕ → ℕ → List ℕ
+only a b k = set noCounts (pairPlace a b) k
+
+-- three nodes as at the start, with the messages q and these counts
+abbrev pub withCounts : List Message → List ℕ → List ℕ → List ℕ → State
+withCounts q sent delivered lost = record { n = 3; nodes = replicate 3 startingNode; queue = q; sent = sent; delivered = delivered; lost = lost }
+
+-- k messages from 1 to 2
+abbrev pub someWait : ℕ → List Message
+someWait k = replicate k (asks 1 2 (callNo 1))
+
+pub record TrafficCases : Type 0 where
+  -- K10's eight messages, by pair: four each way, all delivered
+  pub k10-sent : countAt (run 2 k10 .sent) 1 2 ∷ countAt (run 2 k10 .sent) 2 1 ∷ [] ≡ 4 ∷ 4 ∷ []
+  pub k10-delivered : countAt (run 2 k10 .delivered) 1 2 ∷ countAt (run 2 k10 .delivered) 2 1 ∷ [] ≡ 4 ∷ 4 ∷ []
+  -- "17, a message must be sent and its pair's sent count is 33,554,430"; with one less it is sent, and counted
+  pub at-end : step (past 2 1 33554430 0 (pair Normal none Idle [])) (Check 2) ≡ refused 17
+  pub below-end : step (past 2 1 33554429 0 (pair Normal none Idle [])) (Check 2)
+      ≡ accepted (past 2 1 33554429 0 (beside (node Normal 2 33 2 100 none 3 (Asking 1 none)) (asks 2 1 (callNo 3) ∷ []))) Plain
+  -- whether they were delivered, lost or wait
+  pub at-end-lost : step (past 2 1 0 33554430 (pair Normal none Idle [])) (Check 2) ≡ refused 17
+  pub at-end-waiting : step (past 2 1 33554429 0 (pair Normal none Idle (queued 1))) (Check 2) ≡ refused 17
+  -- a reply is a message too
+  pub at-end-reply : step (past 2 1 33554430 0 (pair Normal none Idle question)) (Deliver 1 2) ≡ refused 17
+  -- the counts of the other pairs do not matter, nor does this one where nothing is sent
+  pub other-pair : step (past 1 2 33554430 0 (pair Normal none Idle [])) (Check 2)
+      ≡ accepted (past 1 2 33554430 0 (beside (node Normal 2 33 2 100 none 3 (Asking 1 none)) (asks 2 1 (callNo 3) ∷ []))) Plain
+  pub nothing-sent : step (past 2 1 33554430 0 (pair Normal none Idle [])) (Crash 2) ≡ accepted (past 2 1 33554430 0 (pair Down none Idle [])) Plain
+  pub delivered-at-end : step (past 2 1 33554429 0 (pair Down none Idle (queued 1))) (Lose 2 1) ≡ accepted (losing 2 1 (past 2 1 33554429 0 (pair Down none Idle []))) Plain
+  -- "after 14": 12 before 13 before 14 before 17
+  pub ends-twelve : step (endingAfter 33554366 1048575 16777215 64) (Tick 2) ≡ refused 12
+  pub ends-thirteen : step (endingAfter 33554366 1048574 16777215 64) (Tick 2) ≡ refused 13
+  pub ends-fourteen : step (endingAfter 33554366 1048574 16777214 64) (Tick 2) ≡ refused 14
+  pub ends-seventeen : step (endingAfter 33554367 1048574 16777214 63) (Tick 2) ≡ refused 17
+  -- a delivery with a reply changes three counts, a loss one, and a refused event none
+  pub delivery-counts : after (pair Normal none Idle question) (Deliver 1 2) ≡ past 1 2 1 0 (pair Normal none Idle plain)
+  pub loss-counts : after (pair Normal none Idle question) (Lose 1 2) ≡ past 1 2 0 1 (pair Normal none Idle [])
+  pub refused-counts : after (pair Down none Idle question) (Deliver 1 2) ≡ pair Down none Idle question
+  -- "Sent is delivered plus lost plus those waiting, for each pair. A table is in range only if that holds": 9 sent, 3 delivered, 4 lost and 2 waiting
+  pub sum-sent : among (λ x. inRange (withCounts (someWait 2) (only 1 2 x) (only 1 2 3) (only 1 2 4))) (8 ∷ 9 ∷ 10 ∷ []) ≡ 9 ∷ []
+  pub sum-delivered : among (λ x. inRange (withCounts (someWait 2) (only 1 2 9) (only 1 2 x) (only 1 2 4))) (2 ∷ 3 ∷ 4 ∷ []) ≡ 3 ∷ []
+  pub sum-lost : among (λ x. inRange (withCounts (someWait 2) (only 1 2 9) (only 1 2 3) (only 1 2 x))) (3 ∷ 4 ∷ 5 ∷ []) ≡ 4 ∷ []
+  pub sum-waiting : among (λ x. inRange (withCounts (someWait x) (only 1 2 9) (only 1 2 3) (only 1 2 4))) (1 ∷ 2 ∷ 3 ∷ []) ≡ 2 ∷ []
+  -- by pair: a message from 1 to 3 counted as one from a to b
+  pub sum-sender : among (λ a. inRange (withCounts (asks 1 3 (callNo 1) ∷ []) (only a 3 1) noCounts noCounts)) (1 ∷ 2 ∷ []) ≡ 1 ∷ []
+  pub sum-receiver : among (λ b. inRange (withCounts (asks 1 3 (callNo 1) ∷ []) (only 1 b 1) noCounts noCounts)) (2 ∷ 3 ∷ []) ≡ 3 ∷ []
+  -- "a count that stands for no pair of its n cabinets is 0": from a to 2, and from 2 to b, among three
+  pub pair-sender : among (λ a. inRange (withCounts [] (only a 2 1) (only a 2 1) noCounts)) (1 ∷ 2 ∷ 3 ∷ 4 ∷ 16 ∷ []) ≡ 1 ∷ 3 ∷ []
+  pub pair-receiver : among (λ b. inRange (withCounts [] (only 2 b 1) noCounts (only 2 b 1))) (1 ∷ 2 ∷ 3 ∷ 4 ∷ 16 ∷ []) ≡ 1 ∷ 3 ∷ []
+  -- in each of the three
+  pub pair-sent : inRange (withCounts [] (only 4 5 1) noCounts noCounts) ≡ false
+  pub pair-delivered : inRange (withCounts [] noCounts (only 4 5 1) noCounts) ≡ false
+  pub pair-lost : inRange (withCounts [] noCounts noCounts (only 4 5 1)) ≡ false
+  -- "and no count is above 33,554,430"
+  pub count-delivered : among (λ x. inRange (withCounts [] (only 1 2 x) (only 1 2 x) noCounts)) (33554430 ∷ 33554431 ∷ []) ≡ 33554430 ∷ []
+  pub count-lost : among (λ x. inRange (withCounts [] (only 1 2 x) noCounts (only 1 2 x))) (33554430 ∷ 33554431 ∷ []) ≡ 33554430 ∷ []
+  -- "16 rows of 16 counts for each"
+  pub places : among (λ x. countsInRange 3 (replicate x 0)) (255 ∷ 256 ∷ 257 ∷ []) ≡ 256 ∷ []
+  -- such a table is refused before all else
+  pub range-first : step (withCounts [] (only 1 2 1) noCounts noCounts) (Crash 9) ≡ refused 1
+  -- a row for each sender: from 1 to 2, 2 to 1, 16 to 15 and 16 to 16
+  pub rows : pairPlace 1 2 ∷ pairPlace 2 1 ∷ pairPlace 16 15 ∷ pairPlace 16 16 ∷ [] ≡ 1 ∷ 16 ∷ 254 ∷ 255 ∷ []
+
+-- ── records, messages and tables at the ends of what is in range, and just outside: node 2 of three, and messages among three ──
 
 -- 0, the three nodes and one more; those that are another node than 2
 abbrev pub anyNode : List ℕ
@@ -817,7 +908,7 @@ kindsOf g t = among (λ k. sent 2 1 k 1 g t) anyKind
 
 -- a table of n, with k records as at the start
 abbrev pub sized : ℕ → ℕ → Bool
-sized n k = inRange (record { n = n; nodes = replicate k startingNode; queue = [] })
+sized n k = inRange (allWaiting n (replicate k startingNode) [])
 
 -- ── "A table is in range when ..": each rule at its ends and just outside. On the left what is tried, on the right what of it is in range. ──
 

@@ -7,14 +7,16 @@ use mathlib.Core.List.{List, [], _∷_, _++_}
 use lib.Dec.{eqb}
 use lib.ListN.{length, getD, set}
 use Rattle.node_set.specs.NodeSet.{has, without}
-use Rattle.model.specs.Limits.{nodeLimit, counterEnd, callEnd}
+use Rattle.model.specs.Limits.{nodeLimit, counterEnd, callEnd, trafficEnd}
+use Rattle.model.specs.Counts.{countAt, oneMore}
 use Rattle.model.specs.Node.{isDown, isNormal, groupOf, ownerOf, nextCall, calls, replies}
 use Rattle.model.specs.Recovery.{withStatus, withCounter, withGroup, withCoordinator, withMembers, withTask, recoveryRecords, stopped, recovered}
 use Rattle.model.specs.Procedures.{next, inviteNext, handNext, forwardNext}
 use Rattle.model.specs.React.{leads, checked, expired, resumed}
 use Rattle.model.specs.Range.{isNode, carriesGroup}
-use Rattle.model.specs.State.{State, startingNode, start, nodeAt, goes, waits, oldest, withoutOldest, inRange}
-use Rattle.model.specs.Step.{actor, reactionTo, remaining, sent, effect, forms, Ground, ground, grounds, Result, refused, accepted, judged, step, after, run}
+use Rattle.model.specs.State.{State, startingNode, start, nodeAt, goes, waits, oldest, withoutOldest, waiting, countsAside, inRange}
+use Rattle.model.specs.Step.{actor, reactionTo, remaining, sent, withSent, withDelivered, withLost, effect, forms, Ground, ground, grounds, Result, refused, accepted, judged, step, aside, after, run}
+use Rattle.model.specs.Traffic.{sentIn, deliveredIn, lostIn}
 use Rattle.model.specs.History.{Entry, NotFormed, NoTask, Task, History, newest, coming, history}
 use Rattle.model.specs.Answers.{resultNumber}
 use Rattle.model.specs.declared.Status.{Status}
@@ -145,6 +147,29 @@ pub record StaysInRange : Type 0 where
   pub runs : (n : ℕ) → 1 ≤ n → n ≤ nodeLimit → (es : List Event) → inRange (run n es) ≡ true
   pub never-one : (n : ℕ) → 1 ≤ n → n ≤ nodeLimit → (es : List Event) (e : Event) → step (run n es) e ≡ refused 1 → ⊥
 
+-- ── the traffic (T-05) ──
+
+-- of every list of events from the starting table of n nodes
+pub record TrafficAgrees (n : ℕ) : Type 0 where
+  -- "The records equal the counts taken from the accepted events of the run", each of the 16 rows of 16
+  pub sent-counted : (es : List Event) (a b : ℕ) → 1 ≤ a → a ≤ nodeLimit → 1 ≤ b → b ≤ nodeLimit → countAt (run n es .sent) a b ≡ sentIn n es a b
+  pub delivered-counted : (es : List Event) (a b : ℕ) → 1 ≤ a → a ≤ nodeLimit → 1 ≤ b → b ≤ nodeLimit → countAt (run n es .delivered) a b ≡ deliveredIn n es a b
+  pub lost-counted : (es : List Event) (a b : ℕ) → 1 ≤ a → a ≤ nodeLimit → 1 ≤ b → b ≤ nodeLimit → countAt (run n es .lost) a b ≡ lostIn n es a b
+  -- "Sent is delivered plus lost plus those waiting, for each pair."
+  pub adds-up : (es : List Event) (a b : ℕ) → 1 ≤ a → a ≤ n → 1 ≤ b → b ≤ n
+      → countAt (run n es .sent) a b ≡ countAt (run n es .delivered) a b + countAt (run n es .lost) a b + waiting (run n es .queue) a b
+  -- "From the starting table no event ever meets the new ground"
+  pub never-seventeen : (es : List Event) (e : Event) → step (run n es) e ≡ refused 17 → ⊥
+
+-- no count of the list is at its end
+abbrev pub BelowEnd : List ℕ → Type 0
+BelowEnd l = (k : ℕ) → getD l k 0 < trafficEnd
+
+-- 1 and 17 aside, the counts decide nothing: from a table in range in which no count of what was sent is at its end, the answer and all of the table after it but the
+-- counts are the same as if nothing had been delivered or lost
+abbrev pub CountsDecideNothing : Type 0
+CountsDecideNothing = (s : State) (e : Event) → inRange s ≡ true → BelowEnd (s .sent) → aside (step s e) ≡ aside (step (countsAside s) e)
+
 -- ── refusals ──
 
 -- the event is accepted
@@ -172,8 +197,8 @@ pub record RefusesByGround : Type 0 where
   -- and an event is accepted exactly where none applies
   pub none : (s : State) (e : Event) (u : State) (k : Mark) → step s e ≡ accepted u k → NoneApplies (grounds s e)
   pub none-accepts : (s : State) (e : Event) → NoneApplies (grounds s e) → Accepts s e
-  -- a refusal's number is that of a ground of events: 1, or 7 to 14
-  pub numbers : (s : State) (e : Event) (r : ℕ) → step s e ≡ refused r → (r ≡ 1) ⊎ ((7 ≤ r) × (r ≤ 14))
+  -- a refusal's number is that of a ground of events: 1, 7 to 14, or 17
+  pub numbers : (s : State) (e : Event) (r : ℕ) → step s e ≡ refused r → (r ≡ 1) ⊎ (((7 ≤ r) × (r ≤ 14)) ⊎ (r ≡ 17))
   -- so none has number 0, and a result of number 0 is an accepted event
   pub never-zero : (s : State) (e : Event) → step s e ≡ refused 0 → ⊥
   pub zero-accepts : (s : State) (e : Event) → resultNumber (step s e) ≡ 0 → Accepts s e
@@ -205,7 +230,7 @@ TakesOut q (Finish i t) r = r ≡ q
 TakesOut q (Deliver a b) r = WithoutOldest a b q r
 TakesOut q (Lose a b) r = WithoutOldest a b q r
 
--- from s to u: one record at most, at most one message out, and at most one in, behind the others
+-- from s to u: one record at most, at most one message out, and at most one in, behind the others; and of the counts that of what was sent, delivered or lost
 pub record ChangesLittle (s : State) (e : Event) (u : State) : Type 0 where
   pub same-n : u .n ≡ s .n
   pub same-length : length (u .nodes) ≡ length (s .nodes)
@@ -213,6 +238,9 @@ pub record ChangesLittle (s : State) (e : Event) (u : State) : Type 0 where
   pub one-out : TakesOut (s .queue) e (remaining s e)
   pub one-in : u .queue ≡ remaining s e ++ sent (reactionTo s e .outgoing)
   pub few : length (u .queue) ≤ length (s .queue) + 1
+  pub sent-counts : u .sent ≡ withSent (s .sent) (reactionTo s e .outgoing)
+  pub delivered-counts : u .delivered ≡ withDelivered (s .delivered) e
+  pub lost-counts : u .lost ≡ withLost (s .lost) e
 
 pub record StepIsLocal : Type 0 where
   pub refused-nothing : (s : State) (e : Event) (r : ℕ) → step s e ≡ refused r → after s e ≡ s
@@ -340,16 +368,19 @@ pub record NoPlainReply (s : State) (a b : ℕ) : Type 0 where
   pub not-held : Holds s a b → ⊥
 
 -- "a plain reply and changes nothing else": all records are as they were; the oldest message from a to b is out, and behind the others is one reply from b to a,
--- yes, with the number of the call
+-- yes, with the number of the call; since T-05 both are counted
 abbrev pub withPlainReply : State → ℕ → ℕ → State
 withPlainReply s a b = record {
   n = s .n;
   nodes = s .nodes;
   queue = withoutOldest a b (s .queue) ++ (replies b a (oldest a b (s .queue) .call) true ∷ []);
+  sent = oneMore (s .sent) b a;
+  delivered = oneMore (s .delivered) a b;
+  lost = s .lost;
 }
 
 -- the oldest message from a to b was an invitation, and b acted on it: b is in Election in the new group, with its owner as coordinator, the last call number plus
--- one and the activity x; counter, task and members are kept; that message is out, and b's call m is behind the others
+-- one and the activity x; counter, task and members are kept; that message is out, b's call m is behind the others, and both are counted
 abbrev pub withCall : State → ℕ → ℕ → Activity → Message → State
 withCall s a b x m = record {
   n = s .n;
@@ -365,32 +396,41 @@ withCall s a b x m = record {
         activity = x;
       });
   queue = withoutOldest a b (s .queue) ++ (m ∷ []);
+  sent = oneMore (s .sent) (m .sender) (m .receiver);
+  delivered = oneMore (s .delivered) a b;
+  lost = s .lost;
 }
+
+-- T-05: no count of what b sent is at its end, so that nothing that b sends meets 17
+abbrev pub MaySend : State → ℕ → Type 0
+MaySend s b = (j : ℕ) → countAt (s .sent) b j ≡ trafficEnd → ⊥
 
 -- The delivery of an invitation to a node that is not Down, in every table in range: all of 01's kind 3, with T-03. (To a Down one it meets 9.)
 pub record InvitationRules : Type 0 where
   -- 01: "3: if not Normal"
-  pub not-normal : (s : State) (a b : ℕ) → InvitationReaches s a b → isNormal (nodeAt s b .status) ≡ false → step s (Deliver a b) ≡ accepted (withPlainReply s a b) Plain
+  pub not-normal : (s : State) (a b : ℕ) → InvitationReaches s a b → MaySend s b → isNormal (nodeAt s b .status) ≡ false → step s (Deliver a b) ≡ accepted (withPlainReply s a b) Plain
   -- "or it owns that group"
-  pub owned : (s : State) (a b : ℕ) → InvitationReaches s a b → Owns s a b → step s (Deliver a b) ≡ accepted (withPlainReply s a b) Plain
+  pub owned : (s : State) (a b : ℕ) → InvitationReaches s a b → MaySend s b → Owns s a b → step s (Deliver a b) ≡ accepted (withPlainReply s a b) Plain
   -- 02: "an invitation to the group a cabinet already holds": whatever its record holds beside that
-  pub held : (s : State) (a b : ℕ) → InvitationReaches s a b → Holds s a b → step s (Deliver a b) ≡ accepted (withPlainReply s a b) Plain
+  pub held : (s : State) (a b : ℕ) → InvitationReaches s a b → MaySend s b → Holds s a b → step s (Deliver a b) ≡ accepted (withPlainReply s a b) Plain
   -- 01: "Otherwise .. If it was its own coordinator, it forwards the invitation to each member": to the first of them
-  pub forwards : (s : State) (a b : ℕ) → InvitationReaches s a b → NoPlainReply s a b → nodeAt s b .last .number < callEnd
+  pub forwards : (s : State) (a b : ℕ) → InvitationReaches s a b → MaySend s b → NoPlainReply s a b → nodeAt s b .last .number < callEnd
       → nodeAt s b .coordinator ≡ b → 0 < nodeAt s b .members
       → step s (Deliver a b)
       ≡ accepted (withCall s a b
       (Forwarding (without (nodeAt s b .members) (next (nodeAt s b .members))) (next (nodeAt s b .members)) a (oldest a b (s .queue) .call))
       (calls b 3 (next (nodeAt s b .members)) (nextCall (nodeAt s b)) (oldest a b (s .queue) .group))) Plain
   -- "then it calls Accept on the new coordinator": at once where another leads it, or where it has no member
-  pub accepts : (s : State) (a b : ℕ) → InvitationReaches s a b → NoPlainReply s a b → nodeAt s b .last .number < callEnd
+  pub accepts : (s : State) (a b : ℕ) → InvitationReaches s a b → MaySend s b → NoPlainReply s a b → nodeAt s b .last .number < callEnd
       → (nodeAt s b .coordinator ≡ b → nodeAt s b .members ≡ 0)
       → step s (Deliver a b)
       ≡ accepted (withCall s a b (Accepting a (oldest a b (s .queue) .call))
       (calls b 4 (ownerOf (oldest a b (s .queue) .group .number)) (nextCall (nodeAt s b)) (oldest a b (s .queue) .group))) Plain
   -- 13: "a call is needed, last call number 16,777,215"
   pub calls-end : (s : State) (a b : ℕ) → InvitationReaches s a b → NoPlainReply s a b → nodeAt s b .last .number ≡ callEnd → step s (Deliver a b) ≡ refused 13
-  -- so in every run: an invitation to the group that a node holds, where the node is not Down
+  -- 17: "a message must be sent and its pair's sent count is 33,554,430", of the plain reply
+  pub reply-end : (s : State) (a b : ℕ) → InvitationReaches s a b → Holds s a b → countAt (s .sent) b a ≡ trafficEnd → step s (Deliver a b) ≡ refused 17
+  -- so in every run, where 17 is never met: an invitation to the group that a node holds, where the node is not Down
   pub runs : (n : ℕ) (es : List Event) (a b : ℕ)
       → isDown (nodeAt (run n es) b .status) ≡ false → oldest a b (run n es .queue) .kind ≡ 3 → Holds (run n es) a b
       → run n (es ++ (Deliver a b ∷ [])) ≡ withPlainReply (run n es) a b
@@ -474,9 +514,16 @@ pub record RecoveryRules : Type 0 where
   pub same-record : (i : ℕ) (x : Node) → recovered i x
       ≡ record { status = Normal; counter = x .counter + 1; group = recoveredGroup i x; coordinator = i; task = soloTask i; members = 0; last = x .last; activity = Idle }
   -- "The table after it is the same as before.": after every event in which a node recovers its record is that one, nothing is sent, and all else stays; the message of a
-  -- delivery is out
+  -- delivery is out and counted
   pub same-table : (s : State) (e : Event) (u : State) → step s e ≡ accepted u Recovers
-      → u ≡ record { n = s .n; nodes = set (s .nodes) (actor e - 1) (recovered (actor e) (nodeAt s (actor e))); queue = remaining s e }
+      → u ≡ record {
+        n = s .n;
+        nodes = set (s .nodes) (actor e - 1) (recovered (actor e) (nodeAt s (actor e)));
+        queue = remaining s e;
+        sent = s .sent;
+        delivered = withDelivered (s .delivered) e;
+        lost = withLost (s .lost) e;
+      }
   -- and it recovers where it did: by recover i (`refused-by`), when the call of a handing, accepting or contacting node expires, and by a no to a contacting one
   pub at-expire : (s : State) (i : ℕ) (u : State) (k : Mark) → recoversAtExpire (nodeAt s i .activity) ≡ true → step s (Expire i) ≡ accepted u k → k ≡ Recovers
   pub at-no : (s : State) (a b : ℕ) (u : State) (k : Mark) → nodeAt s b .activity ≡ Contacting → oldest a b (s .queue) .kind ≡ 6

@@ -17,6 +17,10 @@ counterEnd = 1048575
 abbrev pub callEnd : ℕ
 callEnd = 16777215
 
+-- T-05: "no count is above 33,554,430", which is two times the last call number's end
+abbrev pub trafficEnd : ℕ
+trafficEnd = 33554430
+
 -- "ticks left 1 to 15"
 abbrev pub tickEnd : ℕ
 tickEnd = 15

@@ -1,9 +1,10 @@
--- "A table is in range when ..": of one node's record and of one message. State puts them together.
+-- "A table is in range when ..": of one node's record, of one message and of one count. State puts them together.
 use Prim.Native.Nat.{ℕ}
 use mathlib.Core.Bool.{Bool, true, false, not, _&&_, _||_}
 use lib.Dec.{eqb, leb}
 use Rattle.node_set.specs.NodeSet.{has, within}
-use Rattle.model.specs.Limits.{counterEnd, callEnd, tickEnd, taskLow, taskEnd}
+use Rattle.model.specs.Limits.{counterEnd, callEnd, trafficEnd, tickEnd, taskLow, taskEnd}
+use Rattle.model.specs.Counts.{senderAt, receiverAt}
 use Rattle.model.specs.Node.{isDown, isIdle, ownerOf, counterOf}
 use Rattle.model.specs.declared.Status.{Status}
 use Rattle.model.specs.declared.Activity.{Activity}
@@ -86,3 +87,11 @@ messageInRange n m =
     && isCall (m .call .number)
     && (not (carriesGroup (m .kind)) || isGroup n (m .group .number))
     && (not (eqb (m .kind) 5) || isGivenTask (m .task .number))
+
+-- an ordered pair of the n nodes
+abbrev pub isPair : ℕ → ℕ → ℕ → Bool
+isPair n a b = isNode n a && isOther n a b
+
+-- T-05, of the count at place k: "a count that stands for no pair of its n cabinets is 0, and no count is above 33,554,430"
+unfoldable pub countInRange : ℕ → ℕ → ℕ → Bool
+countInRange n k x = leb x trafficEnd && (eqb x 0 || isPair n (senderAt k) (receiverAt k))

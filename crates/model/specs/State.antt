@@ -1,4 +1,4 @@
--- The table of document 01 as a state: n nodes and the waiting messages in the order sent; and what the code's table means as one.
+-- The table of document 01 as a state: n nodes, the waiting messages in the order sent and the counts of T-05; and what the code's table means as one.
 use Prim.Native.Nat.{ℕ, zero, suc, _+_, _-_}
 use mathlib.Core.Bool.{Bool, true, false, not, _&&_, _||_}
 use mathlib.Core.List.{List, [], _∷_, _++_}
@@ -6,7 +6,8 @@ use lib.Dec.{eqb, leb}
 use lib.ListN.{length, getD, replicate}
 use Rattle.model.specs.Pick.{pick}
 use Rattle.model.specs.Limits.{nodeLimit, queueLimit}
-use Rattle.model.specs.Range.{nodeInRange, messageInRange}
+use Rattle.model.specs.Counts.{countPlaces, countAt, oneMore, noCounts, one}
+use Rattle.model.specs.Range.{nodeInRange, messageInRange, countInRange}
 use Rattle.model.specs.declared.Status.{Status}
 use Rattle.model.specs.declared.Status.the-variants.{Down, Election, Reorganization, Normal}
 use Rattle.model.specs.declared.Activity.the-variants.{Idle}
@@ -18,6 +19,10 @@ pub record State : Type 0 where
   pub n : ℕ
   pub nodes : List Node
   pub queue : List Message
+  -- T-05: "how many messages were sent, delivered and lost"
+  pub sent : List ℕ
+  pub delivered : List ℕ
+  pub lost : List ℕ
 
 -- "Down and idle, every number 0, every set empty"
 abbrev pub startingNode : Node
@@ -34,7 +39,7 @@ startingNode = record {
 
 -- "Starting table: all Down and idle, every number 0, every set empty, no messages."
 abbrev pub start : ℕ → State
-start n = record { n = n; nodes = replicate n startingNode; queue = [] }
+start n = record { n = n; nodes = replicate n startingNode; queue = []; sent = noCounts; delivered = noCounts; lost = noCounts }
 
 -- 6: "n outside 1 to 16"
 abbrev pub wrongCount : ℕ → Bool
@@ -77,6 +82,28 @@ unfoldable pub withoutOldest : ℕ → ℕ → List Message → List Message
 withoutOldest a b [] = []
 withoutOldest a b (m ∷ ms) = pick (goes a b m) ms (m ∷ withoutOldest a b ms)
 
+-- how many messages of the queue pass a test
+unfoldable pub howMany : (Message → Bool) → List Message → ℕ
+howMany f [] = 0
+howMany f (m ∷ ms) = one (f m) + howMany f ms
+
+-- how many of its messages go from a to b
+abbrev pub waiting : List Message → ℕ → ℕ → ℕ
+waiting q a b = howMany (goes a b) q
+
+-- its messages counted by pair
+unfoldable pub countsOf : List Message → List ℕ
+countsOf [] = noCounts
+countsOf (m ∷ ms) = oneMore (countsOf ms) (m .sender) (m .receiver)
+
+-- a table of n nodes in which all that was sent still waits
+abbrev pub allWaiting : ℕ → List Node → List Message → State
+allWaiting n cs q = record { n = n; nodes = cs; queue = q; sent = countsOf q; delivered = noCounts; lost = noCounts }
+
+-- the table with its counts set aside: as if nothing had been delivered or lost
+abbrev pub countsAside : State → State
+countsAside s = allWaiting (s .n) (s .nodes) (s .queue)
+
 -- ── in range ──
 
 -- f holds of every element with its number, counted from k
@@ -84,15 +111,39 @@ unfoldable pub every : {A : Type 0} → (ℕ → A → Bool) → ℕ → List A 
 every f k [] = true
 every f k (x ∷ xs) = f k x && every f (k + 1) xs
 
--- "A table is in range when all numbers are as above .."
+-- f holds of each number from 1 to k
+unfoldable pub upTo : ℕ → (ℕ → Bool) → Bool
+upTo zero f = true
+upTo (suc k) f = upTo k f && f (suc k)
+
+-- T-05: "Sent is delivered plus lost plus those waiting", from a to b
+abbrev pub addsUp : State → ℕ → ℕ → Bool
+addsUp s a b = eqb (countAt (s .sent) a b) (countAt (s .delivered) a b + countAt (s .lost) a b + waiting (s .queue) a b)
+
+-- 01: "A table is in range when all numbers are as above ..", of its n nodes and the waiting messages
+abbrev pub baseInRange : ℕ → List Node → List Message → Bool
+baseInRange n cs q =
+    leb 1 n
+    && leb n nodeLimit
+    && eqb (length cs) n
+    && leb (length q) queueLimit
+    && every (nodeInRange n) 1 cs
+    && every (λ k. messageInRange n) 1 q
+
+-- 16 rows of 16 counts, each of them in range
+unfoldable pub countsInRange : ℕ → List ℕ → Bool
+countsInRange n l = eqb (length l) countPlaces && every (countInRange n) 0 l
+
+-- T-05: "A table is in range only if that holds" for each pair, "a count that stands for no pair of its n cabinets is 0, and no count is above 33,554,430."
+unfoldable pub trafficInRange : State → Bool
+trafficInRange s =
+    countsInRange (s .n) (s .sent)
+    && countsInRange (s .n) (s .delivered)
+    && countsInRange (s .n) (s .lost)
+    && upTo (s .n) (λ a. upTo (s .n) (λ b. addsUp s a b))
+
 unfoldable pub inRange : State → Bool
-inRange s =
-    leb 1 (s .n)
-    && leb (s .n) nodeLimit
-    && eqb (length (s .nodes)) (s .n)
-    && leb (length (s .queue)) queueLimit
-    && every (nodeInRange (s .n)) 1 (s .nodes)
-    && every (λ k. messageInRange (s .n)) 1 (s .queue)
+inRange s = baseInRange (s .n) (s .nodes) (s .queue) && trafficInRange s
 
 -- ── the code's table ──
 
@@ -102,10 +153,17 @@ firstOf zero d l = []
 firstOf (suc k) d [] = d ∷ firstOf k d []
 firstOf (suc k) d (x ∷ l) = x ∷ firstOf k d l
 
--- What a table means: its first n records, and its first `waiting` places. Nothing else of it is looked at. Where it says that there are more than it has
--- records or places, n or the number of waiting messages is out of range.
+-- What a table means: its first n records, its first `waiting` places, and all its counts. Nothing else of it is looked at. Where it says that there are more than it
+-- has records or places, n or the number of waiting messages is out of range.
 abbrev pub view : Table → State
-view t = record { n = t .n; nodes = firstOf (t .n) startingNode (t .nodes); queue = firstOf (t .waiting) noMessage (t .messages) }
+view t = record {
+  n = t .n;
+  nodes = firstOf (t .n) startingNode (t .nodes);
+  queue = firstOf (t .waiting) noMessage (t .messages);
+  sent = t .sent;
+  delivered = t .delivered;
+  lost = t .lost;
+}
 
 -- The table of a state. Nothing of it is free: past its n records stands the starting record, and past its waiting messages none.
 abbrev pub tableOf : State → Table
@@ -114,4 +172,7 @@ tableOf s = record {
   nodes = firstOf nodeLimit startingNode (s .nodes);
   messages = firstOf queueLimit noMessage (s .queue);
   waiting = length (s .queue);
+  sent = s .sent;
+  delivered = s .delivered;
+  lost = s .lost;
 }

@@ -5,12 +5,13 @@ use mathlib.Core.List.{List, [], _∷_, _++_}
 use lib.Dec.{eqb, leb, ltb}
 use lib.ListN.{length, set}
 use Rattle.model.specs.Pick.{pick}
-use Rattle.model.specs.Limits.{queueLimit, counterEnd, callEnd}
+use Rattle.model.specs.Limits.{queueLimit, counterEnd, callEnd, trafficEnd}
+use Rattle.model.specs.Counts.{countAt, oneMore}
 use Rattle.model.specs.Node.{isDown, isIdle, isWaiting, isCollecting, hasOpenCall}
 use Rattle.model.specs.Procedures.{stays}
 use Rattle.model.specs.React.{react}
-use Rattle.model.specs.Range.{isNode, isOther, isGivenTask}
-use Rattle.model.specs.State.{State, start, nodeAt, waits, oldest, withoutOldest, inRange}
+use Rattle.model.specs.Range.{isNode, isPair, isGivenTask}
+use Rattle.model.specs.State.{State, start, nodeAt, waits, oldest, withoutOldest, countsAside, inRange}
 use Rattle.model.specs.declared.Status.{Status}
 use Rattle.model.specs.declared.Activity.{Activity}
 use Rattle.model.specs.declared.Message.{Message}
@@ -68,12 +69,42 @@ abbrev pub sent : Outgoing → List Message
 sent Nothing = []
 sent (Send m) = m ∷ []
 
--- the state after an accepted event: one record stored, the message of a deliver or lose out, at most one message in
+-- T-05: the counts with what is sent, with what the event delivers, and with what it loses
+abbrev pub withSent : List ℕ → Outgoing → List ℕ
+withSent l Nothing = l
+withSent l (Send m) = oneMore l (m .sender) (m .receiver)
+
+abbrev pub withDelivered : List ℕ → Event → List ℕ
+withDelivered l (Crash i) = l
+withDelivered l (Recover i) = l
+withDelivered l (Check i) = l
+withDelivered l (Timeout i) = l
+withDelivered l (Tick i) = l
+withDelivered l (Expire i) = l
+withDelivered l (Finish i t) = l
+withDelivered l (Deliver a b) = oneMore l a b
+withDelivered l (Lose a b) = l
+
+abbrev pub withLost : List ℕ → Event → List ℕ
+withLost l (Crash i) = l
+withLost l (Recover i) = l
+withLost l (Check i) = l
+withLost l (Timeout i) = l
+withLost l (Tick i) = l
+withLost l (Expire i) = l
+withLost l (Finish i t) = l
+withLost l (Deliver a b) = l
+withLost l (Lose a b) = oneMore l a b
+
+-- the state after an accepted event: one record stored, the message of a deliver or lose out, at most one message in, and both counted
 unfoldable pub effect : State → Event → State
 effect s e = record {
   n = s .n;
   nodes = set (s .nodes) (actor e - 1) (reactionTo s e .node);
   queue = remaining s e ++ sent (reactionTo s e .outgoing);
+  sent = withSent (s .sent) (reactionTo s e .outgoing);
+  delivered = withDelivered (s .delivered) e;
+  lost = withLost (s .lost) e;
 }
 
 -- ── "Where each refusal is met" ──
@@ -87,8 +118,8 @@ wrongNumber n (Timeout i) = not (isNode n i)
 wrongNumber n (Tick i) = not (isNode n i)
 wrongNumber n (Expire i) = not (isNode n i)
 wrongNumber n (Finish i t) = not (isNode n i)
-wrongNumber n (Deliver a b) = not (isNode n a && isOther n a b)
-wrongNumber n (Lose a b) = not (isNode n a && isOther n a b)
+wrongNumber n (Deliver a b) = not (isPair n a b)
+wrongNumber n (Lose a b) = not (isPair n a b)
 
 -- 8: "finish task outside 100 to 65,535"
 abbrev pub wrongTask : Event → Bool
@@ -154,6 +185,11 @@ abbrev pub isSending : Outgoing → Bool
 isSending Nothing = false
 isSending (Send m) = true
 
+-- 17: "a message must be sent and its pair's sent count is 33,554,430", by the counts of what was sent
+abbrev pub pairAtEnd : List ℕ → Outgoing → Bool
+pairAtEnd l Nothing = false
+pairAtEnd l (Send m) = eqb (countAt l (m .sender) (m .receiver)) trafficEnd
+
 -- a line of the table of grounds: its number, and whether it applies
 pub record Ground : Type 0 where
   pub number : ℕ
@@ -179,6 +215,8 @@ grounds s e =
     ∷ ground 13 (isCalling (reactionTo s e .outgoing) && eqb (nodeAt s (actor e) .last .number) callEnd)
     -- "(a delivered one is already out)"
     ∷ ground 14 (isSending (reactionTo s e .outgoing) && eqb (length (remaining s e)) queueLimit)
+    -- T-05: "after 14"
+    ∷ ground 17 (pairAtEnd (s .sent) (reactionTo s e .outgoing))
     ∷ []
 
 -- ── the step ──
@@ -200,6 +238,11 @@ step s e = judged (accepted (effect s e) (reactionTo s e .mark)) (grounds s e)
 abbrev pub kept : State → Result → State
 kept s (refused r) = s
 kept s (accepted u k) = u
+
+-- a result with the counts of T-05 set aside
+abbrev pub aside : Result → Result
+aside (refused r) = refused r
+aside (accepted u k) = accepted (countsAside u) k
 
 abbrev pub after : State → Event → State
 after s e = kept s (step s e)

@@ -89,11 +89,15 @@ pub struct Message {
 }
 
 // n nodes, and the waiting messages in the order sent. Records past n and places past `waiting` are no part of 01's table.
+// T-05: "for each ordered pair, how many messages were sent, delivered and lost", row by sender: a to b at (a - 1) * 16 + (b - 1).
 pub struct Table {
     pub n: u8,
     pub nodes: [Node; 16],
     pub messages: [Message; 64],
     pub waiting: u8,
+    pub sent: [u32; 256],
+    pub delivered: [u32; 256],
+    pub lost: [u32; 256],
 }
 
 // The nine events.
@@ -153,6 +157,7 @@ pub enum Answer {
     CounterAtEnd,
     CallsAtEnd,
     QueueFull,
+    SentAtEnd,
 }
 
 // The answer of a step, and the table after it.

@@ -1,0 +1,217 @@
+-- With its counts set aside a table does the same: where no count of what was sent is at its end, the counts decide nothing.
+use Prim.Native.Nat.{ℕ, zero, suc, _+_, _-_, _≤_, _<_}
+use native.Mathlib.Omega.{arith}
+use mathlib.Core.Bool.{Bool, true, false, not, _&&_}
+use mathlib.Core.Path.{_≡_, refl, sym, _∙_, ap}
+use mathlib.Core.List.{List, [], _∷_, _++_}
+use lib.Dec.{eqb}
+use lib.ListN.{length, getD, set, replicate}
+use borrow.Author.Tests.{ne-eqb}
+use Rattle.model.specs.Pick.{pick, pick-false, by-test}
+use Rattle.model.specs.Limits.{queueLimit, counterEnd, callEnd, trafficEnd}
+use Rattle.model.specs.Counts.{pairPlace, noCounts}
+use Rattle.model.specs.State.{State, start, nodeAt, countsOf, allWaiting, countsAside, baseInRange, trafficInRange, inRange}
+use Rattle.model.specs.Step.{actor, reactionTo, remaining, sent, withSent, effect, wrongNumber, wrongTask, wrongStatus, wrongActivity, noneWaits, forms, isCalling, isSending, pairAtEnd, Ground, ground, grounds, Result, refused, accepted, judged, step, kept, aside, after, runFrom, run}
+use Rattle.model.specs.History.{History, noted, historyFrom}
+use Rattle.model.specs.Claims.{BelowEnd, CountsDecideNothing}
+use Rattle.model.proofs.Judged.{by-step}
+use Rattle.model.proofs.Local.{both-left}
+use Rattle.model.proofs.Fields.{in-range-size}
+use Rattle.model.proofs.InRange.{run-in}
+use Rattle.model.proofs.Waiting.{waiting-in}
+use Rattle.model.specs.declared.Node.{Node}
+use Rattle.model.specs.declared.Message.{Message}
+use Rattle.model.specs.declared.Outgoing.{Outgoing}
+use Rattle.model.specs.declared.Outgoing.the-variants.{Nothing, Send}
+use Rattle.model.specs.declared.Mark.{Mark}
+use Rattle.model.specs.declared.Event.{Event}
+use Rattle.model.specs.declared.Event.the-variants.{Crash, Recover, Check, Timeout, Tick, Expire, Finish, Deliver, Lose}
+
+-- ── counts below the end ──
+
+set-bounded : (l : List ℕ) (p k x m : ℕ) → getD l k 0 ≤ m → x ≤ m → getD (set l p x) k 0 ≤ m
+set-bounded [] p k x m h i = h
+set-bounded (y ∷ l) zero zero x m h i = i
+set-bounded (y ∷ l) zero (suc k) x m h i = h
+set-bounded (y ∷ l) (suc p) zero x m h i = h
+set-bounded (y ∷ l) (suc p) (suc k) x m h i = set-bounded l p k x m h i
+
+none-bounded : (j k : ℕ) → getD (replicate j 0) k 0 ≤ 0
+none-bounded zero k = omega arith
+none-bounded (suc j) zero = omega arith
+none-bounded (suc j) (suc k) = none-bounded j k
+
+-- no count of a queue is above its length
+counts-bounded : (q : List Message) (k : ℕ) → getD (countsOf q) k 0 ≤ length q
+unfolding countsOf
+counts-bounded [] k = none-bounded 256 k
+counts-bounded (m ∷ ms) k = set-bounded (countsOf ms) _ k _ _ (omega (arith, counts-bounded ms k)) (omega (arith, counts-bounded ms (pairPlace (m .sender) (m .receiver))))
+
+-- there is room for j more of each
+abbrev pub Room : ℕ → List ℕ → Type 0
+Room j l = (k : ℕ) → getD l k 0 + j < trafficEnd
+
+sent-room : (j : ℕ) (l : List ℕ) (o : Outgoing) → Room (suc j) l → Room j (withSent l o)
+sent-room j l Nothing h k = omega (arith, h k)
+sent-room j l (Send m) h k =
+    let p = pairPlace (m .sender) (m .receiver) in
+    let b = set-bounded l p k (getD l p 0 + 1) (trafficEnd - suc j) (omega (arith, h k)) (omega (arith, h p)) in
+    omega (arith, b, h k)
+
+below : (l : List ℕ) (o : Outgoing) → BelowEnd l → pairAtEnd l o ≡ false
+below l Nothing h = refl
+below l (Send m) h = let p = pairPlace (m .sender) (m .receiver) in ne-eqb (getD l p 0) trafficEnd (λ q. omega (arith, q, h p))
+
+-- ── the step by the grounds between the first and the last ──
+abbrev between : State → Event → List Ground
+between s e =
+    ground 7 (wrongNumber (s .n) e)
+    ∷ ground 8 (wrongTask e)
+    ∷ ground 9 (wrongStatus (nodeAt s (actor e) .status) e)
+    ∷ ground 10 (wrongActivity (nodeAt s (actor e) .activity) e)
+    ∷ ground 11 (noneWaits (s .queue) e)
+    ∷ ground 12 (forms (reactionTo s e .mark) && eqb (nodeAt s (actor e) .counter) counterEnd)
+    ∷ ground 13 (isCalling (reactionTo s e .outgoing) && eqb (nodeAt s (actor e) .last .number) callEnd)
+    ∷ ground 14 (isSending (reactionTo s e .outgoing) && eqb (length (remaining s e)) queueLimit)
+    ∷ []
+
+-- the result with the counts aside
+abbrev pub told : State → Event → Result
+told s e =
+    judged
+    (accepted (allWaiting (s .n) (set (s .nodes) (actor e - 1) (reactionTo s e .node)) (remaining s e ++ sent (reactionTo s e .outgoing))) (reactionTo s e .mark))
+    (between s e)
+
+aside-pick : (t : Bool) (r : ℕ) (x : Result) → aside (pick t (refused r) x) ≡ pick t (refused r) (aside x)
+unfolding pick
+aside-pick true r x = refl
+aside-pick false r x = refl
+
+aside-judged : (u : State) (k : Mark) (gs : List Ground) → aside (judged (accepted u k) gs) ≡ judged (accepted (countsAside u) k) gs
+unfolding judged
+aside-judged u k [] = refl
+aside-judged u k (g ∷ gs) = aside-pick (g .applies) (g .number) (judged (accepted u k) gs) ∙ ap (pick (g .applies) (refused (g .number))) (aside-judged u k gs)
+
+judged-last : (x : Result) (r : ℕ) (gs : List Ground) → judged x (gs ++ (ground r false ∷ [])) ≡ judged x gs
+unfolding judged
+judged-last x r [] = pick-false _ _
+judged-last x r (g ∷ gs) = ap (pick (g .applies) (refused (g .number))) (judged-last x r gs)
+
+by-between : (s : State) (e : Event) → inRange s ≡ true → BelowEnd (s .sent) → step s e ≡ judged (accepted (effect s e) (reactionTo s e .mark)) (between s e)
+unfolding step grounds judged
+by-between s e r b =
+    let x = accepted (effect s e) (reactionTo s e .mark) in
+    ap (λ (t : Bool). judged x (ground 1 (not t) ∷ (between s e ++ (ground 17 (pairAtEnd (s .sent) (reactionTo s e .outgoing)) ∷ [])))) r
+    ∙ pick-false _ _
+    ∙ ap (λ (t : Bool). judged x (between s e ++ (ground 17 t ∷ []))) (below (s .sent) (reactionTo s e .outgoing) b)
+    ∙ judged-last x 17 (between s e)
+
+pub told-is : (s : State) (e : Event) → inRange s ≡ true → BelowEnd (s .sent) → aside (step s e) ≡ told s e
+unfolding effect
+told-is s e r b = ap aside (by-between s e r b) ∙ aside-judged (effect s e) (reactionTo s e .mark) (between s e)
+
+told-same : (s : State) (e : Event) → told s e ≡ told (countsAside s) e
+unfolding reactionTo remaining
+told-same s (Crash i) = refl
+told-same s (Recover i) = refl
+told-same s (Check i) = refl
+told-same s (Timeout i) = refl
+told-same s (Tick i) = refl
+told-same s (Expire i) = refl
+told-same s (Finish i t) = refl
+told-same s (Deliver a b) = refl
+told-same s (Lose a b) = refl
+
+-- ── a table in which all that was sent still waits ──
+module _ (n : ℕ) (cs : List Node) (q : List Message) (r : baseInRange n cs q ≡ true) where
+  pub waiting-small : (k : ℕ) → getD (countsOf q) k 0 ≤ 64
+  waiting-small k = omega (arith, counts-bounded q k, in-range-size (allWaiting n cs q) (waiting-in n cs q r) .3)
+
+  pub waiting-below : BelowEnd (countsOf q)
+  waiting-below k = omega (arith, waiting-small k)
+
+  pub waiting-told : (e : Event) → aside (step (allWaiting n cs q) e) ≡ told (allWaiting n cs q) e
+  waiting-told e = told-is (allWaiting n cs q) e (waiting-in n cs q r) waiting-below
+
+pub in-range-base : (s : State) → inRange s ≡ true → baseInRange (s .n) (s .nodes) (s .queue) ≡ true
+unfolding inRange
+in-range-base s r = both-left _ (trafficInRange s) r
+
+pub aside-told : (s : State) (e : Event) → inRange s ≡ true → BelowEnd (s .sent) → aside (step s e) ≡ told (countsAside s) e
+aside-told s e r b = told-is s e r b ∙ told-same s e
+
+pub counts-decide-nothing : CountsDecideNothing
+counts-decide-nothing s e r b = aside-told s e r b ∙ sym (waiting-told (s .n) (s .nodes) (s .queue) (in-range-base s r) e)
+
+-- ── runs ──
+
+-- the tables of a run, with the counts of each set aside
+abbrev pub quick : State → List Event → State
+quick s [] = s
+quick s (e ∷ es) = quick (kept s (told s e)) es
+
+pub aside-kept : (s : State) (x : Result) → countsAside (kept s x) ≡ kept (countsAside s) (aside x)
+aside-kept s (refused r) = refl
+aside-kept s (accepted u k) = refl
+
+-- after an event there is room for one fewer
+room-after : (j : ℕ) (s : State) (e : Event) → Room (suc j) (s .sent) → Room j (after s e .sent)
+unfolding effect
+room-after j s e h =
+    by-step (λ x. Room j (kept s x .sent)) s e (λ _ k. omega (arith, h k)) (λ _ _. sent-room j (s .sent) (reactionTo s e .outgoing) h)
+
+room-below : (j : ℕ) (l : List ℕ) → Room j l → BelowEnd l
+room-below j l h k = omega (arith, h k)
+
+pub run-aside : (s : State) (es : List Event) → inRange s ≡ true → Room (length es) (s .sent) → countsAside (runFrom s es) ≡ quick (countsAside s) es
+unfolding runFrom
+run-aside s [] r h = refl
+run-aside s (e ∷ es) r h =
+    run-aside (after s e) es (run-in s (e ∷ []) r) (room-after (length es) s e (λ k. omega (arith, h k)))
+    ∙ ap (λ (u : State). quick u es) (aside-kept s (step s e) ∙ ap (kept (countsAside s)) (aside-told s e r (room-below _ (s .sent) h)))
+
+pub quick-append : (s : State) (es fs : List Event) → quick s (es ++ fs) ≡ quick (quick s es) fs
+quick-append s [] fs = refl
+quick-append s (e ∷ es) fs = quick-append (kept s (told s e)) es fs
+
+-- the same with the counts
+abbrev pub counting : State → List Event → State
+counting s [] = s
+counting s (e ∷ es) = counting (kept s (judged (accepted (effect s e) (reactionTo s e .mark)) (between s e))) es
+
+pub run-counting : (s : State) (es : List Event) → inRange s ≡ true → Room (length es) (s .sent) → runFrom s es ≡ counting s es
+unfolding runFrom
+run-counting s [] r h = refl
+run-counting s (e ∷ es) r h =
+    run-counting (after s e) es (run-in s (e ∷ []) r) (room-after (length es) s e (λ k. omega (arith, h k)))
+    ∙ ap (λ (x : Result). counting (kept s x) es) (by-between s e r (room-below _ (s .sent) h))
+
+abbrev pub quickHistory : State → History → List Event → History
+quickHistory s h [] = h
+quickHistory s h (e ∷ es) = quickHistory (kept s (told s e)) (noted h e (told s e)) es
+
+aside-noted : (h : History) (e : Event) (x : Result) → noted h e x ≡ noted h e (aside x)
+aside-noted h e (refused r) = refl
+aside-noted h e (accepted u k) = refl
+
+pub history-aside : (s : State) (h : History) (es : List Event) → inRange s ≡ true → Room (length es) (s .sent) → historyFrom s h es ≡ quickHistory (countsAside s) h es
+unfolding historyFrom runFrom
+history-aside s h [] r k = refl
+history-aside s h (e ∷ es) r k =
+    let t = aside-told s e r (room-below _ (s .sent) k) in
+    history-aside (after s e) (noted h e (step s e)) es (run-in s (e ∷ []) r) (room-after (length es) s e (λ j. omega (arith, k j)))
+    ∙ ap (λ (u : State). quickHistory u (noted h e (step s e)) es) (aside-kept s (step s e) ∙ ap (kept (countsAside s)) t)
+    ∙ ap (λ (g : History). quickHistory (kept (countsAside s) (told (countsAside s) e)) g es) (aside-noted h e (step s e) ∙ ap (noted h e) t)
+
+-- from the starting table
+pub start-room : (j : ℕ) → j < trafficEnd → Room j noCounts
+start-room j h k = omega (arith, h, none-bounded 256 k)
+
+room-run : (j : ℕ) (s : State) (es : List Event) → Room (length es + j) (s .sent) → Room j (runFrom s es .sent)
+unfolding runFrom
+room-run j s [] h k = omega (arith, h k)
+room-run j s (e ∷ es) h k = room-run j (after s e) es (room-after (length es + j) s e (λ i. omega (arith, h i))) k
+
+-- a run of fewer events leaves every count below its end
+pub run-below : (n : ℕ) (es : List Event) → length es < trafficEnd → BelowEnd (run n es .sent)
+run-below n es h = room-below 0 (run n es .sent) (room-run 0 (start n) es (start-room (length es + 0) (omega arith)))

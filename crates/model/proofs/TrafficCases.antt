@@ -1,0 +1,204 @@
+-- The cases of T-05.
+use Prim.Native.Nat.{ℕ, zero, suc, _+_, _≤_, _<_}
+use native.Mathlib.Omega.{arith}
+use mathlib.Core.Bool.{Bool, true, false, not, _&&_, _||_}
+use mathlib.Core.Path.{_≡_, refl, _∙_, ap, subst}
+use mathlib.Core.List.{List, [], _∷_, _++_}
+use lib.Dec.{eqb, leb, ltb}
+use lib.ListN.{length, set, replicate, length-set, length-replicate}
+use lib.Seq.{getD-set-same, getD-set-other}
+use lib.Count.{onesIn, ones, leadingZeros}
+use lib.Bits.{bitAnd, bitOr}
+use borrow.Author.Tests.{eqb-true, eqb-false, eq-eqb, leb-true, ltb-true}
+use Rattle.model.specs.Pick.{pick, pick-true, pick-false}
+use Rattle.model.specs.Limits.{trafficEnd}
+use Rattle.model.specs.Counts.{pairPlace, countAt, noCounts}
+use Rattle.model.specs.Node.{asks}
+use Rattle.model.specs.Procedures.{inviteNext, merges, handNext, finishes, forwardNext, askedAll, askAt, askAfter}
+use Rattle.model.specs.React.{checked, timedOut, ticked, expired, resumed, onAreYouCoordinator, onAreYouThere, onInvitation, onAccept, onReady, onReply, received, react}
+use Rattle.model.specs.Range.{activityInRange, nodeInRange, messageInRange, isNode, isPair, countInRange}
+use Rattle.model.specs.State.{State, startingNode, allWaiting, waits, oldest, withoutOldest, howMany, waiting, countsOf, every, upTo, addsUp, baseInRange, countsInRange, trafficInRange, inRange}
+use Rattle.model.specs.Step.{reactionTo, remaining, effect, wrongNumber, wrongTask, wrongStatus, wrongActivity, noneWaits, Ground, ground, grounds, Result, refused, accepted, judged, step, kept, after}
+use Rattle.model.specs.Cases.{k10, past, only, withCounts, someWait, among, TrafficCases}
+use Rattle.model.proofs.Fields.{parts, Counting, node-is, other-is, in-range-size, in-range-places, in-range-each, in-range-sum}
+use Rattle.model.proofs.Counts.{same-pair, upTo-all, pair-counting, is-count}
+use Rattle.model.proofs.InRange.{every-set, every-replicate, none-in}
+use Rattle.model.proofs.Aside.{in-range-base}
+use Rattle.model.proofs.Local.{both-left, both-right}
+use Rattle.model.proofs.Waiting.{waiting-in}
+use Rattle.model.proofs.Cases.{two-counting}
+use Rattle.model.specs.declared.Node.{Node}
+use Rattle.model.specs.declared.Message.{Message}
+use Rattle.model.specs.declared.Event.{Event}
+use Rattle.model.specs.declared.Event.the-variants.{Crash, Recover, Check, Timeout, Tick, Expire, Finish, Deliver, Lose}
+
+and-true : (t : Bool) → (t && true) ≡ t
+and-true true = refl
+and-true false = refl
+
+-- ── a table with more messages of a pair behind it ──
+module _ (s : State) (a b d l : ℕ) (r : inRange s ≡ true) (p : isPair (s .n) a b ≡ true) (h : countAt (s .sent) a b + d + l ≤ trafficEnd) where
+  small : s .n ≤ 16
+  small = in-range-size s r .1
+
+  here : Counting a b
+  here = pair-counting (s .n) a b small p
+
+  places : (length (s .sent) ≡ 256) × (length (s .delivered) ≡ 256) × (length (s .lost) ≡ 256)
+  places = in-range-places s r
+
+  each : (every (countInRange (s .n)) 0 (s .sent) ≡ true) × (every (countInRange (s .n)) 0 (s .delivered) ≡ true) × (every (countInRange (s .n)) 0 (s .lost) ≡ true)
+  each = in-range-each s r
+
+  nodes : (1 ≤ a) × (a ≤ s .n) × (1 ≤ b) × (b ≤ s .n)
+  nodes =
+      let x = node-is (s .n) a (both-left _ _ p) in
+      let y = other-is (s .n) a b (both-right (isNode (s .n) a) _ p) in
+      (x .low, x .high, y .low, y .high)
+
+  sum-here : countAt (s .sent) a b ≡ countAt (s .delivered) a b + countAt (s .lost) a b + waiting (s .queue) a b
+  sum-here = in-range-sum s a b r (nodes .0) (nodes .1) (nodes .2) (nodes .3)
+
+  set-here : (k : List ℕ) (v : ℕ) → length k ≡ 256 → countAt (set k (pairPlace a b) v) a b ≡ v
+  set-here k v e = getD-set-same k (pairPlace a b) v 0 (omega (arith, e, here .low, here .high, here .low-to, here .high-to))
+
+  set-there : (k : List ℕ) (v x y : ℕ) → Counting x y → ((a ≡ x) × (b ≡ y) → ⊥) → countAt (set k (pairPlace a b) v) x y ≡ countAt k x y
+  set-there k v x y q f = getD-set-other k (pairPlace a b) (pairPlace x y) v 0 (λ e. f (same-pair a b x y here q e))
+
+  sums : (x y : ℕ) → 1 ≤ x → x ≤ s .n → 1 ≤ y → y ≤ s .n → addsUp (past a b d l s) x y ≡ true
+  sums x y i j k m = by (eqb a x) (eqb b y) refl refl
+    where
+      there : ((a ≡ x) × (b ≡ y) → ⊥) → addsUp (past a b d l s) x y ≡ true
+      there f =
+          let q : Counting x y = record { low = i; high = omega (arith, small); low-to = k; high-to = omega (arith, small) } in
+          eq-eqb (countAt (past a b d l s .sent) x y) (countAt (past a b d l s .delivered) x y + countAt (past a b d l s .lost) x y + waiting (s .queue) x y)
+          (omega (arith, set-there (s .sent) (countAt (s .sent) a b + d + l) x y q f, set-there (s .delivered) (countAt (s .delivered) a b + d) x y q f, set-there (s .lost) (countAt (s .lost) a b + l) x y q f, in-range-sum s x y r i j k m))
+
+      by : (t u : Bool) → eqb a x ≡ t → eqb b y ≡ u → addsUp (past a b d l s) x y ≡ true
+      by true true e f =
+          subst (λ (z : ℕ). addsUp (past a b d l s) z y ≡ true) (eqb-true a x e)
+          (subst (λ (z : ℕ). addsUp (past a b d l s) a z ≡ true) (eqb-true b y f)
+          (eq-eqb (countAt (past a b d l s .sent) a b) (countAt (past a b d l s .delivered) a b + countAt (past a b d l s .lost) a b + waiting (s .queue) a b)
+          (omega (arith, set-here (s .sent) (countAt (s .sent) a b + d + l) (places .0), set-here (s .delivered) (countAt (s .delivered) a b + d) (places .1), set-here (s .lost) (countAt (s .lost) a b + l) (places .2), sum-here))))
+      by true false e f = there (λ z. eqb-false b y f (z .1))
+      by false u e f = there (λ z. eqb-false a x e (z .0))
+
+  past-in : inRange (past a b d l s) ≡ true
+  unfolding inRange trafficInRange countsInRange
+  past-in =
+      rw (
+        in-range-base s r,
+        eq-eqb _ 256 (length-set (s .sent) (pairPlace a b) (countAt (s .sent) a b + d + l) ∙ places .0),
+        eq-eqb _ 256 (length-set (s .delivered) (pairPlace a b) (countAt (s .delivered) a b + d) ∙ places .1),
+        eq-eqb _ 256 (length-set (s .lost) (pairPlace a b) (countAt (s .lost) a b + l) ∙ places .2),
+        every-set (countInRange (s .n)) 0 (s .sent) (pairPlace a b) (countAt (s .sent) a b + d + l) (each .0) (is-count (s .n) a b (countAt (s .sent) a b + d + l) small p h),
+        every-set (countInRange (s .n)) 0 (s .delivered) (pairPlace a b) (countAt (s .delivered) a b + d) (each .1) (is-count (s .n) a b (countAt (s .delivered) a b + d) small p (omega (arith, h, sum-here))),
+        every-set (countInRange (s .n)) 0 (s .lost) (pairPlace a b) (countAt (s .lost) a b + l) (each .2) (is-count (s .n) a b (countAt (s .lost) a b + l) small p (omega (arith, h, sum-here))),
+        upTo-all (s .n) (λ x. upTo (s .n) (λ y. addsUp (past a b d l s) x y)) (λ x i j. upTo-all (s .n) (λ y. addsUp (past a b d l s) x y) (λ y k m. sums x y i j k m)),
+      )
+
+-- ── a step from a table in range: by the grounds after the first ──
+abbrev later : List Ground → List Ground
+later [] = []
+later (g ∷ gs) = gs
+
+abbrev known : State → Event → Result
+known s e = judged (accepted (effect s e) (reactionTo s e .mark)) (later (grounds s e))
+
+known-is : (s : State) (e : Event) → inRange s ≡ true → step s e ≡ known s e
+unfolding step grounds judged
+known-is s e r = rw (r, pick-false) refl
+
+worn : (n : ℕ) (cs : List Node) (q : List Message) (a b d l : ℕ) (e : Event) → baseInRange n cs q ≡ true → isPair n a b ≡ true → leb (countAt (countsOf q) a b + d + l) trafficEnd ≡ true
+    → step (past a b d l (allWaiting n cs q)) e ≡ known (past a b d l (allWaiting n cs q)) e
+worn n cs q a b d l e r p h = known-is (past a b d l (allWaiting n cs q)) e (past-in (allWaiting n cs q) a b d l (waiting-in n cs q r) p (leb-true _ trafficEnd h))
+
+once : (n : ℕ) (cs : List Node) (q : List Message) (e : Event) → baseInRange n cs q ≡ true → after (allWaiting n cs q) e ≡ kept (allWaiting n cs q) (known (allWaiting n cs q) e)
+once n cs q e r = ap (kept (allWaiting n cs q)) (known-is (allWaiting n cs q) e (waiting-in n cs q r))
+
+by-range : (s : State) (e : Event) → inRange s ≡ false → step s e ≡ refused 1
+unfolding step grounds judged
+by-range s e r = rw (r, pick-true) refl
+
+-- ── counts of which one is not 0: only that one is computed ──
+every-only : (f : ℕ → ℕ → Bool) (j m k x : ℕ) → ((i : ℕ) → f i 0 ≡ true) → k < m → every f j (set (replicate m 0) k x) ≡ f (j + k) x
+unfolding every
+every-only f j zero k x z h = absurd (omega arith)
+every-only f j (suc m) zero x z h =
+    ap (λ (t : Bool). f j x && t) (every-replicate f (j + 1) m 0 z) ∙ and-true (f j x) ∙ ap (λ (i : ℕ). f i x) (omega arith)
+every-only f j (suc m) (suc k) x z h =
+    ap (λ (t : Bool). t && every f (j + 1) (set (replicate m 0) k x)) (z j) ∙ every-only f (j + 1) m k x z (omega arith) ∙ ap (λ (i : ℕ). f i x) (omega arith)
+
+counts-only : (n a b x : ℕ) → ltb (pairPlace a b) 256 ≡ true → countsInRange n (only a b x) ≡ countInRange n (pairPlace a b) x
+unfolding countsInRange
+counts-only n a b x h =
+    ap (λ (t : Bool). t && every (countInRange n) 0 (only a b x)) (eq-eqb _ 256 (length-set noCounts (pairPlace a b) x ∙ length-replicate {A = ℕ} 256 0))
+    ∙ every-only (countInRange n) 0 256 (pairPlace a b) x (none-in n) (ltb-true _ 256 h)
+    ∙ ap (λ (i : ℕ). countInRange n i x) (omega arith)
+
+abbrev light : List Message → ℕ → ℕ → ℕ → ℕ → ℕ → ℕ → ℕ → ℕ → ℕ → Bool
+light q a b x c d y e f z =
+    baseInRange 3 (replicate 3 startingNode) q
+    && (countInRange 3 (pairPlace a b) x
+    && countInRange 3 (pairPlace c d) y
+    && countInRange 3 (pairPlace e f) z
+    && upTo 3 (λ i. upTo 3 (λ j. addsUp (withCounts q (only a b x) (only c d y) (only e f z)) i j)))
+
+light-is : (q : List Message) (a b x c d y e f z : ℕ) → (ltb (pairPlace a b) 256 && ltb (pairPlace c d) 256 && ltb (pairPlace e f) 256) ≡ true
+    → inRange (withCounts q (only a b x) (only c d y) (only e f z)) ≡ light q a b x c d y e f z
+unfolding inRange trafficInRange
+light-is q a b x c d y e f z h =
+    let r = parts (ltb (pairPlace a b) 256) (ltb (pairPlace c d) 256 ∷ ltb (pairPlace e f) 256 ∷ []) h in
+    rw (counts-only 3 a b x (r .0), counts-only 3 c d y (r .1 .0), counts-only 3 e f z (r .1 .1 .0))
+
+among-same : (f g : ℕ → Bool) → ((x : ℕ) → f x ≡ g x) → (l : List ℕ) → among f l ≡ among g l
+among-same f g h [] = refl
+among-same f g h (x ∷ l) = ap (λ (t : Bool). pick t (x ∷ among f l) (among f l)) (h x) ∙ ap (λ (k : List ℕ). pick (g x) (x ∷ k) k) (among-same f g h l)
+
+-- the same where f and g agree on the numbers of the list
+abbrev Agree : (f g : ℕ → Bool) → List ℕ → Type 0
+Agree f g [] = Unit {0}
+Agree f g (x ∷ l) = (f x ≡ g x) × Agree f g l
+
+among-agree : (f g : ℕ → Bool) (l : List ℕ) → Agree f g l → among f l ≡ among g l
+among-agree f g [] h = refl
+among-agree f g (x ∷ l) h = ap (λ (t : Bool). pick t (x ∷ among f l) (among f l)) (h .0) ∙ ap (λ (k : List ℕ). pick (g x) (x ∷ k) k) (among-agree f g l (h .1))
+
+pub traffic-cases : TrafficCases
+unfolding pick onesIn ones leadingZeros bitAnd bitOr inviteNext merges handNext finishes forwardNext askedAll askAt askAfter checked timedOut ticked expired resumed onAreYouCoordinator onAreYouThere onInvitation onAccept onReady onReply received react activityInRange nodeInRange messageInRange countInRange countsOf howMany upTo countsInRange waits oldest withoutOldest every reactionTo remaining effect wrongNumber wrongTask wrongStatus wrongActivity noneWaits grounds judged
+traffic-cases =
+    record {
+      k10-sent = ap (λ (s : State). countAt (s .sent) 1 2 ∷ countAt (s .sent) 2 1 ∷ []) (two-counting k10 (omega arith));
+      k10-delivered = ap (λ (s : State). countAt (s .delivered) 1 2 ∷ countAt (s .delivered) 2 1 ∷ []) (two-counting k10 (omega arith));
+      at-end = worn _ _ _ 2 1 33554430 0 _ refl refl refl;
+      below-end = worn _ _ _ 2 1 33554429 0 _ refl refl refl;
+      at-end-lost = worn _ _ _ 2 1 0 33554430 _ refl refl refl;
+      at-end-waiting = worn _ _ _ 2 1 33554429 0 _ refl refl refl;
+      at-end-reply = worn _ _ _ 2 1 33554430 0 _ refl refl refl;
+      other-pair = worn _ _ _ 1 2 33554430 0 _ refl refl refl;
+      nothing-sent = worn _ _ _ 2 1 33554430 0 _ refl refl refl;
+      delivered-at-end = worn _ _ _ 2 1 33554429 0 _ refl refl refl;
+      ends-twelve = worn _ _ _ 2 1 33554366 0 _ refl refl refl;
+      ends-thirteen = worn _ _ _ 2 1 33554366 0 _ refl refl refl;
+      ends-fourteen = worn _ _ _ 2 1 33554366 0 _ refl refl refl;
+      ends-seventeen = worn _ _ _ 2 1 33554367 0 _ refl refl refl;
+      delivery-counts = once _ _ _ _ refl;
+      loss-counts = once _ _ _ _ refl;
+      refused-counts = once _ _ _ _ refl;
+      sum-sent = among-same (λ (x : ℕ). inRange (withCounts (someWait 2) (only 1 2 x) (only 1 2 3) (only 1 2 4))) (λ (x : ℕ). light (someWait 2) 1 2 x 1 2 3 1 2 4) (λ (x : ℕ). light-is (someWait 2) 1 2 x 1 2 3 1 2 4 refl) (8 ∷ 9 ∷ 10 ∷ []);
+      sum-delivered = among-same (λ (x : ℕ). inRange (withCounts (someWait 2) (only 1 2 9) (only 1 2 x) (only 1 2 4))) (λ (x : ℕ). light (someWait 2) 1 2 9 1 2 x 1 2 4) (λ (x : ℕ). light-is (someWait 2) 1 2 9 1 2 x 1 2 4 refl) (2 ∷ 3 ∷ 4 ∷ []);
+      sum-lost = among-same (λ (x : ℕ). inRange (withCounts (someWait 2) (only 1 2 9) (only 1 2 3) (only 1 2 x))) (λ (x : ℕ). light (someWait 2) 1 2 9 1 2 3 1 2 x) (λ (x : ℕ). light-is (someWait 2) 1 2 9 1 2 3 1 2 x refl) (3 ∷ 4 ∷ 5 ∷ []);
+      sum-waiting = among-same (λ (x : ℕ). inRange (withCounts (someWait x) (only 1 2 9) (only 1 2 3) (only 1 2 4))) (λ (x : ℕ). light (someWait x) 1 2 9 1 2 3 1 2 4) (λ (x : ℕ). light-is (someWait x) 1 2 9 1 2 3 1 2 4 refl) (1 ∷ 2 ∷ 3 ∷ []);
+      sum-sender = among-agree (λ (a : ℕ). inRange (withCounts (asks 1 3 (record { number = 1 }) ∷ []) (only a 3 1) (only 1 2 0) (only 1 2 0))) (λ (a : ℕ). light (asks 1 3 (record { number = 1 }) ∷ []) a 3 1 1 2 0 1 2 0) (1 ∷ 2 ∷ []) (light-is (asks 1 3 (record { number = 1 }) ∷ []) 1 3 1 1 2 0 1 2 0 refl, (light-is (asks 1 3 (record { number = 1 }) ∷ []) 2 3 1 1 2 0 1 2 0 refl, tt));
+      sum-receiver = among-agree (λ (b : ℕ). inRange (withCounts (asks 1 3 (record { number = 1 }) ∷ []) (only 1 b 1) (only 1 2 0) (only 1 2 0))) (λ (b : ℕ). light (asks 1 3 (record { number = 1 }) ∷ []) 1 b 1 1 2 0 1 2 0) (2 ∷ 3 ∷ []) (light-is (asks 1 3 (record { number = 1 }) ∷ []) 1 2 1 1 2 0 1 2 0 refl, (light-is (asks 1 3 (record { number = 1 }) ∷ []) 1 3 1 1 2 0 1 2 0 refl, tt));
+      pair-sender = among-agree (λ (a : ℕ). inRange (withCounts [] (only a 2 1) (only a 2 1) (only 1 2 0))) (λ (a : ℕ). light [] a 2 1 a 2 1 1 2 0) (1 ∷ 2 ∷ 3 ∷ 4 ∷ 16 ∷ []) (light-is [] 1 2 1 1 2 1 1 2 0 refl, (light-is [] 2 2 1 2 2 1 1 2 0 refl, (light-is [] 3 2 1 3 2 1 1 2 0 refl, (light-is [] 4 2 1 4 2 1 1 2 0 refl, (light-is [] 16 2 1 16 2 1 1 2 0 refl, tt)))));
+      pair-receiver = among-agree (λ (b : ℕ). inRange (withCounts [] (only 2 b 1) (only 1 2 0) (only 2 b 1))) (λ (b : ℕ). light [] 2 b 1 1 2 0 2 b 1) (1 ∷ 2 ∷ 3 ∷ 4 ∷ 16 ∷ []) (light-is [] 2 1 1 1 2 0 2 1 1 refl, (light-is [] 2 2 1 1 2 0 2 2 1 refl, (light-is [] 2 3 1 1 2 0 2 3 1 refl, (light-is [] 2 4 1 1 2 0 2 4 1 refl, (light-is [] 2 16 1 1 2 0 2 16 1 refl, tt)))));
+      pair-sent = light-is [] 4 5 1 1 2 0 1 2 0 refl;
+      pair-delivered = light-is [] 1 2 0 4 5 1 1 2 0 refl;
+      pair-lost = light-is [] 1 2 0 1 2 0 4 5 1 refl;
+      count-delivered = among-same (λ (x : ℕ). inRange (withCounts [] (only 1 2 x) (only 1 2 x) (only 1 2 0))) (λ (x : ℕ). light [] 1 2 x 1 2 x 1 2 0) (λ (x : ℕ). light-is [] 1 2 x 1 2 x 1 2 0 refl) (33554430 ∷ 33554431 ∷ []);
+      count-lost = among-same (λ (x : ℕ). inRange (withCounts [] (only 1 2 x) (only 1 2 0) (only 1 2 x))) (λ (x : ℕ). light [] 1 2 x 1 2 0 1 2 x) (λ (x : ℕ). light-is [] 1 2 x 1 2 0 1 2 x refl) (33554430 ∷ 33554431 ∷ []);
+      places = refl;
+      range-first = by-range (withCounts [] (only 1 2 1) (only 1 2 0) (only 1 2 0)) (Crash 9) (light-is [] 1 2 1 1 2 0 1 2 0 refl);
+      rows = refl;
+    }

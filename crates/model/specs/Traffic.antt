@@ -1,0 +1,59 @@
+-- T-05: "the counts taken from the accepted events of the run". The steps say which events of a list are accepted and what they send; the records of the counts
+-- are not looked at.
+use Prim.Native.Nat.{ℕ, _+_}
+use mathlib.Core.Bool.{_&&_}
+use mathlib.Core.List.{List, [], _∷_}
+use lib.Dec.{eqb}
+use Rattle.model.specs.Counts.{one}
+use Rattle.model.specs.State.{State, start, waiting}
+use Rattle.model.specs.Step.{reactionTo, sent, Result, refused, accepted, step, after}
+use Rattle.model.specs.declared.Event.{Event}
+use Rattle.model.specs.declared.Event.the-variants.{Crash, Recover, Check, Timeout, Tick, Expire, Finish, Deliver, Lose}
+
+-- how many messages from a to b the event sends, where it is accepted: 1 or 0
+abbrev pub sends : ℕ → ℕ → State → Event → ℕ
+sends a b s e = waiting (sent (reactionTo s e .outgoing)) a b
+
+-- 1 for a deliver a b
+abbrev pub delivers : ℕ → ℕ → State → Event → ℕ
+delivers a b s (Crash i) = 0
+delivers a b s (Recover i) = 0
+delivers a b s (Check i) = 0
+delivers a b s (Timeout i) = 0
+delivers a b s (Tick i) = 0
+delivers a b s (Expire i) = 0
+delivers a b s (Finish i t) = 0
+delivers a b s (Deliver x y) = one (eqb x a && eqb y b)
+delivers a b s (Lose x y) = 0
+
+-- 1 for a lose a b
+abbrev pub loses : ℕ → ℕ → State → Event → ℕ
+loses a b s (Crash i) = 0
+loses a b s (Recover i) = 0
+loses a b s (Check i) = 0
+loses a b s (Timeout i) = 0
+loses a b s (Tick i) = 0
+loses a b s (Expire i) = 0
+loses a b s (Finish i t) = 0
+loses a b s (Deliver x y) = 0
+loses a b s (Lose x y) = one (eqb x a && eqb y b)
+
+-- k of an accepted event, nothing of a refused one
+abbrev pub ofAccepted : ℕ → Result → ℕ
+ofAccepted k (refused r) = 0
+ofAccepted k (accepted u m) = k
+
+-- the sum of f over the accepted events of a list, from the state s
+unfoldable pub tally : (State → Event → ℕ) → State → List Event → ℕ
+tally f s [] = 0
+tally f s (e ∷ es) = ofAccepted (f s e) (step s e) + tally f (after s e) es
+
+-- over the list alone, from the starting table of n nodes: messages sent from a to b, delivered and lost
+abbrev pub sentIn : ℕ → List Event → ℕ → ℕ → ℕ
+sentIn n es a b = tally (sends a b) (start n) es
+
+abbrev pub deliveredIn : ℕ → List Event → ℕ → ℕ → ℕ
+deliveredIn n es a b = tally (delivers a b) (start n) es
+
+abbrev pub lostIn : ℕ → List Event → ℕ → ℕ → ℕ
+lostIn n es a b = tally (loses a b) (start n) es
