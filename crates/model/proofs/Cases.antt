@@ -1,27 +1,27 @@
 -- The named cases, the wrong turnings, the further cases, those of T-03 and T-04 and the ends of what is in range, computed over the definitions.
 use Prim.Native.Nat.{ℕ, _+_, _≤_, _<_}
 use native.Mathlib.Omega.{arith}
-use mathlib.Core.Bool.{true, false}
+use mathlib.Core.Bool.{Bool, true, false, _&&_}
 use mathlib.Core.Path.{_≡_, refl, sym, _∙_, ap, subst}
 use mathlib.Core.List.{List, [], _∷_, _++_, map}
-use lib.ListN.{length}
+use lib.ListN.{length, replicate}
 use lib.Count.{onesIn, ones, leadingZeros}
 use lib.Bits.{bitAnd, bitOr}
 use Rattle.model.specs.Pick.{pick, pick-true}
 use Rattle.model.specs.Counts.{total}
-use Rattle.model.specs.Node.{calls, replies}
+use Rattle.model.specs.Node.{asks, calls, replies}
 use Rattle.model.specs.Recovery.{recoveryRecords}
 use Rattle.model.specs.Procedures.{inviteNext, merges, handNext, finishes, forwardNext, askedAll, askAt, askAfter}
 use Rattle.model.specs.React.{checked, timedOut, ticked, expired, resumed, onAreYouCoordinator, onAreYouThere, onInvitation, onAccept, onReady, onReply, received, react}
 use Rattle.model.specs.Range.{activityInRange, nodeInRange, messageInRange, countInRange}
-use Rattle.model.specs.State.{State, start, nodeAt, allWaiting, countsAside, baseInRange, waits, oldest, withoutOldest, howMany, countsOf, every, upTo, countsInRange, trafficInRange, inRange}
+use Rattle.model.specs.State.{State, startingNode, start, nodeAt, allWaiting, countsAside, baseInRange, waits, oldest, withoutOldest, howMany, countsOf, every, upTo, countsInRange, trafficInRange, inRange}
 use Rattle.model.specs.Step.{reactionTo, remaining, effect, wrongNumber, wrongTask, wrongStatus, wrongActivity, noneWaits, Ground, grounds, Result, refused, accepted, judged, step, kept, aside, after, runFrom, run}
 use Rattle.model.specs.History.{History, blank, updated, noted, historyFrom, history}
-use Rattle.model.specs.Cases.{NamedCases, WrongTurnings, FurtherCases, printedFields, collecting, k10, foundThree, setOf, none, node, three, joinsFormer, inFormerGroup, newMerges, afterMerge, bothInvite, invitedByBoth, joinsNew, inNewGroup, invitedOnce, InvitedTwice, HeldGroupCases, RecoveryCases, RangeCases}
+use Rattle.model.specs.Cases.{NamedCases, WrongTurnings, FurtherCases, printedFields, among, queued, pair, filled, anyCall, collecting, k10, foundThree, setOf, none, node, three, joinsFormer, inFormerGroup, newMerges, afterMerge, bothInvite, invitedByBoth, joinsNew, inNewGroup, invitedOnce, InvitedTwice, HeldGroupCases, RecoveryCases, RangeCases}
 use Rattle.model.proofs.InRange.{start-in, run-in, stays-in-range}
 use Rattle.model.proofs.Waiting.{waiting-in}
 use Rattle.model.proofs.Aside.{told, waiting-small, waiting-told, aside-told, quick, aside-kept, run-aside, quick-append, counting, run-counting, quickHistory, history-aside, start-room, run-below}
-use Rattle.model.specs.declared.Status.the-variants.{Election, Reorganization}
+use Rattle.model.specs.declared.Status.the-variants.{Election, Reorganization, Normal}
 use Rattle.model.specs.declared.Activity.the-variants.{Idle, Collecting}
 use Rattle.model.specs.declared.Node.{Node}
 use Rattle.model.specs.declared.Message.{Message}
@@ -55,6 +55,29 @@ some-steps n cs q es r h = run-aside (allWaiting n cs q) es (waiting-in n cs q r
 not-in-range : (n : ℕ) (cs : List Node) (q : List Message) (e : Event) → baseInRange n cs q ≡ false → step (allWaiting n cs q) e ≡ refused 1
 unfolding step grounds judged inRange
 not-in-range n cs q e r = rw (r, pick-true) refl
+
+-- nor is the starting table of no nodes in range
+no-nodes : (e : Event) → step (start 0) e ≡ refused 1
+unfolding step grounds judged inRange pick
+no-nodes e = refl
+
+-- whether such a table is in range does not depend on its counts
+waiting-range : (n : ℕ) (cs : List Node) (q : List Message) → inRange (allWaiting n cs q) ≡ baseInRange n cs q
+unfolding inRange
+waiting-range n cs q = by (baseInRange n cs q) refl
+  where
+    by : (t : Bool) → baseInRange n cs q ≡ t → (baseInRange n cs q && trafficInRange (allWaiting n cs q)) ≡ baseInRange n cs q
+    by true e = waiting-in n cs q e ∙ sym e
+    by false e = rw e
+
+pub among-same : (f g : ℕ → Bool) → ((x : ℕ) → f x ≡ g x) → (l : List ℕ) → among f l ≡ among g l
+among-same f g h [] = refl
+among-same f g h (x ∷ l) = ap (λ (t : Bool). pick t (x ∷ among f l) (among f l)) (h x) ∙ ap (λ (k : List ℕ). pick (g x) (x ∷ k) k) (among-same f g h l)
+
+-- those of the numbers for which such a table is in range
+among-tables : (n : ℕ → ℕ) (cs : ℕ → List Node) (q : ℕ → List Message) (l : List ℕ)
+    → among (λ x. inRange (allWaiting (n x) (cs x) (q x))) l ≡ among (λ x. baseInRange (n x) (cs x) (q x)) l
+among-tables n cs q l = among-same (λ x. inRange (allWaiting (n x) (cs x) (q x))) (λ x. baseInRange (n x) (cs x) (q x)) (λ x. waiting-range (n x) (cs x) (q x)) l
 
 -- from a starting table
 started : (n : ℕ) (es : List Event) → 1 ≤ n → n ≤ 16 → length es < 33554430 → countsAside (run n es) ≡ quick (countsAside (start n)) es
@@ -92,7 +115,7 @@ history-two : (es : List Event) → length es < 33554430 → history 2 es ≡ qu
 history-two es k = history-aside (start 2) blank es (start-in 2 (omega arith) (omega arith)) (start-room (length es) k)
 
 pub named-cases : NamedCases
-unfolding total pick onesIn ones leadingZeros bitAnd bitOr inviteNext merges handNext finishes forwardNext askedAll askAt askAfter checked timedOut ticked expired resumed onAreYouCoordinator onAreYouThere onInvitation onAccept onReady onReply received react activityInRange nodeInRange messageInRange countsOf waits oldest withoutOldest every reactionTo remaining effect wrongNumber wrongTask wrongStatus wrongActivity noneWaits grounds judged updated
+unfolding total pick onesIn ones leadingZeros bitAnd bitOr inviteNext merges handNext finishes forwardNext askedAll askAt askAfter checked timedOut ticked expired resumed onAreYouCoordinator onAreYouThere onInvitation onAccept onReady onReply received react activityInRange nodeInRange messageInRange waits oldest withoutOldest every reactionTo remaining effect wrongNumber wrongTask wrongStatus wrongActivity noneWaits grounds judged updated
 named-cases =
     record {
       k1-low = refl;
@@ -157,7 +180,7 @@ named-cases =
     }
 
 pub wrong-turnings : WrongTurnings
-unfolding pick onesIn ones leadingZeros bitAnd bitOr inviteNext merges handNext finishes forwardNext askedAll askAt askAfter checked timedOut ticked expired resumed onAreYouCoordinator onAreYouThere onInvitation onAccept onReady onReply received react activityInRange nodeInRange messageInRange countsOf waits oldest withoutOldest every reactionTo remaining effect wrongNumber wrongTask wrongStatus wrongActivity noneWaits grounds judged updated
+unfolding pick onesIn ones leadingZeros bitAnd bitOr inviteNext merges handNext finishes forwardNext askedAll askAt askAfter checked timedOut ticked expired resumed onAreYouCoordinator onAreYouThere onInvitation onAccept onReady onReply received react activityInRange nodeInRange messageInRange waits oldest withoutOldest every reactionTo remaining effect wrongNumber wrongTask wrongStatus wrongActivity noneWaits grounds judged updated
 wrong-turnings =
     record {
       members-aside = one-step _ _ _ _ refl;
@@ -171,7 +194,7 @@ wrong-turnings =
     }
 
 pub further-cases : FurtherCases
-unfolding pick onesIn ones leadingZeros bitAnd bitOr inviteNext merges handNext finishes forwardNext askedAll askAt askAfter checked timedOut ticked expired resumed onAreYouCoordinator onAreYouThere onInvitation onAccept onReady onReply received react activityInRange nodeInRange messageInRange countsOf waits oldest withoutOldest every reactionTo remaining effect wrongNumber wrongTask wrongStatus wrongActivity noneWaits grounds judged updated
+unfolding pick onesIn ones leadingZeros bitAnd bitOr inviteNext merges handNext finishes forwardNext askedAll askAt askAfter checked timedOut ticked expired resumed onAreYouCoordinator onAreYouThere onInvitation onAccept onReady onReply received react activityInRange nodeInRange messageInRange waits oldest withoutOldest every reactionTo remaining effect wrongNumber wrongTask wrongStatus wrongActivity noneWaits grounds judged updated
 further-cases =
     record {
       highest-found = one-step _ _ _ _ refl;
@@ -231,7 +254,7 @@ further-cases =
       range-node = not-in-range _ _ _ _ refl;
       range-message = not-in-range _ _ _ _ refl;
       range-queue = not-in-range _ _ _ _ refl;
-      range-count = not-in-range _ _ _ _ refl;
+      range-count = no-nodes (Crash 9);
       range-kept = one-refused _ _ _ _ _ refl refl;
       number-none = one-refused _ _ _ _ _ refl refl;
       number-same = one-refused _ _ _ _ _ refl refl;
@@ -291,7 +314,7 @@ record Parts : Type 0 where
   pub dropped : quick (inNewGroup (calls 2 3 1 (record { number = 5 }) (record { number = 34 }) ∷ [])) (Deliver 2 1 ∷ Deliver 1 2 ∷ []) ≡ inNewGroup []
 
 parts : Parts
-unfolding pick onesIn ones leadingZeros bitAnd bitOr inviteNext merges handNext finishes forwardNext askedAll askAt askAfter checked timedOut ticked expired resumed onAreYouCoordinator onAreYouThere onInvitation onAccept onReady onReply received react activityInRange nodeInRange messageInRange countsOf waits oldest withoutOldest every reactionTo remaining effect wrongNumber wrongTask wrongStatus wrongActivity noneWaits grounds judged updated
+unfolding pick onesIn ones leadingZeros bitAnd bitOr inviteNext merges handNext finishes forwardNext askedAll askAt askAfter checked timedOut ticked expired resumed onAreYouCoordinator onAreYouThere onInvitation onAccept onReady onReply received react activityInRange nodeInRange messageInRange waits oldest withoutOldest every reactionTo remaining effect wrongNumber wrongTask wrongStatus wrongActivity noneWaits grounds judged updated
 parts = record { former = refl; merges = refl; both = refl; joins = refl; hands = refl; again = refl; dropped = refl }
 
 onward : (s t u : State) (es fs : List Event) → quick s es ≡ t → quick t fs ≡ u → quick s (es ++ fs) ≡ u
@@ -319,7 +342,7 @@ invited-twice =
         (onward afterMerge invitedByBoth joined bothInvite joinsNew (parts .both) (onward invitedByBoth threeCollects joined accepting handing (parts .joins) (parts .hands)))
 
 pub held-group-cases : HeldGroupCases
-unfolding pick onesIn ones leadingZeros bitAnd bitOr inviteNext merges handNext finishes forwardNext askedAll askAt askAfter checked timedOut ticked expired resumed onAreYouCoordinator onAreYouThere onInvitation onAccept onReady onReply received react activityInRange nodeInRange messageInRange countsOf waits oldest withoutOldest every reactionTo remaining effect wrongNumber wrongTask wrongStatus wrongActivity noneWaits grounds judged updated
+unfolding pick onesIn ones leadingZeros bitAnd bitOr inviteNext merges handNext finishes forwardNext askedAll askAt askAfter checked timedOut ticked expired resumed onAreYouCoordinator onAreYouThere onInvitation onAccept onReady onReply received react activityInRange nodeInRange messageInRange waits oldest withoutOldest every reactionTo remaining effect wrongNumber wrongTask wrongStatus wrongActivity noneWaits grounds judged updated
 held-group-cases =
     record {
       normal = one-step _ _ _ _ refl;
@@ -335,7 +358,7 @@ held-group-cases =
     }
 
 pub recovery-cases : RecoveryCases
-unfolding pick onesIn ones leadingZeros bitAnd bitOr inviteNext merges handNext finishes forwardNext askedAll askAt askAfter checked timedOut ticked expired resumed onAreYouCoordinator onAreYouThere onInvitation onAccept onReady onReply received react activityInRange nodeInRange messageInRange countsOf waits oldest withoutOldest every reactionTo remaining effect wrongNumber wrongTask wrongStatus wrongActivity noneWaits grounds judged updated
+unfolding pick onesIn ones leadingZeros bitAnd bitOr inviteNext merges handNext finishes forwardNext askedAll askAt askAfter checked timedOut ticked expired resumed onAreYouCoordinator onAreYouThere onInvitation onAccept onReady onReply received react activityInRange nodeInRange messageInRange waits oldest withoutOldest every reactionTo remaining effect wrongNumber wrongTask wrongStatus wrongActivity noneWaits grounds judged updated
 recovery-cases =
     record {
       k2 = refl;
@@ -357,16 +380,16 @@ recovery-cases =
     }
 
 pub range-cases : RangeCases
-unfolding pick bitOr activityInRange nodeInRange messageInRange countInRange countsOf howMany upTo countsInRange trafficInRange every inRange
+unfolding pick bitOr activityInRange nodeInRange messageInRange every
 range-cases =
     record {
-      count-ends = refl;
-      count-records = refl;
-      waiting-end = refl;
-      every-first = refl;
-      every-last = refl;
-      every-oldest = refl;
-      every-newest = refl;
+      count-ends = among-tables (λ (x : ℕ). x) (λ (x : ℕ). replicate x startingNode) (λ (x : ℕ). []) (0 ∷ 1 ∷ 16 ∷ 17 ∷ []);
+      count-records = among-tables (λ (x : ℕ). 3) (λ (x : ℕ). replicate x startingNode) (λ (x : ℕ). []) (2 ∷ 3 ∷ 4 ∷ []);
+      waiting-end = among-tables (λ (x : ℕ). 2) (λ (x : ℕ). pair Normal none Idle [] .nodes) queued (0 ∷ 64 ∷ 65 ∷ []);
+      every-first = among-tables (λ (x : ℕ). 3) (λ (x : ℕ). filled Normal 16 1 1 (setOf (x ∷ [])) 0 Idle ∷ startingNode ∷ startingNode ∷ []) (λ (x : ℕ). []) (1 ∷ 2 ∷ 3 ∷ []);
+      every-last = among-tables (λ (x : ℕ). 3) (λ (x : ℕ). startingNode ∷ startingNode ∷ filled Normal 18 3 3 (setOf (x ∷ [])) 0 Idle ∷ []) (λ (x : ℕ). []) (1 ∷ 2 ∷ 3 ∷ []);
+      every-oldest = among-tables (λ (x : ℕ). 3) (λ (x : ℕ). replicate 3 startingNode) (λ (x : ℕ). asks 1 2 (record { number = x }) ∷ asks 2 1 (record { number = 1 }) ∷ []) anyCall;
+      every-newest = among-tables (λ (x : ℕ). 3) (λ (x : ℕ). replicate 3 startingNode) (λ (x : ℕ). asks 1 2 (record { number = 1 }) ∷ asks 2 1 (record { number = x }) ∷ []) anyCall;
       counter-end = refl;
       group-down = refl;
       coordinator-down = refl;

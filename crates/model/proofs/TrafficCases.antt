@@ -26,7 +26,7 @@ use Rattle.model.proofs.InRange.{every-set, every-replicate, none-in}
 use Rattle.model.proofs.Aside.{in-range-base}
 use Rattle.model.proofs.Local.{both-left, both-right}
 use Rattle.model.proofs.Waiting.{waiting-in}
-use Rattle.model.proofs.Cases.{two-counting}
+use Rattle.model.proofs.Cases.{two-counting, among-same}
 use Rattle.model.specs.declared.Node.{Node}
 use Rattle.model.specs.declared.Message.{Message}
 use Rattle.model.specs.declared.Event.{Event}
@@ -150,10 +150,6 @@ unfolding inRange trafficInRange
 light-is q a b x c d y e f z h =
     let r = parts (ltb (pairPlace a b) 256) (ltb (pairPlace c d) 256 ∷ ltb (pairPlace e f) 256 ∷ []) h in
     rw (counts-only 3 a b x (r .0), counts-only 3 c d y (r .1 .0), counts-only 3 e f z (r .1 .1 .0))
-
-among-same : (f g : ℕ → Bool) → ((x : ℕ) → f x ≡ g x) → (l : List ℕ) → among f l ≡ among g l
-among-same f g h [] = refl
-among-same f g h (x ∷ l) = ap (λ (t : Bool). pick t (x ∷ among f l) (among f l)) (h x) ∙ ap (λ (k : List ℕ). pick (g x) (x ∷ k) k) (among-same f g h l)
 
 -- the same where f and g agree on the numbers of the list
 abbrev Agree : (f g : ℕ → Bool) → List ℕ → Type 0
