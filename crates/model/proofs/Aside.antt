@@ -76,8 +76,8 @@ between s e =
     ∷ []
 
 -- the result with the counts aside
-abbrev pub told : State → Event → Result
-told s e =
+abbrev pub resultAside : State → Event → Result
+resultAside s e =
     judged
     (accepted (allWaiting (s .n) (set (s .nodes) (actor e - 1) (reactionTo s e .node)) (remaining s e ++ sent (reactionTo s e .outgoing))) (reactionTo s e .mark))
     (between s e)
@@ -106,21 +106,21 @@ by-between s e r b =
     ∙ ap (λ (t : Bool). judged x (between s e ++ (ground 17 t ∷ []))) (below (s .sent) (reactionTo s e .outgoing) b)
     ∙ judged-last x 17 (between s e)
 
-pub told-is : (s : State) (e : Event) → inRange s ≡ true → BelowEnd (s .sent) → aside (step s e) ≡ told s e
+pub result-aside : (s : State) (e : Event) → inRange s ≡ true → BelowEnd (s .sent) → aside (step s e) ≡ resultAside s e
 unfolding effect
-told-is s e r b = ap aside (by-between s e r b) ∙ aside-judged (effect s e) (reactionTo s e .mark) (between s e)
+result-aside s e r b = ap aside (by-between s e r b) ∙ aside-judged (effect s e) (reactionTo s e .mark) (between s e)
 
-told-same : (s : State) (e : Event) → told s e ≡ told (countsAside s) e
+same-aside : (s : State) (e : Event) → resultAside s e ≡ resultAside (countsAside s) e
 unfolding reactionTo remaining
-told-same s (Crash i) = refl
-told-same s (Recover i) = refl
-told-same s (Check i) = refl
-told-same s (Timeout i) = refl
-told-same s (Tick i) = refl
-told-same s (Expire i) = refl
-told-same s (Finish i t) = refl
-told-same s (Deliver a b) = refl
-told-same s (Lose a b) = refl
+same-aside s (Crash i) = refl
+same-aside s (Recover i) = refl
+same-aside s (Check i) = refl
+same-aside s (Timeout i) = refl
+same-aside s (Tick i) = refl
+same-aside s (Expire i) = refl
+same-aside s (Finish i t) = refl
+same-aside s (Deliver a b) = refl
+same-aside s (Lose a b) = refl
 
 -- ── a table in which all that was sent still waits ──
 module _ (n : ℕ) (cs : List Node) (q : List Message) (r : baseInRange n cs q ≡ true) where
@@ -130,25 +130,25 @@ module _ (n : ℕ) (cs : List Node) (q : List Message) (r : baseInRange n cs q �
   pub waiting-below : BelowEnd (countsOf q)
   waiting-below k = omega (arith, waiting-small k)
 
-  pub waiting-told : (e : Event) → aside (step (allWaiting n cs q) e) ≡ told (allWaiting n cs q) e
-  waiting-told e = told-is (allWaiting n cs q) e (waiting-in n cs q r) waiting-below
+  pub waiting-aside : (e : Event) → aside (step (allWaiting n cs q) e) ≡ resultAside (allWaiting n cs q) e
+  waiting-aside e = result-aside (allWaiting n cs q) e (waiting-in n cs q r) waiting-below
 
 pub in-range-base : (s : State) → inRange s ≡ true → baseInRange (s .n) (s .nodes) (s .queue) ≡ true
 unfolding inRange
 in-range-base s r = both-left _ (trafficInRange s) r
 
-pub aside-told : (s : State) (e : Event) → inRange s ≡ true → BelowEnd (s .sent) → aside (step s e) ≡ told (countsAside s) e
-aside-told s e r b = told-is s e r b ∙ told-same s e
+pub aside-result : (s : State) (e : Event) → inRange s ≡ true → BelowEnd (s .sent) → aside (step s e) ≡ resultAside (countsAside s) e
+aside-result s e r b = result-aside s e r b ∙ same-aside s e
 
 pub counts-decide-nothing : CountsDecideNothing
-counts-decide-nothing s e r b = aside-told s e r b ∙ sym (waiting-told (s .n) (s .nodes) (s .queue) (in-range-base s r) e)
+counts-decide-nothing s e r b = aside-result s e r b ∙ sym (waiting-aside (s .n) (s .nodes) (s .queue) (in-range-base s r) e)
 
 -- ── runs ──
 
 -- the tables of a run, with the counts of each set aside
 abbrev pub quick : State → List Event → State
 quick s [] = s
-quick s (e ∷ es) = quick (kept s (told s e)) es
+quick s (e ∷ es) = quick (kept s (resultAside s e)) es
 
 pub aside-kept : (s : State) (x : Result) → countsAside (kept s x) ≡ kept (countsAside s) (aside x)
 aside-kept s (refused r) = refl
@@ -168,11 +168,11 @@ unfolding runFrom
 run-aside s [] r h = refl
 run-aside s (e ∷ es) r h =
     run-aside (after s e) es (run-in s (e ∷ []) r) (room-after (length es) s e (λ k. omega (arith, h k)))
-    ∙ ap (λ (u : State). quick u es) (aside-kept s (step s e) ∙ ap (kept (countsAside s)) (aside-told s e r (room-below _ (s .sent) h)))
+    ∙ ap (λ (u : State). quick u es) (aside-kept s (step s e) ∙ ap (kept (countsAside s)) (aside-result s e r (room-below _ (s .sent) h)))
 
 pub quick-append : (s : State) (es fs : List Event) → quick s (es ++ fs) ≡ quick (quick s es) fs
 quick-append s [] fs = refl
-quick-append s (e ∷ es) fs = quick-append (kept s (told s e)) es fs
+quick-append s (e ∷ es) fs = quick-append (kept s (resultAside s e)) es fs
 
 -- the same with the counts
 abbrev pub counting : State → List Event → State
@@ -188,7 +188,7 @@ run-counting s (e ∷ es) r h =
 
 abbrev pub quickHistory : State → History → List Event → History
 quickHistory s h [] = h
-quickHistory s h (e ∷ es) = quickHistory (kept s (told s e)) (noted h e (told s e)) es
+quickHistory s h (e ∷ es) = quickHistory (kept s (resultAside s e)) (noted h e (resultAside s e)) es
 
 aside-noted : (h : History) (e : Event) (x : Result) → noted h e x ≡ noted h e (aside x)
 aside-noted h e (refused r) = refl
@@ -198,10 +198,10 @@ pub history-aside : (s : State) (h : History) (es : List Event) → inRange s �
 unfolding historyFrom runFrom
 history-aside s h [] r k = refl
 history-aside s h (e ∷ es) r k =
-    let t = aside-told s e r (room-below _ (s .sent) k) in
+    let t = aside-result s e r (room-below _ (s .sent) k) in
     history-aside (after s e) (noted h e (step s e)) es (run-in s (e ∷ []) r) (room-after (length es) s e (λ j. omega (arith, k j)))
     ∙ ap (λ (u : State). quickHistory u (noted h e (step s e)) es) (aside-kept s (step s e) ∙ ap (kept (countsAside s)) t)
-    ∙ ap (λ (g : History). quickHistory (kept (countsAside s) (told (countsAside s) e)) g es) (aside-noted h e (step s e) ∙ ap (noted h e) t)
+    ∙ ap (λ (g : History). quickHistory (kept (countsAside s) (resultAside (countsAside s) e)) g es) (aside-noted h e (step s e) ∙ ap (noted h e) t)
 
 -- from the starting table
 pub start-room : (j : ℕ) → j < trafficEnd → Room j noCounts

@@ -20,7 +20,7 @@ use Rattle.model.specs.History.{History, blank, updated, noted, historyF
 use Rattle.model.specs.Cases.{NamedCases, WrongTurnings, FurtherCases, printedFields, among, queued, pair, filled, anyCall, collecting, k10, foundThree, setOf, none, node, three, joinsFormer, inFormerGroup, newMerges, afterMerge, bothInvite, invitedByBoth, joinsNew, inNewGroup, invitedOnce, InvitedTwice, HeldGroupCases, RecoveryCases, RangeCases}
 use Rattle.model.proofs.InRange.{start-in, run-in, stays-in-range}
 use Rattle.model.proofs.Waiting.{waiting-in}
-use Rattle.model.proofs.Aside.{told, waiting-small, waiting-told, aside-told, quick, aside-kept, run-aside, quick-append, counting, run-counting, quickHistory, history-aside, start-room, run-below}
+use Rattle.model.proofs.Aside.{resultAside, waiting-small, waiting-aside, aside-result, quick, aside-kept, run-aside, quick-append, counting, run-counting, quickHistory, history-aside, start-room, run-below}
 use Rattle.model.specs.declared.Status.the-variants.{Election, Reorganization, Normal}
 use Rattle.model.specs.declared.Activity.the-variants.{Idle, Collecting}
 use Rattle.model.specs.declared.Node.{Node}
@@ -32,19 +32,19 @@ use Rattle.model.specs.declared.Event.the-variants.{Crash, Recover, Chec
 -- ── a case is computed with the counts set aside, so that neither their range nor 17 is computed at each event ──
 
 -- from a table in which all that was sent still waits
-one-step : (n : ℕ) (cs : List Node) (q : List Message) (e : Event) → baseInRange n cs q ≡ true → aside (step (allWaiting n cs q) e) ≡ told (allWaiting n cs q) e
-one-step n cs q e r = waiting-told n cs q r e
+one-step : (n : ℕ) (cs : List Node) (q : List Message) (e : Event) → baseInRange n cs q ≡ true → aside (step (allWaiting n cs q) e) ≡ resultAside (allWaiting n cs q) e
+one-step n cs q e r = waiting-aside n cs q r e
 
 refused-aside : (x : Result) (r : ℕ) → aside x ≡ refused r → x ≡ refused r
 refused-aside (refused k) r h = h
 refused-aside (accepted u k) r h = absurd (let z : _≡_ {A = ℕ} 1 0 = cc in omega arith)
 
-one-refused : (n : ℕ) (cs : List Node) (q : List Message) (e : Event) (r : ℕ) → baseInRange n cs q ≡ true → told (allWaiting n cs q) e ≡ refused r
+one-refused : (n : ℕ) (cs : List Node) (q : List Message) (e : Event) (r : ℕ) → baseInRange n cs q ≡ true → resultAside (allWaiting n cs q) e ≡ refused r
     → step (allWaiting n cs q) e ≡ refused r
 one-refused n cs q e r b h = refused-aside _ r (one-step n cs q e b ∙ h)
 
 one-after : (n : ℕ) (cs : List Node) (q : List Message) (e : Event) → baseInRange n cs q ≡ true
-    → countsAside (after (allWaiting n cs q) e) ≡ kept (allWaiting n cs q) (told (allWaiting n cs q) e)
+    → countsAside (after (allWaiting n cs q) e) ≡ kept (allWaiting n cs q) (resultAside (allWaiting n cs q) e)
 one-after n cs q e r = aside-kept (allWaiting n cs q) (step (allWaiting n cs q) e) ∙ ap (kept (allWaiting n cs q)) (one-step n cs q e r)
 
 some-steps : (n : ℕ) (cs : List Node) (q : List Message) (es : List Event) → baseInRange n cs q ≡ true → length es < 33554366
@@ -93,19 +93,19 @@ in-three : (es : List Event) → length es < 33554430 → countsAside (run 3 es)
 in-three es k = started 3 es (omega arith) (omega arith) k
 
 -- an event after a run
-from-run : (n : ℕ) (es : List Event) (e : Event) → 1 ≤ n → n ≤ 16 → length es + 1 < 33554430 → aside (step (run n es) e) ≡ told (quick (countsAside (start n)) es) e
+from-run : (n : ℕ) (es : List Event) (e : Event) → 1 ≤ n → n ≤ 16 → length es + 1 < 33554430 → aside (step (run n es) e) ≡ resultAside (quick (countsAside (start n)) es) e
 from-run n es e l h k =
-    aside-told (run n es) e (stays-in-range .runs n l h es) (run-below n es (omega arith))
-    ∙ ap (λ (s : State). told s e) (started n es l h (omega arith))
+    aside-result (run n es) e (stays-in-range .runs n l h es) (run-below n es (omega arith))
+    ∙ ap (λ (s : State). resultAside s e) (started n es l h (omega arith))
 
-from-two : (es : List Event) (e : Event) (r : ℕ) → length es + 1 < 33554430 → told (quick (countsAside (start 2)) es) e ≡ refused r → step (run 2 es) e ≡ refused r
+from-two : (es : List Event) (e : Event) (r : ℕ) → length es + 1 < 33554430 → resultAside (quick (countsAside (start 2)) es) e ≡ refused r → step (run 2 es) e ≡ refused r
 from-two es e r k h = refused-aside _ r (from-run 2 es e (omega arith) (omega arith) k ∙ h)
 
-at-start : (e : Event) (r : ℕ) → told (countsAside (start 2)) e ≡ refused r → step (start 2) e ≡ refused r
+at-start : (e : Event) (r : ℕ) → resultAside (countsAside (start 2)) e ≡ refused r → step (start 2) e ≡ refused r
 unfolding runFrom
 at-start e r h = from-two [] e r (omega arith) h
 
-after-two : (es : List Event) (e : Event) → length es + 1 < 33554430 → countsAside (after (run 2 es) e) ≡ kept (quick (countsAside (start 2)) es) (told (quick (countsAside (start 2)) es) e)
+after-two : (es : List Event) (e : Event) → length es + 1 < 33554430 → countsAside (after (run 2 es) e) ≡ kept (quick (countsAside (start 2)) es) (resultAside (quick (countsAside (start 2)) es) e)
 after-two es e k =
     aside-kept (run 2 es) (step (run 2 es) e)
     ∙ ap (λ (s : State). kept s (aside (step (run 2 es) e))) (two es (omega arith))

@@ -6,6 +6,7 @@ use mathlib.Core.Path.{_≡_, refl, sym, _∙_, ap, subst}
 use mathlib.Core.List.{List, [], _∷_, _++_}
 use lib.Dec.{eqb}
 use lib.ListN.{length, getD, set}
+use lib.Seq.{set-getD}
 use borrow.Author.Tests.{eqb-true, eq-eqb, le-leb, ne-eqb}
 use Rattle.node_set.specs.NodeSet.{without}
 use Rattle.model.specs.Pick.{pick, pick-true, by-test}
@@ -34,12 +35,6 @@ use Rattle.model.specs.declared.Mark.the-variants.{Plain}
 use Rattle.model.specs.declared.Reaction.{Reaction}
 use Rattle.model.specs.declared.Event.{Event}
 use Rattle.model.specs.declared.Event.the-variants.{Deliver}
-
--- what stands at a place is stored there
-set-same : {A : Type 0} (l : List A) (k : ℕ) (d : A) → set l k (getD l k d) ≡ l
-set-same [] k d = refl
-set-same (x ∷ l) zero d = refl
-set-same (x ∷ l) (suc k) d = ap (λ (r : List _). x ∷ r) (set-same l k d)
 
 -- a message of kind 3 waits
 kind-waits : (a b : ℕ) (q : List Message) → oldest a b q .kind ≡ 3 → waits a b q ≡ true
@@ -168,7 +163,7 @@ module _ (s : State) (a b : ℕ) (x : InvitationReaches s a b) where
           sent = withPlainReply s a b .sent;
           delivered = withPlainReply s a b .delivered;
           lost = s .lost;
-        }) Plain) (set-same (s .nodes) (b - 1) startingNode)
+        }) Plain) (set-getD (s .nodes) (b - 1) startingNode)
 
     plain-end : countAt (s .sent) b a ≡ trafficEnd → step s (Deliver a b) ≡ refused 17
     plain-end w = clear-ends s (Deliver a b) plain-clear (ap (λ (r : Reaction). pairAtEnd (s .sent) (r .outgoing)) answer ∙ eq-eqb _ _ w)
@@ -188,20 +183,20 @@ module _ (s : State) (a b : ℕ) (x : InvitationReaches s a b) where
         ∙ ap (λ (j : ℕ). forwardNext b (invited (nodeAt s b) (oldest a b (s .queue) .group)) (rest s a b (x .kind)) j (oldest a b (s .queue) .call)) from
         ∙ ap joins e
 
-    accepts : MaySend s b → nodeAt s b .last .number < callEnd → rest s a b (x .kind) ≡ 0
+    accepts : MaySend s b (ownerOf (oldest a b (s .queue) .group .number)) → nodeAt s b .last .number < callEnd → rest s a b (x .kind) ≡ 0
         → step s (Deliver a b)
         ≡ accepted (withCall s a b (Accepting a (oldest a b (s .queue) .call))
         (calls b 4 (ownerOf (oldest a b (s .queue) .group .number)) (nextCall (nodeAt s b)) (oldest a b (s .queue) .group))) Plain
     unfolding forwardNext
-    accepts w l e = leaves _ _ (w _) (acting 0 e ∙ pick-true _ _) (calling-clear l)
+    accepts w l e = leaves _ _ w (acting 0 e ∙ pick-true _ _) (calling-clear l)
 
-    forwards : MaySend s b → nodeAt s b .last .number < callEnd → rest s a b (x .kind) ≡ nodeAt s b .members → 0 < nodeAt s b .members
+    forwards : MaySend s b (next (nodeAt s b .members)) → nodeAt s b .last .number < callEnd → rest s a b (x .kind) ≡ nodeAt s b .members → 0 < nodeAt s b .members
         → step s (Deliver a b)
         ≡ accepted (withCall s a b
         (Forwarding (without (nodeAt s b .members) (next (nodeAt s b .members))) (next (nodeAt s b .members)) a (oldest a b (s .queue) .call))
         (calls b 3 (next (nodeAt s b .members)) (nextCall (nodeAt s b)) (oldest a b (s .queue) .group))) Plain
     unfolding forwardNext pick
-    forwards w l e p = leaves _ _ (w _) (acting (nodeAt s b .members) e ∙ rw (ne-eqb (nodeAt s b .members) 0 (λ q. omega arith))) (calling-clear l)
+    forwards w l e p = leaves _ _ w (acting (nodeAt s b .members) e ∙ rw (ne-eqb (nodeAt s b .members) 0 (λ q. omega arith))) (calling-clear l)
 
     calls-end : nodeAt s b .last .number ≡ callEnd → step s (Deliver a b) ≡ refused 13
     unfolding step grounds judged pick
@@ -230,9 +225,9 @@ pub invitation-rules : InvitationRules
 unfolding runFrom
 invitation-rules =
     record {
-      not-normal = λ s a b x w e. plainly s a b x (where-not-normal b (nodeAt s b) _ e) (w a);
-      owned = λ s a b x w e. plainly s a b x (where-owned b (nodeAt s b) _ e) (w a);
-      held = λ s a b x w e. plainly s a b x (where-held b (nodeAt s b) _ e) (w a);
+      not-normal = λ s a b x w e. plainly s a b x (where-not-normal b (nodeAt s b) _ e) w;
+      owned = λ s a b x w e. plainly s a b x (where-owned b (nodeAt s b) _ e) w;
+      held = λ s a b x w e. plainly s a b x (where-held b (nodeAt s b) _ e) w;
       forwards = λ s a b x w y l o p. forwards s a b x y w l (own s b o) p;
       accepts = λ s a b x w y l o. accepts s a b x y w l (none s b o);
       calls-end = calls-end;

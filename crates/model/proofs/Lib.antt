@@ -17,7 +17,7 @@ pub mod Aside
 pub mod Cases
 pub mod TrafficCases
 pub mod Refusals
-pub mod Owing
+pub mod Due
 pub mod Traffic
 pub mod CallOrder
 pub mod InvitationRules

@@ -22,7 +22,7 @@ use Rattle.model.proofs.Fields.{node-facts, message-facts, Counting, ol
 use Rattle.model.proofs.Range.{OutgoingIn}
 use Rattle.model.proofs.Counts.{none-counted, many-append, many-without}
 use Rattle.model.proofs.InRange.{EventIn, event-in, event-counted, end, past, not-refused, start-in, run-in}
-use Rattle.model.proofs.Owing.{owes, callTo, replyTo, From, brings, Pays, react-pays}
+use Rattle.model.proofs.Due.{due, callTo, replyTo, From, callFrom, WithinDue, react-within}
 use Rattle.model.specs.declared.Message.{Message}
 use Rattle.model.specs.declared.Outgoing.{Outgoing}
 use Rattle.model.specs.declared.Outgoing.the-variants.{Nothing, Send}
@@ -50,18 +50,18 @@ tally-is get f a b h s (e ∷ es) =
 abbrev isCallTo : ℕ → ℕ → Message → Bool
 isCallTo a b m = ltb (m .kind) 6 && goes a b m
 
-record EventPays (s : State) (e : Event) : Type 0 where
+record EventWithin (s : State) (e : Event) : Type 0 where
   pub from : From (actor e) (reactionTo s e .outgoing)
   pub numbered : (b : ℕ) → nodeAt s (actor e) .last .number + callTo b (reactionTo s e .outgoing) ≤ reactionTo s e .node .last .number
-  -- a reply and what is owed, with the calls that still wait, are no more than what was owed and waited
-  pub answered : (b : ℕ) → replyTo b (reactionTo s e .outgoing) + owes b (reactionTo s e .node .activity) + howMany (isCallTo b (actor e)) (remaining s e)
-      ≤ owes b (nodeAt s (actor e) .activity) + howMany (isCallTo b (actor e)) (s .queue)
+  -- a reply and what is due, with the calls that still wait, are no more than what was due and waited
+  pub answered : (b : ℕ) → replyTo b (reactionTo s e .outgoing) + due b (reactionTo s e .node .activity) + howMany (isCallTo b (actor e)) (remaining s e)
+      ≤ due b (nodeAt s (actor e) .activity) + howMany (isCallTo b (actor e)) (s .queue)
   pub fewer : (a b : ℕ) → howMany (isCallTo a b) (remaining s e) ≤ howMany (isCallTo a b) (s .queue)
 
 -- an event that takes no message out
-alone : (s : State) (e : Event) (x : Input) → reactionTo s e ≡ react (s .n) (actor e) (nodeAt s (actor e)) x → remaining s e ≡ s .queue → ((b : ℕ) → brings b x ≡ 0) → EventPays s e
+alone : (s : State) (e : Event) (x : Input) → reactionTo s e ≡ react (s .n) (actor e) (nodeAt s (actor e)) x → remaining s e ≡ s .queue → ((b : ℕ) → callFrom b x ≡ 0) → EventWithin s e
 alone s e x q r z =
-    let p = subst (Pays (actor e) (nodeAt s (actor e) .last .number) (λ b. owes b (nodeAt s (actor e) .activity) + brings b x)) (sym q) (react-pays (s .n) (actor e) (nodeAt s (actor e)) x) in
+    let p = subst (WithinDue (actor e) (nodeAt s (actor e) .last .number) (λ b. due b (nodeAt s (actor e) .activity) + callFrom b x)) (sym q) (react-within (s .n) (actor e) (nodeAt s (actor e)) x) in
     record {
       from = p .from;
       numbered = p .numbered;
@@ -78,27 +78,27 @@ call-here true y b x z e = rw (eq-eqb z b e) (both-true (eqb x y))
     both-true false = refl
 call-here false y b x z e = refl
 
-event-pays : (s : State) (e : Event) → noneWaits (s .queue) e ≡ false → EventPays s e
+event-within : (s : State) (e : Event) → noneWaits (s .queue) e ≡ false → EventWithin s e
 unfolding reactionTo remaining
-event-pays s (Crash i) c = alone s (Crash i) Input.Crash refl refl (λ b. refl)
-event-pays s (Recover i) c = alone s (Recover i) Input.Recover refl refl (λ b. refl)
-event-pays s (Check i) c = alone s (Check i) Input.Check refl refl (λ b. refl)
-event-pays s (Timeout i) c = alone s (Timeout i) Input.Timeout refl refl (λ b. refl)
-event-pays s (Tick i) c = alone s (Tick i) Input.Tick refl refl (λ b. refl)
-event-pays s (Expire i) c = alone s (Expire i) Input.Expire refl refl (λ b. refl)
-event-pays s (Finish i t) c = alone s (Finish i t) (Input.Finish t) refl refl (λ b. refl)
-event-pays s (Deliver a b) c =
+event-within s (Crash i) c = alone s (Crash i) Input.Crash refl refl (λ b. refl)
+event-within s (Recover i) c = alone s (Recover i) Input.Recover refl refl (λ b. refl)
+event-within s (Check i) c = alone s (Check i) Input.Check refl refl (λ b. refl)
+event-within s (Timeout i) c = alone s (Timeout i) Input.Timeout refl refl (λ b. refl)
+event-within s (Tick i) c = alone s (Tick i) Input.Tick refl refl (λ b. refl)
+event-within s (Expire i) c = alone s (Expire i) Input.Expire refl refl (λ b. refl)
+event-within s (Finish i t) c = alone s (Finish i t) (Input.Finish t) refl refl (λ b. refl)
+event-within s (Deliver a b) c =
     let w : waits a b (s .queue) ≡ true = not-false _ c in
     let m = oldest a b (s .queue) in
     let g = eqb-true (m .receiver) b (both-right (eqb (m .sender) a) _ (oldest-goes a b (s .queue) w)) in
-    let p = react-pays (s .n) b (nodeAt s b) (Input.Receive m) in
+    let p = react-within (s .n) b (nodeAt s b) (Input.Receive m) in
     record {
       from = p .from;
       numbered = p .numbered;
       answered = λ y. omega (arith, p .answered y, call-here (ltb (m .kind) 6) y b (m .sender) (m .receiver) g, many-without (isCallTo y b) a b (s .queue) w);
       fewer = λ x y. omega (arith, many-without (isCallTo x y) a b (s .queue) w);
     }
-event-pays s (Lose a b) c =
+event-within s (Lose a b) c =
     let w : waits a b (s .queue) ≡ true = not-false _ c in
     record {
       from = tt;
@@ -140,18 +140,18 @@ no-call-from i (Send m) j b f d = rw (ne-eqb (m .sender) j (λ e. d (sym e ∙ f
 
 -- ── the invariant ──
 
--- What was sent from a to b, the answer that a owes b and the calls from b that wait for it are together no more than the two last call numbers: a message from a to
+-- What was sent from a to b, the answer that a due b and the calls from b that wait for it are together no more than the two last call numbers: a message from a to
 -- b is a call of a's or the answer to a call of b's, and no call is answered twice.
-abbrev Within : State → ℕ → ℕ → Type 0
-Within s a b = countAt (s .sent) a b + owes b (nodeAt s a .activity) + howMany (isCallTo b a) (s .queue) ≤ nodeAt s a .last .number + nodeAt s b .last .number
+abbrev pub PairWithin : State → ℕ → ℕ → Type 0
+PairWithin s a b = countAt (s .sent) a b + due b (nodeAt s a .activity) + howMany (isCallTo b a) (s .queue) ≤ nodeAt s a .last .number + nodeAt s b .last .number
 
 -- of all pairs of nodes
-abbrev Tame : State → Type 0
-Tame s = (a b : ℕ) → 1 ≤ a → a ≤ s .n → 1 ≤ b → b ≤ s .n → Within s a b
+abbrev pub SentWithin : State → Type 0
+SentWithin s = (a b : ℕ) → 1 ≤ a → a ≤ s .n → 1 ≤ b → b ≤ s .n → PairWithin s a b
 
 module _ (s : State) (e : Event) (c : Clear s e) where
-  x : EventPays s e
-  x = event-pays s e (c .waiting)
+  x : EventWithin s e
+  x = event-within s e (c .waiting)
 
   inside : EventIn s e
   inside = event-in s e c
@@ -177,12 +177,12 @@ module _ (s : State) (e : Event) (c : Clear s e) where
           rw (there j l d) (omega (arith, no-call-from (actor e) (reactionTo s e .outgoing) j b (x .from) d))
 
   -- a message is a call, or the answer to one
-  pays : (j b : ℕ) → 1 ≤ j → howMany (goes j b) (sent (reactionTo s e .outgoing)) + owes b (nodeAt (effect s e) j .activity) + howMany (isCallTo b j) (remaining s e)
-      ≤ owes b (nodeAt s j .activity) + howMany (isCallTo b j) (s .queue) + howMany (isCallTo j b) (sent (reactionTo s e .outgoing))
-  pays j b l = by-node (eqb j (actor e)) refl
+  within : (j b : ℕ) → 1 ≤ j → howMany (goes j b) (sent (reactionTo s e .outgoing)) + due b (nodeAt (effect s e) j .activity) + howMany (isCallTo b j) (remaining s e)
+      ≤ due b (nodeAt s j .activity) + howMany (isCallTo b j) (s .queue) + howMany (isCallTo j b) (sent (reactionTo s e .outgoing))
+  within j b l = by-node (eqb j (actor e)) refl
     where
-      by-node : (t : Bool) → eqb j (actor e) ≡ t → howMany (goes j b) (sent (reactionTo s e .outgoing)) + owes b (nodeAt (effect s e) j .activity) + howMany (isCallTo b j) (remaining s e)
-          ≤ owes b (nodeAt s j .activity) + howMany (isCallTo b j) (s .queue) + howMany (isCallTo j b) (sent (reactionTo s e .outgoing))
+      by-node : (t : Bool) → eqb j (actor e) ≡ t → howMany (goes j b) (sent (reactionTo s e .outgoing)) + due b (nodeAt (effect s e) j .activity) + howMany (isCallTo b j) (remaining s e)
+          ≤ due b (nodeAt s j .activity) + howMany (isCallTo b j) (s .queue) + howMany (isCallTo j b) (sent (reactionTo s e .outgoing))
       by-node true q =
           rw (eqb-true j (actor e) q, here)
           (omega (arith, x .answered b, sent-split (actor e) (reactionTo s e .outgoing) b (x .from), calls-split (actor e) (reactionTo s e .outgoing) b (x .from)))
@@ -196,14 +196,14 @@ module _ (s : State) (e : Event) (c : Clear s e) where
       let n = in-range-size s (c .in-range) .1 in
       record { low = l; high = omega (arith, n, h); low-to = m; high-to = omega (arith, n, k) }
 
-  effect-tame : Tame s → Tame (effect s e)
+  pub effect-within : SentWithin s → SentWithin (effect s e)
   unfolding effect
-  effect-tame w a b l h m k =
-      omega (arith, w a b l h m k, event-counted s e c a b (counting a b l h m k) .sent, many-append (isCallTo b a) (remaining s e) (sent (reactionTo s e .outgoing)), pays a b l, grows a b l, grows b a m)
+  effect-within w a b l h m k =
+      omega (arith, w a b l h m k, event-counted s e c a b (counting a b l h m k) .sent, many-append (isCallTo b a) (remaining s e) (sent (reactionTo s e .outgoing)), within a b l, grows a b l, grows b a m)
 
   -- there is room for one more in the pair of what is sent
   below : (o : Outgoing) → From (actor e) o → OutgoingIn (s .n) o → isCalling o && eqb (nodeAt s (actor e) .last .number) callEnd ≡ false
-      → ((b : ℕ) → replyTo b o ≤ owes b (nodeAt s (actor e) .activity) + howMany (isCallTo b (actor e)) (s .queue)) → Tame s → pairAtEnd (s .sent) o ≡ true → ⊥
+      → ((b : ℕ) → replyTo b o ≤ due b (nodeAt s (actor e) .activity) + howMany (isCallTo b (actor e)) (s .queue)) → SentWithin s → pairAtEnd (s .sent) o ≡ true → ⊥
   below Nothing f i r p w t = true≢false (sym t)
   below (Send m) f i r p w t = by-kind (ltb (m .kind) 6) refl
     where
@@ -228,15 +228,15 @@ module _ (s : State) (e : Event) (c : Clear s e) where
           let d = eqb-false (nodeAt s (actor e) .last .number) callEnd (rw q at r) in
           omega (arith, full, w (actor e) b (inside .place .low) (inside .place .high) low high, last-bound (actor e) (inside .place .low) (inside .place .high), last-bound b low high)
       by-kind false q =
-          let a : 1 ≤ owes b (nodeAt s (actor e) .activity) + howMany (isCallTo b (actor e)) (s .queue) = rw (q, eq-eqb b b refl) at (p b) in
+          let a : 1 ≤ due b (nodeAt s (actor e) .activity) + howMany (isCallTo b (actor e)) (s .queue) = rw (q, eq-eqb b b refl) at (p b) in
           omega (arith, full, a, w (actor e) b (inside .place .low) (inside .place .high) low high, last-bound (actor e) (inside .place .low) (inside .place .high), last-bound b low high)
 
-  spare-pair : Tame s → pairAtEnd (s .sent) (reactionTo s e .outgoing) ≡ true → ⊥
-  spare-pair w = below (reactionTo s e .outgoing) (x .from) (inside .reaction .outgoing) (c .calls) (λ b. omega (arith, x .answered b)) w
+  pub pair-below : SentWithin s → pairAtEnd (s .sent) (reactionTo s e .outgoing) ≡ true → ⊥
+  pair-below w = below (reactionTo s e .outgoing) (x .from) (inside .reaction .outgoing) (c .calls) (λ b. omega (arith, x .answered b)) w
 
-tame-not-seventeen : (s : State) (e : Event) → Tame s → step s e ≡ refused 17 → ⊥
+pub within-not-seventeen : (s : State) (e : Event) → SentWithin s → step s e ≡ refused 17 → ⊥
 unfolding step grounds
-tame-not-seventeen s e w =
+within-not-seventeen s e w =
     not-refused 17 _ _
     (past (λ z _. omega arith)
     (λ g1. past (λ z _. omega arith)
@@ -247,7 +247,7 @@ tame-not-seventeen s e w =
     (λ g11. past (λ z _. omega arith)
     (λ g12. past (λ z _. omega arith)
     (λ g13. past (λ z _. omega arith)
-    (λ g14. past (λ _ t. spare-pair s e
+    (λ g14. past (λ _ t. pair-below s e
     (record {
       in-range = not-false _ g1;
       number = g7;
@@ -263,14 +263,14 @@ tame-not-seventeen s e w =
     (λ _. end)))))))))))
 
 -- ── runs ──
-run-tame : (s : State) (es : List Event) → Tame s → Tame (runFrom s es)
+pub run-within : (s : State) (es : List Event) → SentWithin s → SentWithin (runFrom s es)
 unfolding runFrom
-run-tame s [] w = w
-run-tame s (e ∷ es) w = run-tame (after s e) es (by-step (λ r. Tame (kept s r)) s e (λ _. w) (λ c _. effect-tame s e c w))
+run-within s [] w = w
+run-within s (e ∷ es) w = run-within (after s e) es (by-step (λ r. SentWithin (kept s r)) s e (λ _. w) (λ c _. effect-within s e c w))
 
-start-tame : (n : ℕ) → n ≤ 16 → Tame (start n)
+pub start-within : (n : ℕ) → n ≤ 16 → SentWithin (start n)
 unfolding howMany
-start-tame n small a b l h m k =
+start-within n small a b l h m k =
     rw (none-counted a b (record { low = l; high = omega arith; low-to = m; high-to = omega arith }), getD-replicate n (a - 1) startingNode startingNode (omega arith)) (omega arith)
 
 -- every table of a run has as many nodes
@@ -291,7 +291,7 @@ traffic-agrees n low high =
       adds-up = λ es a b l h m k.
           let q = run-n (start n) es in
           in-range-sum (run n es) a b (run-in (start n) es (start-in n low high)) l (omega (arith, h, q)) m (omega (arith, k, q));
-      never-seventeen = λ es e. tame-not-seventeen (run n es) e (run-tame (start n) es (start-tame n high));
+      never-seventeen = λ es e. within-not-seventeen (run n es) e (run-within (start n) es (start-within n high));
     }
   where
     at : (a b : ℕ) → 1 ≤ a → a ≤ 16 → 1 ≤ b → b ≤ 16 → Counting a b

@@ -109,9 +109,9 @@ known-is : (s : State) (e : Event) → inRange s ≡ true → step s e ≡ known
 unfolding step grounds judged
 known-is s e r = rw (r, pick-false) refl
 
-worn : (n : ℕ) (cs : List Node) (q : List Message) (a b d l : ℕ) (e : Event) → baseInRange n cs q ≡ true → isPair n a b ≡ true → leb (countAt (countsOf q) a b + d + l) trafficEnd ≡ true
+after-many : (n : ℕ) (cs : List Node) (q : List Message) (a b d l : ℕ) (e : Event) → baseInRange n cs q ≡ true → isPair n a b ≡ true → leb (countAt (countsOf q) a b + d + l) trafficEnd ≡ true
     → step (past a b d l (allWaiting n cs q)) e ≡ known (past a b d l (allWaiting n cs q)) e
-worn n cs q a b d l e r p h = known-is (past a b d l (allWaiting n cs q)) e (past-in (allWaiting n cs q) a b d l (waiting-in n cs q r) p (leb-true _ trafficEnd h))
+after-many n cs q a b d l e r p h = known-is (past a b d l (allWaiting n cs q)) e (past-in (allWaiting n cs q) a b d l (waiting-in n cs q r) p (leb-true _ trafficEnd h))
 
 once : (n : ℕ) (cs : List Node) (q : List Message) (e : Event) → baseInRange n cs q ≡ true → after (allWaiting n cs q) e ≡ kept (allWaiting n cs q) (known (allWaiting n cs q) e)
 once n cs q e r = ap (kept (allWaiting n cs q)) (known-is (allWaiting n cs q) e (waiting-in n cs q r))
@@ -136,18 +136,18 @@ counts-only n a b x h =
     ∙ every-only (countInRange n) 0 256 (pairPlace a b) x (none-in n) (ltb-true _ 256 h)
     ∙ ap (λ (i : ℕ). countInRange n i x) (omega arith)
 
-abbrev light : List Message → ℕ → ℕ → ℕ → ℕ → ℕ → ℕ → ℕ → ℕ → ℕ → Bool
-light q a b x c d y e f z =
+abbrev onlyInRange : List Message → ℕ → ℕ → ℕ → ℕ → ℕ → ℕ → ℕ → ℕ → ℕ → Bool
+onlyInRange q a b x c d y e f z =
     baseInRange 3 (replicate 3 startingNode) q
     && (countInRange 3 (pairPlace a b) x
     && countInRange 3 (pairPlace c d) y
     && countInRange 3 (pairPlace e f) z
     && upTo 3 (λ i. upTo 3 (λ j. addsUp (withCounts q (only a b x) (only c d y) (only e f z)) i j)))
 
-light-is : (q : List Message) (a b x c d y e f z : ℕ) → (ltb (pairPlace a b) 256 && ltb (pairPlace c d) 256 && ltb (pairPlace e f) 256) ≡ true
-    → inRange (withCounts q (only a b x) (only c d y) (only e f z)) ≡ light q a b x c d y e f z
+only-in-range : (q : List Message) (a b x c d y e f z : ℕ) → (ltb (pairPlace a b) 256 && ltb (pairPlace c d) 256 && ltb (pairPlace e f) 256) ≡ true
+    → inRange (withCounts q (only a b x) (only c d y) (only e f z)) ≡ onlyInRange q a b x c d y e f z
 unfolding inRange trafficInRange
-light-is q a b x c d y e f z h =
+only-in-range q a b x c d y e f z h =
     let r = parts (ltb (pairPlace a b) 256) (ltb (pairPlace c d) 256 ∷ ltb (pairPlace e f) 256 ∷ []) h in
     rw (counts-only 3 a b x (r .0), counts-only 3 c d y (r .1 .0), counts-only 3 e f z (r .1 .1 .0))
 
@@ -166,35 +166,35 @@ traffic-cases =
     record {
       k10-sent = ap (λ (s : State). countAt (s .sent) 1 2 ∷ countAt (s .sent) 2 1 ∷ []) (two-counting k10 (omega arith));
       k10-delivered = ap (λ (s : State). countAt (s .delivered) 1 2 ∷ countAt (s .delivered) 2 1 ∷ []) (two-counting k10 (omega arith));
-      at-end = worn _ _ _ 2 1 33554430 0 _ refl refl refl;
-      below-end = worn _ _ _ 2 1 33554429 0 _ refl refl refl;
-      at-end-lost = worn _ _ _ 2 1 0 33554430 _ refl refl refl;
-      at-end-waiting = worn _ _ _ 2 1 33554429 0 _ refl refl refl;
-      at-end-reply = worn _ _ _ 2 1 33554430 0 _ refl refl refl;
-      other-pair = worn _ _ _ 1 2 33554430 0 _ refl refl refl;
-      nothing-sent = worn _ _ _ 2 1 33554430 0 _ refl refl refl;
-      delivered-at-end = worn _ _ _ 2 1 33554429 0 _ refl refl refl;
-      ends-twelve = worn _ _ _ 2 1 33554366 0 _ refl refl refl;
-      ends-thirteen = worn _ _ _ 2 1 33554366 0 _ refl refl refl;
-      ends-fourteen = worn _ _ _ 2 1 33554366 0 _ refl refl refl;
-      ends-seventeen = worn _ _ _ 2 1 33554367 0 _ refl refl refl;
+      at-end = after-many _ _ _ 2 1 33554430 0 _ refl refl refl;
+      below-end = after-many _ _ _ 2 1 33554429 0 _ refl refl refl;
+      at-end-lost = after-many _ _ _ 2 1 0 33554430 _ refl refl refl;
+      at-end-waiting = after-many _ _ _ 2 1 33554429 0 _ refl refl refl;
+      at-end-reply = after-many _ _ _ 2 1 33554430 0 _ refl refl refl;
+      other-pair = after-many _ _ _ 1 2 33554430 0 _ refl refl refl;
+      nothing-sent = after-many _ _ _ 2 1 33554430 0 _ refl refl refl;
+      delivered-at-end = after-many _ _ _ 2 1 33554429 0 _ refl refl refl;
+      ends-twelve = after-many _ _ _ 2 1 33554366 0 _ refl refl refl;
+      ends-thirteen = after-many _ _ _ 2 1 33554366 0 _ refl refl refl;
+      ends-fourteen = after-many _ _ _ 2 1 33554366 0 _ refl refl refl;
+      ends-seventeen = after-many _ _ _ 2 1 33554367 0 _ refl refl refl;
       delivery-counts = once _ _ _ _ refl;
       loss-counts = once _ _ _ _ refl;
       refused-counts = once _ _ _ _ refl;
-      sum-sent = among-same (λ (x : ℕ). inRange (withCounts (someWait 2) (only 1 2 x) (only 1 2 3) (only 1 2 4))) (λ (x : ℕ). light (someWait 2) 1 2 x 1 2 3 1 2 4) (λ (x : ℕ). light-is (someWait 2) 1 2 x 1 2 3 1 2 4 refl) (8 ∷ 9 ∷ 10 ∷ []);
-      sum-delivered = among-same (λ (x : ℕ). inRange (withCounts (someWait 2) (only 1 2 9) (only 1 2 x) (only 1 2 4))) (λ (x : ℕ). light (someWait 2) 1 2 9 1 2 x 1 2 4) (λ (x : ℕ). light-is (someWait 2) 1 2 9 1 2 x 1 2 4 refl) (2 ∷ 3 ∷ 4 ∷ []);
-      sum-lost = among-same (λ (x : ℕ). inRange (withCounts (someWait 2) (only 1 2 9) (only 1 2 3) (only 1 2 x))) (λ (x : ℕ). light (someWait 2) 1 2 9 1 2 3 1 2 x) (λ (x : ℕ). light-is (someWait 2) 1 2 9 1 2 3 1 2 x refl) (3 ∷ 4 ∷ 5 ∷ []);
-      sum-waiting = among-same (λ (x : ℕ). inRange (withCounts (someWait x) (only 1 2 9) (only 1 2 3) (only 1 2 4))) (λ (x : ℕ). light (someWait x) 1 2 9 1 2 3 1 2 4) (λ (x : ℕ). light-is (someWait x) 1 2 9 1 2 3 1 2 4 refl) (1 ∷ 2 ∷ 3 ∷ []);
-      sum-sender = among-agree (λ (a : ℕ). inRange (withCounts (asks 1 3 (record { number = 1 }) ∷ []) (only a 3 1) (only 1 2 0) (only 1 2 0))) (λ (a : ℕ). light (asks 1 3 (record { number = 1 }) ∷ []) a 3 1 1 2 0 1 2 0) (1 ∷ 2 ∷ []) (light-is (asks 1 3 (record { number = 1 }) ∷ []) 1 3 1 1 2 0 1 2 0 refl, (light-is (asks 1 3 (record { number = 1 }) ∷ []) 2 3 1 1 2 0 1 2 0 refl, tt));
-      sum-receiver = among-agree (λ (b : ℕ). inRange (withCounts (asks 1 3 (record { number = 1 }) ∷ []) (only 1 b 1) (only 1 2 0) (only 1 2 0))) (λ (b : ℕ). light (asks 1 3 (record { number = 1 }) ∷ []) 1 b 1 1 2 0 1 2 0) (2 ∷ 3 ∷ []) (light-is (asks 1 3 (record { number = 1 }) ∷ []) 1 2 1 1 2 0 1 2 0 refl, (light-is (asks 1 3 (record { number = 1 }) ∷ []) 1 3 1 1 2 0 1 2 0 refl, tt));
-      pair-sender = among-agree (λ (a : ℕ). inRange (withCounts [] (only a 2 1) (only a 2 1) (only 1 2 0))) (λ (a : ℕ). light [] a 2 1 a 2 1 1 2 0) (1 ∷ 2 ∷ 3 ∷ 4 ∷ 16 ∷ []) (light-is [] 1 2 1 1 2 1 1 2 0 refl, (light-is [] 2 2 1 2 2 1 1 2 0 refl, (light-is [] 3 2 1 3 2 1 1 2 0 refl, (light-is [] 4 2 1 4 2 1 1 2 0 refl, (light-is [] 16 2 1 16 2 1 1 2 0 refl, tt)))));
-      pair-receiver = among-agree (λ (b : ℕ). inRange (withCounts [] (only 2 b 1) (only 1 2 0) (only 2 b 1))) (λ (b : ℕ). light [] 2 b 1 1 2 0 2 b 1) (1 ∷ 2 ∷ 3 ∷ 4 ∷ 16 ∷ []) (light-is [] 2 1 1 1 2 0 2 1 1 refl, (light-is [] 2 2 1 1 2 0 2 2 1 refl, (light-is [] 2 3 1 1 2 0 2 3 1 refl, (light-is [] 2 4 1 1 2 0 2 4 1 refl, (light-is [] 2 16 1 1 2 0 2 16 1 refl, tt)))));
-      pair-sent = light-is [] 4 5 1 1 2 0 1 2 0 refl;
-      pair-delivered = light-is [] 1 2 0 4 5 1 1 2 0 refl;
-      pair-lost = light-is [] 1 2 0 1 2 0 4 5 1 refl;
-      count-delivered = among-same (λ (x : ℕ). inRange (withCounts [] (only 1 2 x) (only 1 2 x) (only 1 2 0))) (λ (x : ℕ). light [] 1 2 x 1 2 x 1 2 0) (λ (x : ℕ). light-is [] 1 2 x 1 2 x 1 2 0 refl) (33554430 ∷ 33554431 ∷ []);
-      count-lost = among-same (λ (x : ℕ). inRange (withCounts [] (only 1 2 x) (only 1 2 0) (only 1 2 x))) (λ (x : ℕ). light [] 1 2 x 1 2 0 1 2 x) (λ (x : ℕ). light-is [] 1 2 x 1 2 0 1 2 x refl) (33554430 ∷ 33554431 ∷ []);
+      sum-sent = among-same (λ (x : ℕ). inRange (withCounts (someWait 2) (only 1 2 x) (only 1 2 3) (only 1 2 4))) (λ (x : ℕ). onlyInRange (someWait 2) 1 2 x 1 2 3 1 2 4) (λ (x : ℕ). only-in-range (someWait 2) 1 2 x 1 2 3 1 2 4 refl) (8 ∷ 9 ∷ 10 ∷ []);
+      sum-delivered = among-same (λ (x : ℕ). inRange (withCounts (someWait 2) (only 1 2 9) (only 1 2 x) (only 1 2 4))) (λ (x : ℕ). onlyInRange (someWait 2) 1 2 9 1 2 x 1 2 4) (λ (x : ℕ). only-in-range (someWait 2) 1 2 9 1 2 x 1 2 4 refl) (2 ∷ 3 ∷ 4 ∷ []);
+      sum-lost = among-same (λ (x : ℕ). inRange (withCounts (someWait 2) (only 1 2 9) (only 1 2 3) (only 1 2 x))) (λ (x : ℕ). onlyInRange (someWait 2) 1 2 9 1 2 3 1 2 x) (λ (x : ℕ). only-in-range (someWait 2) 1 2 9 1 2 3 1 2 x refl) (3 ∷ 4 ∷ 5 ∷ []);
+      sum-waiting = among-same (λ (x : ℕ). inRange (withCounts (someWait x) (only 1 2 9) (only 1 2 3) (only 1 2 4))) (λ (x : ℕ). onlyInRange (someWait x) 1 2 9 1 2 3 1 2 4) (λ (x : ℕ). only-in-range (someWait x) 1 2 9 1 2 3 1 2 4 refl) (1 ∷ 2 ∷ 3 ∷ []);
+      sum-sender = among-agree (λ (a : ℕ). inRange (withCounts (asks 1 3 (record { number = 1 }) ∷ []) (only a 3 1) (only 1 2 0) (only 1 2 0))) (λ (a : ℕ). onlyInRange (asks 1 3 (record { number = 1 }) ∷ []) a 3 1 1 2 0 1 2 0) (1 ∷ 2 ∷ []) (only-in-range (asks 1 3 (record { number = 1 }) ∷ []) 1 3 1 1 2 0 1 2 0 refl, (only-in-range (asks 1 3 (record { number = 1 }) ∷ []) 2 3 1 1 2 0 1 2 0 refl, tt));
+      sum-receiver = among-agree (λ (b : ℕ). inRange (withCounts (asks 1 3 (record { number = 1 }) ∷ []) (only 1 b 1) (only 1 2 0) (only 1 2 0))) (λ (b : ℕ). onlyInRange (asks 1 3 (record { number = 1 }) ∷ []) 1 b 1 1 2 0 1 2 0) (2 ∷ 3 ∷ []) (only-in-range (asks 1 3 (record { number = 1 }) ∷ []) 1 2 1 1 2 0 1 2 0 refl, (only-in-range (asks 1 3 (record { number = 1 }) ∷ []) 1 3 1 1 2 0 1 2 0 refl, tt));
+      pair-sender = among-agree (λ (a : ℕ). inRange (withCounts [] (only a 2 1) (only a 2 1) (only 1 2 0))) (λ (a : ℕ). onlyInRange [] a 2 1 a 2 1 1 2 0) (1 ∷ 2 ∷ 3 ∷ 4 ∷ 16 ∷ []) (only-in-range [] 1 2 1 1 2 1 1 2 0 refl, (only-in-range [] 2 2 1 2 2 1 1 2 0 refl, (only-in-range [] 3 2 1 3 2 1 1 2 0 refl, (only-in-range [] 4 2 1 4 2 1 1 2 0 refl, (only-in-range [] 16 2 1 16 2 1 1 2 0 refl, tt)))));
+      pair-receiver = among-agree (λ (b : ℕ). inRange (withCounts [] (only 2 b 1) (only 1 2 0) (only 2 b 1))) (λ (b : ℕ). onlyInRange [] 2 b 1 1 2 0 2 b 1) (1 ∷ 2 ∷ 3 ∷ 4 ∷ 16 ∷ []) (only-in-range [] 2 1 1 1 2 0 2 1 1 refl, (only-in-range [] 2 2 1 1 2 0 2 2 1 refl, (only-in-range [] 2 3 1 1 2 0 2 3 1 refl, (only-in-range [] 2 4 1 1 2 0 2 4 1 refl, (only-in-range [] 2 16 1 1 2 0 2 16 1 refl, tt)))));
+      pair-sent = only-in-range [] 4 5 1 1 2 0 1 2 0 refl;
+      pair-delivered = only-in-range [] 1 2 0 4 5 1 1 2 0 refl;
+      pair-lost = only-in-range [] 1 2 0 1 2 0 4 5 1 refl;
+      count-delivered = among-same (λ (x : ℕ). inRange (withCounts [] (only 1 2 x) (only 1 2 x) (only 1 2 0))) (λ (x : ℕ). onlyInRange [] 1 2 x 1 2 x 1 2 0) (λ (x : ℕ). only-in-range [] 1 2 x 1 2 x 1 2 0 refl) (33554430 ∷ 33554431 ∷ []);
+      count-lost = among-same (λ (x : ℕ). inRange (withCounts [] (only 1 2 x) (only 1 2 0) (only 1 2 x))) (λ (x : ℕ). onlyInRange [] 1 2 x 1 2 0 1 2 x) (λ (x : ℕ). only-in-range [] 1 2 x 1 2 0 1 2 x refl) (33554430 ∷ 33554431 ∷ []);
       places = refl;
-      range-first = by-range (withCounts [] (only 1 2 1) (only 1 2 0) (only 1 2 0)) (Crash 9) (light-is [] 1 2 1 1 2 0 1 2 0 refl);
+      range-first = by-range (withCounts [] (only 1 2 1) (only 1 2 0) (only 1 2 0)) (Crash 9) (only-in-range [] 1 2 1 1 2 0 1 2 0 refl);
       rows = refl;
     }

@@ -401,27 +401,27 @@ withCall s a b x m = record {
   lost = s .lost;
 }
 
--- T-05: no count of what b sent is at its end, so that nothing that b sends meets 17
-abbrev pub MaySend : State → ℕ → Type 0
-MaySend s b = (j : ℕ) → countAt (s .sent) b j ≡ trafficEnd → ⊥
+-- T-05: the count of what a sent to b is not at its end, so that another message does not meet 17
+abbrev pub MaySend : State → ℕ → ℕ → Type 0
+MaySend s a b = countAt (s .sent) a b ≡ trafficEnd → ⊥
 
 -- The delivery of an invitation to a node that is not Down, in every table in range: all of 01's kind 3, with T-03. (To a Down one it meets 9.)
 pub record InvitationRules : Type 0 where
   -- 01: "3: if not Normal"
-  pub not-normal : (s : State) (a b : ℕ) → InvitationReaches s a b → MaySend s b → isNormal (nodeAt s b .status) ≡ false → step s (Deliver a b) ≡ accepted (withPlainReply s a b) Plain
+  pub not-normal : (s : State) (a b : ℕ) → InvitationReaches s a b → MaySend s b a → isNormal (nodeAt s b .status) ≡ false → step s (Deliver a b) ≡ accepted (withPlainReply s a b) Plain
   -- "or it owns that group"
-  pub owned : (s : State) (a b : ℕ) → InvitationReaches s a b → MaySend s b → Owns s a b → step s (Deliver a b) ≡ accepted (withPlainReply s a b) Plain
+  pub owned : (s : State) (a b : ℕ) → InvitationReaches s a b → MaySend s b a → Owns s a b → step s (Deliver a b) ≡ accepted (withPlainReply s a b) Plain
   -- 02: "an invitation to the group a cabinet already holds": whatever its record holds beside that
-  pub held : (s : State) (a b : ℕ) → InvitationReaches s a b → MaySend s b → Holds s a b → step s (Deliver a b) ≡ accepted (withPlainReply s a b) Plain
+  pub held : (s : State) (a b : ℕ) → InvitationReaches s a b → MaySend s b a → Holds s a b → step s (Deliver a b) ≡ accepted (withPlainReply s a b) Plain
   -- 01: "Otherwise .. If it was its own coordinator, it forwards the invitation to each member": to the first of them
-  pub forwards : (s : State) (a b : ℕ) → InvitationReaches s a b → MaySend s b → NoPlainReply s a b → nodeAt s b .last .number < callEnd
+  pub forwards : (s : State) (a b : ℕ) → InvitationReaches s a b → MaySend s b (next (nodeAt s b .members)) → NoPlainReply s a b → nodeAt s b .last .number < callEnd
       → nodeAt s b .coordinator ≡ b → 0 < nodeAt s b .members
       → step s (Deliver a b)
       ≡ accepted (withCall s a b
       (Forwarding (without (nodeAt s b .members) (next (nodeAt s b .members))) (next (nodeAt s b .members)) a (oldest a b (s .queue) .call))
       (calls b 3 (next (nodeAt s b .members)) (nextCall (nodeAt s b)) (oldest a b (s .queue) .group))) Plain
   -- "then it calls Accept on the new coordinator": at once where another leads it, or where it has no member
-  pub accepts : (s : State) (a b : ℕ) → InvitationReaches s a b → MaySend s b → NoPlainReply s a b → nodeAt s b .last .number < callEnd
+  pub accepts : (s : State) (a b : ℕ) → InvitationReaches s a b → MaySend s b (ownerOf (oldest a b (s .queue) .group .number)) → NoPlainReply s a b → nodeAt s b .last .number < callEnd
       → (nodeAt s b .coordinator ≡ b → nodeAt s b .members ≡ 0)
       → step s (Deliver a b)
       ≡ accepted (withCall s a b (Accepting a (oldest a b (s .queue) .call))
