@@ -5,7 +5,7 @@ use crate::calls::CallCase;
 use crate::corners::{Before, Corners, Source};
 use crate::history::Checker;
 use crate::list::{first_event, read_list, write_event, write_list};
-use crate::machine::{step, Event, Node, Table, MAX_NODES};
+use crate::machine::{count_mut, count_of, step, Event, Message, Node, Table, MAX_NODES};
 use crate::numbers::Numbers;
 use crate::print::run_list;
 use crate::proved::{
@@ -14,6 +14,7 @@ use crate::proved::{
 };
 use crate::recovery_corners::Call;
 use crate::shortest::shortest;
+use crate::traffic_tables::pairs;
 use crate::tuned;
 use crate::vectors::{node_text, table_text};
 use std::fmt::Write;
@@ -39,9 +40,14 @@ impl Lent {
         Lent::new(TABLE_BYTES + BEHIND, numbers)
     }
 
-    /// Other random bytes.
+    /// Other random bytes, made of those that it was lent with.
     fn renew(&mut self, numbers: &mut Numbers) {
-        numbers.fill(&mut self.before);
+        let change = numbers.bits();
+        let (words, rest) = self.before.as_chunks_mut();
+        for word in words {
+            *word = (u64::from_le_bytes(*word) ^ change).to_le_bytes();
+        }
+        numbers.fill(rest);
         self.now.copy_from_slice(&self.before);
     }
 
@@ -270,7 +276,7 @@ pub fn walk_difference(
     }
     for (k, event) in events.iter().enumerate() {
         if noise.is_some() {
-            fill_unused(&mut bytes, || numbers.byte());
+            fill_unused(&mut bytes, &mut numbers);
         }
         field.clear();
         write_event(&mut field, event);
@@ -322,7 +328,7 @@ pub fn field_difference(
 fn filled_bytes(table: &Table, numbers: &mut Numbers) -> TableBytes {
     let mut bytes = [0; TABLE_BYTES];
     table_to_bytes(table, &mut bytes);
-    fill_unused(&mut bytes, || numbers.byte());
+    fill_unused(&mut bytes, numbers);
     bytes
 }
 
@@ -508,12 +514,22 @@ pub fn tell_walk(
     format!("{words}{difference}\n")
 }
 
-/// The table with fewer messages, and with as many nodes as can be as in the starting table.
+/// The table with fewer messages, with as many nodes as can be as in the starting table, and with as many
+/// pairs as can be of which only what waits was sent.
 fn smallest(table: &Table, differs: impl Fn(&Table) -> bool) -> Table {
-    let mut table = table.clone();
-    table.messages = shortest(table.messages.clone(), |messages| {
-        differs(&Table { messages: messages.to_vec(), ..table.clone() })
-    });
+    let messages =
+        shortest(table.messages.clone(), |messages| differs(&with_messages(table, messages)));
+    let mut table = with_messages(table, &messages);
+    let waiting = table.waiting();
+    for (a, b) in pairs(table.n.min(MAX_NODES)) {
+        let mut plain = table.clone();
+        *count_mut(&mut plain.traffic.sent, a, b) = count_of(&waiting, a, b);
+        *count_mut(&mut plain.traffic.delivered, a, b) = 0;
+        *count_mut(&mut plain.traffic.lost, a, b) = 0;
+        if differs(&plain) {
+            table = plain;
+        }
+    }
     for k in 0..usize::from(table.n.min(MAX_NODES)) {
         let mut plain = table.clone();
         plain.nodes[k] = Node::START;
@@ -522,6 +538,19 @@ fn smallest(table: &Table, differs: impl Fn(&Table) -> bool) -> Table {
         }
     }
     table
+}
+
+/// The table with other messages; what is no longer waiting was not sent either, so that a sum that held
+/// still does.
+fn with_messages(table: &Table, messages: &[Message]) -> Table {
+    let mut other = Table { messages: messages.to_vec(), ..table.clone() };
+    let (before, now) = (table.waiting(), other.waiting());
+    for (a, b) in pairs(table.n.min(MAX_NODES)) {
+        let sent = count_mut(&mut other.traffic.sent, a, b);
+        let fewer = count_of(&before, a, b) - count_of(&now, a, b);
+        *sent = sent.wrapping_sub(fewer);
+    }
+    other
 }
 
 /// A recovery's difference in words, with a table that has fewer messages and nodes.

@@ -1,13 +1,14 @@
 //! Counts what the compared events met: refusals, kinds delivered, activities, transitions, picks of the
 //! next node and invitations, so that a corner that was never met shows. What document 01 and T-02 and
 //! T-03 of document 02 make possible is written out here, apart from the machine. `recovery_corners.rs`
-//! does the same for the records of a recovery.
+//! does the same for the records of a recovery, and `traffic_corners.rs` for the messages counted by pair.
 
 use crate::machine::{
     only, owner, Activity, Body, Event, Message, Node, Set, Status, Table, MAX_CALL, MAX_MESSAGES,
 };
 use crate::proved::tag;
 use crate::recovery_corners::{Call, RecoveryCorners};
+use crate::traffic_corners::{TrafficBefore, TrafficCorners};
 use std::fmt::Write;
 
 /// Where an event came from: a run from the starting table, or a table made up.
@@ -206,8 +207,24 @@ fn refusable(event: usize, number: usize) -> bool {
         13 => matches!(name, "check" | "timeout" | "tick" | "expire" | "finish" | "deliver"),
         // A delivered message is already out, so a delivery never meets it.
         14 => matches!(name, "check" | "timeout" | "tick" | "expire" | "finish"),
+        17 => matches!(name, "check" | "timeout" | "tick" | "expire" | "finish" | "deliver"),
         _ => false,
     }
+}
+
+/// The places of refusals. At 16, which is no ground of these, all that are none at all are counted.
+const NUMBERS: usize = 18;
+
+fn number_place(number: u8) -> usize {
+    match number {
+        0..=15 | 17 => usize::from(number),
+        _ => 16,
+    }
+}
+
+/// The grounds that events, lists and lines can meet.
+fn grounds() -> impl Iterator<Item = usize> {
+    (1..=15).chain([17])
 }
 
 /// What is remembered of a table for the count of the event that follows.
@@ -216,6 +233,7 @@ pub struct Before {
     message: Option<Message>,
     /// All of it, where the message is an invitation to the group that its receiver holds.
     held: Option<Table>,
+    traffic: TrafficBefore,
 }
 
 impl Before {
@@ -234,12 +252,12 @@ impl Before {
             }
             _ => None,
         };
-        Before { node, message, held }
+        Before { node, message, held, traffic: TrafficBefore::of(table, &event) }
     }
 }
 
 /// The node whose turn it is; for deliver and lose this is the receiver.
-fn acting(event: &Event) -> u8 {
+pub fn acting(event: &Event) -> u8 {
     match *event {
         Event::Crash(i)
         | Event::Recover(i)
@@ -274,9 +292,9 @@ pub type Count = [u64; 2];
 #[derive(Clone, Debug)]
 pub struct Corners {
     /// Refusals of events, by event and number.
-    refused: [[Count; 16]; 9],
+    refused: [[Count; NUMBERS]; 9],
     /// Refusals that are not an event's: those of lists, and 15.
-    other_refusals: [u64; 16],
+    other_refusals: [u64; NUMBERS],
     kinds: [Count; 6],
     activities: [Count; 9],
     transitions: Box<[[[Count; 9]; 9]; 22]>,
@@ -287,6 +305,7 @@ pub struct Corners {
     elsewhere: [Count; 6],
     wrong_invitations: [Count; 4],
     recoveries: RecoveryCorners,
+    traffic: TrafficCorners,
     /// Whom each inviting node has called since it merged, as far as it was seen.
     called: [Set; 16],
 }
@@ -294,8 +313,8 @@ pub struct Corners {
 impl Default for Corners {
     fn default() -> Corners {
         Corners {
-            refused: [[[0; 2]; 16]; 9],
-            other_refusals: [0; 16],
+            refused: [[[0; 2]; NUMBERS]; 9],
+            other_refusals: [0; NUMBERS],
             kinds: [[0; 2]; 6],
             activities: [[0; 2]; 9],
             transitions: Box::new([[[[0; 2]; 9]; 9]; 22]),
@@ -306,6 +325,7 @@ impl Default for Corners {
             elsewhere: [[0; 2]; 6],
             wrong_invitations: [[0; 2]; 4],
             recoveries: RecoveryCorners::default(),
+            traffic: TrafficCorners::default(),
             called: [0; 16],
         }
     }
@@ -326,13 +346,14 @@ impl Corners {
         answer: Result<(), u8>,
         after: &Table,
     ) {
+        self.traffic.count(source, &before.traffic, event, answer, after);
         let source = source as usize;
         let place = event_place(event);
         if answer != Err(1) {
             self.invitation(source, before, answer, after);
         }
         if let Err(number) = answer {
-            self.refused[place][usize::from(number.min(15))][source] += 1;
+            self.refused[place][number_place(number)][source] += 1;
             return;
         }
         let Some(node) = &before.node else {
@@ -423,6 +444,9 @@ impl Corners {
         };
         self.invited[is][source] += 1;
         let normal = node.status == Status::Normal && !owned;
+        // T-05's ground is the only one that comes before a plain reply, and the last before another
+        // message.
+        let refused_17 = answer == Err(17) && before.traffic.no_more();
         let wrong = match &before.held {
             _ if node.status == Status::Down => [false; 4],
             // "gets a plain reply and changes nothing else", whatever the status and whoever owns the
@@ -433,13 +457,16 @@ impl Corners {
                 }
                 let other_nodes = after.nodes != table.nodes;
                 let other_messages = answer.is_ok() && !replied(table, m, after);
-                [answer.is_err(), other_nodes, other_messages, false]
+                [answer.is_err() && !refused_17, other_nodes, other_messages, false]
             }
             None if normal => {
                 add(&mut self.elsewhere, source, elsewhere(node, m.receiver, group));
                 let now = after.node(m.receiver);
                 let joined = (now.status, now.group) == (Status::Election, group);
-                let right = if node.last_call == MAX_CALL { answer == Err(13) } else { joined };
+                let right = match node.last_call {
+                    MAX_CALL => answer == Err(13),
+                    _ => joined || refused_17,
+                };
                 [false, false, false, !right]
             }
             None => [false; 4],
@@ -454,13 +481,19 @@ impl Corners {
 
     /// Counts a refusal of a list or of a line.
     pub fn refusal(&mut self, number: u8) {
-        self.other_refusals[usize::from(number.min(15))] += 1;
+        self.other_refusals[number_place(number)] += 1;
+    }
+
+    /// Counts the answer on a table with a rule of the range broken in its counts, the one at this place of
+    /// `BROKEN`.
+    pub fn broken_counts(&mut self, which: usize, answer: Result<(), u8>) {
+        self.traffic.broken(which, answer);
     }
 
     /// Every corner that the papers make possible, with its counts.
     fn corners(&self) -> Vec<(String, Count)> {
         let mut corners = Vec::new();
-        for number in 1..=15 {
+        for number in grounds() {
             let mut count = [self.other_refusals[number], 0];
             for event in &self.refused {
                 count = [count[0] + event[number][0], count[1] + event[number][1]];
@@ -474,7 +507,7 @@ impl Corners {
             corners.push((format!("activity {name}"), count));
         }
         for (event, name) in EVENTS.iter().enumerate() {
-            for number in (1..=15).filter(|&number| refusable(event, number)) {
+            for number in grounds().filter(|&number| refusable(event, number)) {
                 corners.push((format!("{name} refused {number}"), self.refused[event][number]));
             }
         }
@@ -493,6 +526,7 @@ impl Corners {
         let named = named.chain(ELSEWHERE.iter().zip(self.elsewhere));
         let named = named.map(|(&name, count)| (name, count)).chain(self.recoveries.corners());
         corners.extend(named.map(|(name, count)| (name.to_string(), count)));
+        corners.extend(self.traffic.corners());
         corners
     }
 
@@ -501,7 +535,7 @@ impl Corners {
         let mut found = Vec::new();
         let met = |count: Count| count != [0, 0];
         for (event, name) in EVENTS.iter().enumerate() {
-            for number in 0..16 {
+            for number in 0..NUMBERS {
                 if !refusable(event, number) && met(self.refused[event][number]) {
                     found.push(format!("{name} refused {number}"));
                 }
@@ -521,6 +555,7 @@ impl Corners {
         let picks = WRONG_PICKS.iter().zip(self.wrong_picks);
         let wrong = picks.chain(WRONG_INVITATIONS.iter().zip(self.wrong_invitations));
         let wrong = wrong.map(|(&name, count)| (name, count)).chain(self.recoveries.wrong());
+        let wrong = wrong.chain(self.traffic.wrong());
         found.extend(wrong.filter(|&(_, count)| met(count)).map(|(name, _)| name.to_string()));
         found
     }

@@ -14,6 +14,8 @@ use crate::numbers::Numbers;
 use crate::print::run_list;
 use crate::proved::{Library, RECORDS_BYTES, TABLE_BYTES};
 use crate::tables::{in_range, move_to_ends, scramble, spoil, to_recover};
+use crate::traffic_corners::BROKEN;
+use crate::traffic_tables::{break_counts, raise_to_calls, to_send, to_take_last};
 use std::time::{Duration, Instant};
 
 /// After so many differences it ends.
@@ -62,15 +64,26 @@ impl<L: Library> Fuzz<L> {
         let mut told = 0;
         while start.elapsed() < time && self.failed < ENOUGH {
             self.run();
-            for _ in 0..150 {
-                if self.failed < ENOUGH {
-                    self.table();
-                }
+            for _ in 0..200 {
+                self.table();
+            }
+            for _ in 0..250 {
+                self.sends();
+            }
+            for _ in 0..60 {
+                self.broken_counts();
+            }
+            for _ in 0..20 {
+                self.within_calls();
+            }
+            for _ in 0..8 {
+                let (table, event) = to_take_last(&mut self.numbers);
+                self.walk(&table, &[event]);
             }
             for _ in 0..4 {
                 self.field();
             }
-            for _ in 0..32 {
+            for _ in 0..90 {
                 let (table, i) = to_recover(&mut self.numbers);
                 self.recovery(Source::Table, &table, i);
             }
@@ -145,7 +158,7 @@ impl<L: Library> Fuzz<L> {
         }
         self.small_buffers(&list);
         self.first_fields(&list);
-        if self.numbers.one_in(2) {
+        for _ in 0..2 {
             self.long_list(&list);
         }
     }
@@ -287,23 +300,61 @@ impl<L: Library> Fuzz<L> {
             _ => 12,
         };
         let events = self.events(&table, most);
+        self.walk(&table, &events);
+    }
+
+    /// An event that must send a message, where a count of messages is at its end.
+    fn sends(&mut self) {
+        let (table, event) = to_send(&mut self.numbers);
+        self.walk(&table, &[event]);
+    }
+
+    /// An event on a table with one rule of the range broken in its counts. It is mostly one that is accepted
+    /// on the table as it was.
+    fn broken_counts(&mut self) {
+        let mut table = in_range(&mut self.numbers);
+        let events = self.events(&table, 4);
+        let accepted = |event: &&Event| step(&mut table.clone(), event).is_ok();
+        let event = *events.iter().find(accepted).unwrap_or(&events[0]);
+        let which = self.numbers.place(BROKEN.len());
+        if break_counts(&mut table, which, &mut self.numbers) && self.walk(&table, &[event]) {
+            self.corners.broken_counts(which, step(&mut table, &event));
+        }
+    }
+
+    /// Events on a table whose counts are as high as the calls allow, on which ground 17 is never met.
+    fn within_calls(&mut self) {
+        let mut table = in_range(&mut self.numbers);
+        raise_to_calls(&mut table, &mut self.numbers);
+        let events = self.events(&table, 12);
+        self.walk(&table, &events);
+    }
+
+    /// Events on a table, one after another; whether there is no difference.
+    fn walk(&mut self, table: &Table, events: &[Event]) -> bool {
+        if self.failed >= ENOUGH {
+            return false;
+        }
         // In most cases random bytes stand in what is no part of the tables.
         let noise = self.numbers.bits();
         let noise = (!self.numbers.one_in(4)).then_some(noise);
         self.tables += 1;
         self.table_events += events.len() as u64;
-        let found = walk_difference(&self.library, &table, &events, noise, Some(&mut self.corners));
+        let found = walk_difference(&self.library, table, events, noise, Some(&mut self.corners));
         if let Some(found) = found {
             self.passed += found.events as u64 - 1;
-            let words = tell_walk(&self.library, &table, &events, noise);
-            return self.difference(words);
+            let words = tell_walk(&self.library, table, events, noise);
+            self.difference(words);
+            return false;
         }
         self.passed += events.len() as u64;
+        true
     }
 
     fn events(&mut self, table: &Table, most: u32) -> Vec<Event> {
         let numbers = &mut self.numbers;
         let manner = any_manner(numbers);
+        let in_range = table.in_range();
         let mut table = table.clone();
         (0..numbers.between(1, most))
             .map(|_| {
@@ -312,7 +363,9 @@ impl<L: Library> Fuzz<L> {
                 } else {
                     pick(&table, &manner, numbers)
                 };
-                let _ = step(&mut table, &event);
+                if in_range {
+                    let _ = advance(&mut table, &event);
+                }
                 event
             })
             .collect()

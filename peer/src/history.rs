@@ -1,7 +1,11 @@
-//! The history kept beside a run (document 01 calls it the book), and a direct check of demand 3 on
-//! the table that each event leaves. The table may come from any implementation.
+//! The history kept beside a run (document 01 calls it the book), and a direct check of demand 3, and of
+//! what T-05 of document 02 says of runs, on the table that each event leaves. The table may come from any
+//! implementation.
 
-use crate::machine::{advance_noting, Event, Formed, Status, Table, MAX_NODES};
+use crate::machine::{
+    advance_noting, count_mut, count_of, Activity, Event, Formed, PairCounts, Status, Table,
+    Traffic, MAX_NODES,
+};
 use std::collections::{HashMap, HashSet};
 
 /// "fed n and the events alone": it runs the definitions for itself and never sees the table that is
@@ -15,6 +19,9 @@ pub struct History {
     last: [u32; MAX_NODES as usize],
     /// "the groups formed, first none, each with its task or none"
     groups: HashMap<u32, Option<u16>>,
+    /// T-05: "the counts taken from the accepted events of the run". They are counted by the events and by
+    /// the queue of the messages, and not read from `run`.
+    traffic: Traffic,
 }
 
 /// What the history says of one event.
@@ -35,6 +42,7 @@ impl History {
             counts: [0; MAX_NODES as usize],
             last: [0; MAX_NODES as usize],
             groups: HashMap::new(),
+            traffic: Traffic::START,
         }
     }
 
@@ -51,6 +59,7 @@ impl History {
     /// Takes in one event.
     pub fn feed(&mut self, event: &Event) -> Entry {
         let mut entry = Entry { answer: Ok(()), formed: None, second_task: None };
+        let waiting = self.run.messages.len();
         match advance_noting(&mut self.run, event) {
             Err(r) => {
                 // "All else, a refusal too, changes nothing."
@@ -73,7 +82,24 @@ impl History {
                 entry.second_task = Some(group);
             }
         }
+        self.count(event, waiting);
         entry
+    }
+
+    /// Counts the messages of an accepted event, before which so many waited.
+    fn count(&mut self, event: &Event, waiting: usize) {
+        let taken_out = match *event {
+            Event::Deliver(a, b) => Some((&mut self.traffic.delivered, a, b)),
+            Event::Lose(a, b) => Some((&mut self.traffic.lost, a, b)),
+            _ => None,
+        };
+        let left = waiting - usize::from(taken_out.is_some());
+        if let Some((counts, a, b)) = taken_out {
+            *count_mut(counts, a, b) += 1;
+        }
+        for m in &self.run.messages[left..] {
+            *count_mut(&mut self.traffic.sent, m.sender, m.receiver) += 1;
+        }
     }
 
     fn form(&mut self, i: u8, task: Option<u16>) -> u32 {
@@ -86,7 +112,7 @@ impl History {
     }
 }
 
-/// The check of demand 3 over one whole run.
+/// The check of demand 3 and of T-05 over one whole run.
 #[derive(Clone, Debug)]
 pub struct Checker {
     history: History,
@@ -136,7 +162,39 @@ impl Checker {
                 return Err(format!("group {group} is new, but the history formed no such group"));
             }
         }
+        self.check_traffic(entry.answer, table)?;
         Ok(entry)
+    }
+
+    /// T-05: "The records equal the counts taken from the accepted events of the run. Sent is delivered
+    /// plus lost plus those waiting, for each pair." "From the starting table no event ever meets the new
+    /// ground", and why it does not.
+    fn check_traffic(&self, answer: Result<(), u8>, table: &Table) -> Result<(), String> {
+        if answer == Err(17) {
+            return Err("ground 17 is met".to_string());
+        }
+        let Traffic { sent, delivered, lost } = &table.traffic;
+        let counted = &self.history.traffic;
+        for (name, records, counted) in [
+            ("sent", sent, &counted.sent),
+            ("delivered", delivered, &counted.delivered),
+            ("lost", lost, &counted.lost),
+        ] {
+            if records != counted {
+                return Err(format!("the counts of messages {name} are not those of the events"));
+            }
+        }
+        let waiting = table.waiting();
+        for (a, b) in (1..=table.n).flat_map(|a| (1..=table.n).map(move |b| (a, b))) {
+            let count = |counts: &PairCounts| u64::from(count_of(counts, a, b));
+            if count(sent) != count(delivered) + count(lost) + count(&waiting) {
+                return Err(format!("what {a} has sent to {b} is not delivered, lost or waiting"));
+            }
+        }
+        if let Some((a, b)) = beyond_calls(table) {
+            return Err(format!("node {a} has sent more to {b} than the calls allow"));
+        }
+        Ok(())
     }
 
     /// The same group in Reorganization or Normal has the same coordinator; the task of a Normal
@@ -171,6 +229,46 @@ impl Checker {
         }
         Ok(())
     }
+}
+
+/// What is due by calls, for each pair a, b: one message while a forwards or accepts for the caller b, and
+/// one for each call from b to a that waits.
+pub fn due_by_calls(table: &Table) -> PairCounts {
+    let mut due = Traffic::START.sent;
+    let node = 1..=MAX_NODES;
+    for i in 1..=table.n.min(MAX_NODES) {
+        match table.node(i).activity {
+            Activity::Forwarding { caller, .. } | Activity::Accepting { caller, .. }
+                if node.contains(&caller) =>
+            {
+                *count_mut(&mut due, i, caller) += 1;
+            }
+            _ => {}
+        }
+    }
+    for m in &table.messages {
+        let call = (1..=5).contains(&m.body.kind());
+        if call && node.contains(&m.sender) && node.contains(&m.receiver) {
+            *count_mut(&mut due, m.receiver, m.sender) += 1;
+        }
+    }
+    due
+}
+
+/// A pair a, b of which a has sent more than the calls allow: what a has sent to b and what is due is at
+/// most the sum of both nodes' last call numbers. A call raises the sum with what its caller has sent, and
+/// with what is due from the one called; a reply is due before it is sent. So in a run no pair is beyond
+/// it, and that is why ground 17 is never met there: the sum is at most 33,554,430, and less where a call
+/// can be made; a reply was due.
+pub fn beyond_calls(table: &Table) -> Option<(u8, u8)> {
+    let due = due_by_calls(table);
+    let n = table.n.min(MAX_NODES);
+    let mut pairs = (1..=n).flat_map(|a| (1..=n).map(move |b| (a, b)));
+    pairs.find(|&(a, b)| {
+        let calls = [table.node(a), table.node(b)].map(|node| u64::from(node.last_call));
+        let sent = u64::from(count_of(&table.traffic.sent, a, b));
+        a != b && sent + u64::from(count_of(&due, a, b)) > calls[0] + calls[1]
+    })
 }
 
 /// The group numbers in the nodes, Down ones too, and in the waiting messages.

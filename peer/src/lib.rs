@@ -1,4 +1,4 @@
-//! A second implementation of document 01 (coordinator election among cabinets) and of T-01 to T-04 of
+//! A second implementation of document 01 (coordinator election among cabinets) and of T-01 to T-05 of
 //! document 02, written from the papers alone, so that other implementations can be compared with it.
 //! Document 01's cabinet is called node here, and its book history.
 
@@ -22,5 +22,7 @@ pub mod shortest;
 pub mod slow_invitation;
 pub mod spread;
 pub mod tables;
+pub mod traffic_corners;
+pub mod traffic_tables;
 pub mod tuned;
 pub mod vectors;

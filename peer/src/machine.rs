@@ -1,7 +1,7 @@
 //! The reference machine: the table, when it is in range, what each of the nine events does to it, and
-//! the records of a recovery. T-02 to T-04 of document 02 are in it. Words in quotation marks in the
-//! comments are document 01's, or those of T-02, T-03 or T-04 where that is said; their cabinet is called
-//! node here.
+//! the records of a recovery. T-02 to T-05 of document 02 are in it. Words in quotation marks in the
+//! comments are document 01's, or those of T-02, T-03, T-04 or T-05 where that is said; their cabinet is
+//! called node here.
 
 pub const MAX_NODES: u8 = 16;
 pub const MAX_COUNTER: u32 = 1_048_575;
@@ -9,6 +9,8 @@ pub const MAX_CALL: u32 = 16_777_215;
 pub const MAX_TICKS: u8 = 15;
 pub const MIN_TASK: u16 = 100;
 pub const MAX_MESSAGES: usize = 64;
+/// T-05: "no count is above 33,554,430"
+pub const MAX_COUNT: u32 = 33_554_430;
 
 /// A set of nodes: bit i - 1 stands for node i.
 pub type Set = u16;
@@ -93,6 +95,17 @@ pub struct Message {
     pub body: Body,
 }
 
+/// T-05: "16 rows of 16 counts". The count of node a's messages to node b stands at [a - 1][b - 1].
+pub type PairCounts = [[u32; MAX_NODES as usize]; MAX_NODES as usize];
+
+/// T-05: "for each ordered pair, how many messages were sent, delivered and lost"
+#[derive(Clone, Debug, PartialEq, Eq)]
+pub struct Traffic {
+    pub sent: PairCounts,
+    pub delivered: PairCounts,
+    pub lost: PairCounts,
+}
+
 /// Node i stands at nodes[i - 1]; those above n are no part of the table and are never written.
 /// The messages stand "in the order sent".
 #[derive(Clone, Debug, PartialEq, Eq)]
@@ -100,6 +113,7 @@ pub struct Table {
     pub n: u8,
     pub nodes: [Node; MAX_NODES as usize],
     pub messages: Vec<Message>,
+    pub traffic: Traffic,
 }
 
 /// The nine events, with their numbers in the order of the list's fields.
@@ -212,6 +226,27 @@ impl Body {
     }
 }
 
+/// The count of a pair, whose nodes must be 1 to 16.
+pub fn count_of(counts: &PairCounts, a: u8, b: u8) -> u32 {
+    counts[usize::from(a) - 1][usize::from(b) - 1]
+}
+
+/// The same, to be changed.
+pub fn count_mut(counts: &mut PairCounts, a: u8, b: u8) -> &mut u32 {
+    &mut counts[usize::from(a) - 1][usize::from(b) - 1]
+}
+
+/// The sum of all 256 counts, of any table.
+pub fn total(counts: &PairCounts) -> u64 {
+    counts.iter().flatten().copied().map(u64::from).sum()
+}
+
+impl Traffic {
+    pub const START: Traffic = Traffic { sent: NO_COUNTS, delivered: NO_COUNTS, lost: NO_COUNTS };
+}
+
+const NO_COUNTS: PairCounts = [[0; MAX_NODES as usize]; MAX_NODES as usize];
+
 impl Table {
     /// The "starting table" of n nodes.
     pub fn start(n: u8) -> Table {
@@ -219,6 +254,7 @@ impl Table {
             n,
             nodes: [Node::START; MAX_NODES as usize],
             messages: Vec::with_capacity(MAX_MESSAGES),
+            traffic: Traffic::START,
         }
     }
 
@@ -233,6 +269,7 @@ impl Table {
             && (1..=self.n).all(|i| self.node_in_range(i))
             && self.messages.len() <= MAX_MESSAGES
             && self.messages.iter().all(|m| self.message_in_range(m))
+            && self.traffic_in_range()
     }
 
     fn node_in_range(&self, i: u8) -> bool {
@@ -299,6 +336,40 @@ impl Table {
             && (1..=MAX_CALL).contains(&m.call)
             && body
     }
+
+    /// How many messages of each pair wait. One whose sender or receiver is no number of a node is of
+    /// none.
+    pub fn waiting(&self) -> PairCounts {
+        let mut waiting = NO_COUNTS;
+        let node = 1..=MAX_NODES;
+        for m in &self.messages {
+            if node.contains(&m.sender) && node.contains(&m.receiver) {
+                *count_mut(&mut waiting, m.sender, m.receiver) += 1;
+            }
+        }
+        waiting
+    }
+
+    /// T-05: "Sent is delivered plus lost plus those waiting, for each pair. A table is in range only if
+    /// that holds, a count that stands for no pair of its n cabinets is 0, and no count is above
+    /// 33,554,430."
+    fn traffic_in_range(&self) -> bool {
+        let Traffic { sent, delivered, lost } = &self.traffic;
+        let waiting = self.waiting();
+        let n = usize::from(self.n);
+        (0..usize::from(MAX_NODES)).all(|a| {
+            let mut in_range = true;
+            for b in 0..usize::from(MAX_NODES) {
+                let [sent, delivered, lost, waiting] =
+                    [sent, delivered, lost, &waiting].map(|counts| counts[a][b]);
+                let most = if a < n && b < n && a != b { MAX_COUNT } else { 0 };
+                // The sum in 64 bits, where it does not wrap.
+                let sum = u64::from(delivered) + u64::from(lost) + u64::from(waiting);
+                in_range &= u64::from(sent) == sum && sent.max(delivered).max(lost) <= most;
+            }
+            in_range
+        })
+    }
 }
 
 /// Applies an event to a table; the error is the refusal's number, and then nothing has changed.
@@ -324,6 +395,7 @@ pub fn advance_noting(table: &mut Table, event: &Event) -> Result<Option<Formed>
         node: *table.node(i),
         // "a delivered one is already out"
         waiting: table.messages.len() - usize::from(place.is_some()),
+        sent_before: &table.traffic.sent[usize::from(i) - 1],
         sent: None,
         formed: None,
     };
@@ -338,13 +410,23 @@ pub fn advance_noting(table: &mut Table, event: &Event) -> Result<Option<Formed>
         (Event::Deliver(..), Some(place)) => turn.deliver(table.messages[place])?,
         (Event::Deliver(..), None) | (Event::Lose(..), _) => {}
     }
+    let Turn { node, sent, formed, .. } = turn;
     // No refusal can follow: only here is the table written.
-    table.nodes[usize::from(i) - 1] = turn.node;
+    table.nodes[usize::from(i) - 1] = node;
     if let Some(place) = place {
         table.messages.remove(place);
     }
-    table.messages.extend(turn.sent);
-    Ok(turn.formed)
+    table.messages.extend(sent);
+    // T-05: "how many messages were sent, delivered and lost"
+    match *event {
+        Event::Deliver(a, b) => *count_mut(&mut table.traffic.delivered, a, b) += 1,
+        Event::Lose(a, b) => *count_mut(&mut table.traffic.lost, a, b) += 1,
+        _ => {}
+    }
+    if let Some(m) = sent {
+        *count_mut(&mut table.traffic.sent, m.sender, m.receiver) += 1;
+    }
+    Ok(formed)
 }
 
 /// Grounds 7 and 8, "event's numbers". Gives the node whose turn it is; for deliver and lose this is
@@ -459,19 +541,21 @@ pub fn recovery(table: &Table, i: u8) -> Result<[Node; ASSIGNMENTS], u8> {
 }
 
 /// What an event does to the one node i that acts in it: a copy of the node to work on, and the one
-/// message it may send ("an event sends at most one message"). Grounds 12 to 14 are met here, and in
-/// this order, since a new group comes before a call and a call's number before its message.
-struct Turn {
+/// message it may send ("an event sends at most one message"). Grounds 12 to 14 and 17 are met here, and
+/// in this order, since a new group comes before a call and a call's number before its message.
+struct Turn<'a> {
     i: u8,
     n: u8,
     node: Node,
     /// How many messages wait.
     waiting: usize,
+    /// How many the node has sent to each.
+    sent_before: &'a [u32; MAX_NODES as usize],
     sent: Option<Message>,
     formed: Option<Formed>,
 }
 
-impl Turn {
+impl Turn<'_> {
     fn own_coordinator(&self) -> bool {
         self.node.coordinator == self.i
     }
@@ -479,6 +563,10 @@ impl Turn {
     fn send(&mut self, receiver: u8, call: u32, body: Body) -> Result<(), u8> {
         if self.waiting >= MAX_MESSAGES {
             return Err(14);
+        }
+        // T-05: "its pair's sent count is 33,554,430, after 14"
+        if self.sent_before[usize::from(receiver) - 1] >= MAX_COUNT {
+            return Err(17);
         }
         self.sent = Some(Message { sender: self.i, receiver, call, body });
         Ok(())

@@ -1,7 +1,7 @@
 //! The text that the bench program prints for a list.
 
 use crate::list::{read_list, Stop};
-use crate::machine::{advance, Table};
+use crate::machine::{advance, total, Table};
 use std::fmt::Write;
 
 /// Runs a list from the starting table and gives the whole text.
@@ -34,7 +34,8 @@ fn print_stop(text: &mut String, stop: Stop) {
 }
 
 /// "a line per cabinet: number, status, coordinator, group, task, counter, count of members; last
-/// `messages` and how many wait"
+/// `messages` and how many wait". T-05: "three more lines, `sent`, `delivered` and `lost`, each with its
+/// total".
 pub fn print_table(text: &mut String, table: &Table) {
     for i in 1..=table.n {
         let node = table.node(i);
@@ -53,6 +54,10 @@ pub fn print_table(text: &mut String, table: &Table) {
         );
     }
     line(text, format_args!("messages {}", table.messages.len()));
+    let traffic = &table.traffic;
+    line(text, format_args!("sent {}", total(&traffic.sent)));
+    line(text, format_args!("delivered {}", total(&traffic.delivered)));
+    line(text, format_args!("lost {}", total(&traffic.lost)));
 }
 
 /// "0x0A ends each line"

@@ -3,18 +3,25 @@
 
 use crate::list::{first_event, read_list};
 use crate::machine::{
-    self, Activity, Body, Event, Message, Node, Status, Table, ASSIGNMENTS, MAX_MESSAGES, MAX_NODES,
+    self, Activity, Body, Event, Message, Node, PairCounts, Status, Table, Traffic, ASSIGNMENTS,
+    MAX_MESSAGES, MAX_NODES,
 };
+use crate::numbers::Numbers;
 use crate::print::run_list;
 
 pub const NODE_BYTES: usize = 29;
-const MESSAGE_BYTES: usize = 14;
-const NODES_AT: usize = 1;
-const MESSAGES_AT: usize = NODES_AT + MAX_NODES as usize * NODE_BYTES;
-const WAITING_AT: usize = MESSAGES_AT + MAX_MESSAGES * MESSAGE_BYTES;
-pub const TABLE_BYTES: usize = WAITING_AT + 1;
+pub const MESSAGE_BYTES: usize = 14;
+const COUNT_BYTES: usize = 4;
+pub const NODES_AT: usize = 1;
+pub const MESSAGES_AT: usize = NODES_AT + MAX_NODES as usize * NODE_BYTES;
+pub const WAITING_AT: usize = MESSAGES_AT + MAX_MESSAGES * MESSAGE_BYTES;
+/// T-05's counts: sent, delivered, lost, 256 of each.
+pub const COUNTS_AT: usize = WAITING_AT + 1;
+const PAIRS_BYTES: usize = MAX_NODES as usize * MAX_NODES as usize * COUNT_BYTES;
+pub const TABLE_BYTES: usize = COUNTS_AT + 3 * PAIRS_BYTES;
 
-/// A table in bytes, numbers high byte first: n, 16 nodes, 64 messages, how many of them wait.
+/// A table in bytes, numbers high byte first: n, 16 nodes, 64 messages, how many of them wait, and the
+/// counts sent, delivered and lost, each with 16 rows of 16, a row for each sender.
 pub type TableBytes = [u8; TABLE_BYTES];
 
 /// The records of a recovery in bytes, each as in a table.
@@ -273,6 +280,17 @@ pub fn table_to_bytes(table: &Table, bytes: &mut TableBytes) {
         message_to_bytes(message, place.try_into().expect("a message's place"));
     }
     bytes[WAITING_AT] = table.messages.len().try_into().expect("at most 255 messages");
+    traffic_to_bytes(&table.traffic, bytes);
+}
+
+/// Writes the counts of a table.
+pub fn traffic_to_bytes(traffic: &Traffic, bytes: &mut TableBytes) {
+    let places = bytes[COUNTS_AT..].chunks_exact_mut(PAIRS_BYTES);
+    for (counts, place) in [&traffic.sent, &traffic.delivered, &traffic.lost].iter().zip(places) {
+        for (count, place) in counts.iter().flatten().zip(place.chunks_exact_mut(COUNT_BYTES)) {
+            place.copy_from_slice(&count.to_be_bytes());
+        }
+    }
 }
 
 /// Reads a table. Nodes above n are as in the starting table. A waiting number over 64 gives so many
@@ -291,17 +309,26 @@ pub fn table_from_bytes(bytes: &TableBytes) -> Table {
     );
     let none = Message { sender: 0, receiver: 0, call: 0, body: Body::Unknown { kind: 0 } };
     table.messages.resize(waiting, none);
+    let counts =
+        |k: usize| counts_from_bytes(&bytes[COUNTS_AT..][k * PAIRS_BYTES..][..PAIRS_BYTES]);
+    table.traffic = Traffic { sent: counts(0), delivered: counts(1), lost: counts(2) };
     table
 }
 
+fn counts_from_bytes(bytes: &[u8]) -> PairCounts {
+    let (counts, _) = bytes.as_chunks::<COUNT_BYTES>();
+    let row = MAX_NODES as usize;
+    std::array::from_fn(|a| std::array::from_fn(|b| u32::from_be_bytes(counts[row * a + b])))
+}
+
 /// Whether the bytes are the same in all that is part of the table. What a message's kind does not
-/// carry is no part of it.
+/// carry is no part of it; every count is.
 pub fn same_table(a: &TableBytes, b: &TableBytes) -> bool {
     let (nodes, messages) = parts(a);
     let message = |bytes: &[u8]| message_from_bytes(bytes.try_into().expect("a message's place"));
     let (ours, theirs) = (&a[MESSAGES_AT..messages], &b[MESSAGES_AT..messages]);
     a[0] == b[0]
-        && a[WAITING_AT] == b[WAITING_AT]
+        && a[WAITING_AT..] == b[WAITING_AT..]
         && a[NODES_AT..nodes] == b[NODES_AT..nodes]
         && ours
             .chunks_exact(MESSAGE_BYTES)
@@ -309,23 +336,20 @@ pub fn same_table(a: &TableBytes, b: &TableBytes) -> bool {
             .all(|(ours, theirs)| message(ours) == message(theirs))
 }
 
-/// Puts something into every place that is no part of the table: behind the nodes and the messages, and
-/// what a message's kind does not carry.
-pub fn fill_unused(bytes: &mut TableBytes, mut filler: impl FnMut() -> u8) {
+/// Puts random bytes into every place that is no part of the table: behind the nodes and the messages, and
+/// in what a message's kind does not carry.
+pub fn fill_unused(bytes: &mut TableBytes, numbers: &mut Numbers) {
     let (nodes, messages) = parts(bytes);
-    bytes[nodes..MESSAGES_AT].fill_with(&mut filler);
-    bytes[messages..WAITING_AT].fill_with(&mut filler);
+    numbers.fill(&mut bytes[nodes..MESSAGES_AT]);
+    numbers.fill(&mut bytes[messages..WAITING_AT]);
     for message in bytes[MESSAGES_AT..messages].chunks_exact_mut(MESSAGE_BYTES) {
-        let kind = message[2];
-        if matches!(kind, 1 | 6) {
-            message[7..11].fill_with(&mut filler);
-        }
-        if kind != 5 {
-            message[11..13].fill_with(&mut filler);
-        }
-        if kind != 6 {
-            message[13] = filler();
-        }
+        let unused = match message[2] {
+            1 => 7..14,
+            5 => 13..14,
+            6 => 7..13,
+            _ => 11..14,
+        };
+        numbers.fill(&mut message[unused]);
     }
 }
 

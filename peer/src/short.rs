@@ -2,7 +2,7 @@
 //! after another, as text. Words in quotation marks in the comments are that request's.
 
 use crate::compare::event_words;
-use crate::machine::{advance, Event, Table};
+use crate::machine::{advance, Event, PairCounts, Table};
 use std::io::{Result, Write};
 
 /// "n from 1 to 3"
@@ -116,9 +116,20 @@ impl<W: Write> Printer<'_, W> {
     }
 }
 
-/// Makes a table what another of the same n is. Nodes above n are never written.
+/// Makes a table what another of the same n is. Nodes above n and their counts are never written.
 fn copy(from: &Table, to: &mut Table) {
     let n = usize::from(from.n);
     to.nodes[..n].copy_from_slice(&from.nodes[..n]);
     to.messages.clone_from(&from.messages);
+    copy_counts(&from.traffic.sent, &mut to.traffic.sent);
+    copy_counts(&from.traffic.delivered, &mut to.traffic.delivered);
+    copy_counts(&from.traffic.lost, &mut to.traffic.lost);
+}
+
+/// The counts between the nodes that there can be here.
+fn copy_counts(from: &PairCounts, to: &mut PairCounts) {
+    const NODES: usize = MAX_N as usize;
+    for (from, to) in from.iter().zip(to).take(NODES) {
+        to[..NODES].copy_from_slice(&from[..NODES]);
+    }
 }

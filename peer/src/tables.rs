@@ -5,7 +5,11 @@ use crate::machine::{
     MAX_COUNTER, MAX_MESSAGES, MAX_NODES, MAX_TICKS, MIN_TASK,
 };
 use crate::numbers::Numbers;
-use crate::proved::{table_from_bytes, table_to_bytes, TABLE_BYTES};
+use crate::proved::{
+    table_from_bytes, table_to_bytes, MESSAGES_AT, MESSAGE_BYTES, NODES_AT, NODE_BYTES, TABLE_BYTES,
+};
+use crate::traffic_corners::BROKEN;
+use crate::traffic_tables::{break_counts, count_waiting, give_counts, move_counts_to_ends};
 
 /// A table in range.
 pub fn in_range(numbers: &mut Numbers) -> Table {
@@ -20,7 +24,7 @@ pub fn in_range(numbers: &mut Numbers) -> Table {
 }
 
 /// A table of n nodes, in range.
-fn of_nodes(n: u8, numbers: &mut Numbers) -> Table {
+pub fn of_nodes(n: u8, numbers: &mut Numbers) -> Table {
     let mut table = Table::start(n);
     for i in 1..=n {
         table.nodes[usize::from(i) - 1] = node(i, n, numbers);
@@ -34,10 +38,11 @@ fn of_nodes(n: u8, numbers: &mut Numbers) -> Table {
             _ => numbers.below(65),
         };
         for _ in 0..waiting {
-            let m = message(&table, numbers);
+            let m = any_message(&table, numbers);
             table.messages.push(m);
         }
     }
+    give_counts(&mut table, numbers);
     table
 }
 
@@ -77,7 +82,7 @@ pub fn to_recover(numbers: &mut Numbers) -> (Table, u8) {
 }
 
 /// A number from low to high, often at an end.
-fn near_ends(low: u32, high: u32, numbers: &mut Numbers) -> u32 {
+pub fn near_ends(low: u32, high: u32, numbers: &mut Numbers) -> u32 {
     match numbers.below(8) {
         0 | 1 => low,
         2 => low + numbers.below(4),
@@ -98,7 +103,7 @@ fn any_task(numbers: &mut Numbers) -> u16 {
 }
 
 /// A part of a set: often none of it or all of it.
-fn part(set: Set, numbers: &mut Numbers) -> Set {
+pub fn part(set: Set, numbers: &mut Numbers) -> Set {
     let bits = numbers.bits();
     match numbers.below(6) {
         0 | 1 => 0,
@@ -109,7 +114,7 @@ fn part(set: Set, numbers: &mut Numbers) -> Set {
 }
 
 /// A node of n other than i; n must be at least 2.
-fn other(i: u8, n: u8, numbers: &mut Numbers) -> u8 {
+pub fn other(i: u8, n: u8, numbers: &mut Numbers) -> u8 {
     let j = numbers.between(1, u32::from(n) - 1) as u8;
     if j < i {
         j
@@ -152,8 +157,20 @@ fn node(i: u8, n: u8, numbers: &mut Numbers) -> Node {
     if numbers.one_in(2) {
         node.group = group_number(node.group / 16, i);
     }
-    let found = part(others, numbers);
     let activity = if n == 1 { numbers.of(&[0, 2, 4, 6]) } else { numbers.below(9) };
+    if activity > 6 {
+        node.group = group_number(node.group / 16, other(i, n, numbers));
+    }
+    node.coordinator = owner(node.group);
+    set_activity(&mut node, activity, i, n, numbers);
+    node
+}
+
+/// Gives node i the activity of a number, with what it needs; 7 and 8 are forwarding and accepting, for a
+/// node that is not its own coordinator. With n = 1 there are only 0, 2, 4 and 6.
+pub fn set_activity(node: &mut Node, activity: u32, i: u8, n: u8, numbers: &mut Numbers) {
+    let others = (u16::MAX >> (MAX_NODES - n)) & !only(i);
+    let found = part(others, numbers);
     node.activity = match activity {
         0 => Activity::Idle,
         1 => {
@@ -167,7 +184,10 @@ fn node(i: u8, n: u8, numbers: &mut Numbers) -> Node {
             Activity::Waiting { ticks, found }
         }
         3 => {
+            // Often nobody is left, as after the last.
+            let nobody = numbers.one_in(3);
             let former = part(others, numbers);
+            let [found, former] = [found, former].map(|set| if nobody { 0 } else { set });
             Activity::Inviting { found, former, now: other(i, n, numbers) }
         }
         4 => Activity::Collecting,
@@ -177,7 +197,6 @@ fn node(i: u8, n: u8, numbers: &mut Numbers) -> Node {
         }
         6 => Activity::Contacting,
         k => {
-            node.group = group_number(node.group / 16, other(i, n, numbers));
             let caller = other(i, n, numbers);
             let call = near_ends(1, MAX_CALL, numbers);
             if k == 7 {
@@ -187,12 +206,11 @@ fn node(i: u8, n: u8, numbers: &mut Numbers) -> Node {
             }
         }
     };
-    node.coordinator = owner(node.group);
-    node
 }
 
-/// A message that often fits its receiver: in its group, or with the number of its open call.
-fn message(table: &Table, numbers: &mut Numbers) -> Message {
+/// A message that often fits its receiver: in its group, or with the number of its open call. The table must
+/// have two nodes or more.
+pub fn any_message(table: &Table, numbers: &mut Numbers) -> Message {
     let n = table.n;
     let sender = numbers.between(1, u32::from(n)) as u8;
     let receiver = other(sender, n, numbers);
@@ -230,7 +248,7 @@ fn message(table: &Table, numbers: &mut Numbers) -> Message {
     Message { sender, receiver, call, body }
 }
 
-/// Moves some of the counters and call numbers of a table to their ends, or just before them.
+/// Moves some of the counters, call numbers and counts of a table to their ends, or just before them.
 pub fn move_to_ends(table: &mut Table, numbers: &mut Numbers) {
     for node in &mut table.nodes[..usize::from(table.n)] {
         if numbers.one_in(2) {
@@ -240,10 +258,14 @@ pub fn move_to_ends(table: &mut Table, numbers: &mut Numbers) {
             node.last_call = MAX_CALL - numbers.below(4);
         }
     }
+    move_counts_to_ends(table, numbers);
 }
 
 /// Changes a number of a table, mostly so that it is just out of range.
 pub fn spoil(table: &mut Table, numbers: &mut Numbers) {
+    if numbers.one_in(8) && break_counts(table, numbers.place(BROKEN.len()), numbers) {
+        return;
+    }
     let n = table.n;
     let i = numbers.between(1, u32::from(n)) as u8;
     let k = usize::from(i) - 1;
@@ -280,6 +302,7 @@ pub fn spoil(table: &mut Table, numbers: &mut Numbers) {
             let waiting = numbers.of(&[65, 66, 128, 255]);
             let none = Message { sender: 1, receiver: 2, call: 1, body: Body::AreYouCoordinator };
             table.messages.resize(waiting, none);
+            count_waiting(table);
         }
         _ if table.messages.is_empty() => node.members |= wrong_set,
         what => {
@@ -358,11 +381,12 @@ pub fn scramble(table: &Table, numbers: &mut Numbers) -> Table {
     let mut bytes = [0; TABLE_BYTES];
     table_to_bytes(table, &mut bytes);
     for _ in 0..numbers.between(1, 4) {
-        // Half of them in the nodes and messages that are part of the table.
-        let place = match numbers.below(4) {
-            0 => 1 + numbers.place(29 * usize::from(table.n)),
+        // Two thirds of them in the nodes and messages that are part of the table.
+        let place = match numbers.below(3) {
+            0 => NODES_AT + numbers.place(NODE_BYTES * usize::from(table.n)),
             1 if !table.messages.is_empty() => {
-                465 + numbers.place(14 * table.messages.len().min(MAX_MESSAGES))
+                let waiting = table.messages.len().min(MAX_MESSAGES);
+                MESSAGES_AT + numbers.place(MESSAGE_BYTES * waiting)
             }
             _ => numbers.place(TABLE_BYTES),
         };

@@ -1,7 +1,7 @@
-//! Document 01's list program, with T-02 and T-03 of document 02, written for speed alone, as the second
-//! baseline of the benchmark: the bytes of a list in, the printed text out, into a lent buffer, and
-//! nothing allocated. Words in quotation marks in the comments are document 01's, or those of T-02 or
-//! T-03 where that is said; their cabinet is called node here.
+//! Document 01's list program, with T-02, T-03 and T-05 of document 02, written for speed alone, as the
+//! second baseline of the benchmark: the bytes of a list in, the printed text out, into a lent buffer, and
+//! nothing allocated. Words in quotation marks in the comments are document 01's, or those of T-02, T-03
+//! or T-05 where that is said; their cabinet is called node here.
 //!
 //! What it does otherwise than `machine`:
 //! - Nothing of a run shows in which order messages of different pairs were sent. So the messages of
@@ -14,6 +14,9 @@
 //! - All deliveries that are replied to at once are one piece of code without branches.
 //! - A coordinator is always its group's owner in a run, and is not kept.
 //! - A delivered message leaves its slot to the one that is sent.
+//! - Each pair has a count of its messages that were delivered or lost, and one of those lost. The others of
+//!   the first were delivered, and with those that wait they were sent. No list has more than 16,383
+//!   events, so a count has 16 bits and ground 17 is never met.
 //!
 //! Nodes are numbered from 0 here. All of it is safe Rust: what is masked needs no check.
 
@@ -97,6 +100,8 @@ const NO_PAIR: u16 = 8 << 8 | 64;
 const SENDER: u16 = 32;
 /// Where the links of the slots begin, behind those of the queues.
 const SLOTS: u16 = 17 * SENDER;
+/// The queues between nodes are below this.
+const QUEUES: u16 = 16 * SENDER;
 
 #[derive(Clone)]
 struct Table {
@@ -106,6 +111,9 @@ struct Table {
     /// The place in `links` where the next message of each queue goes.
     ends: [u16; SLOTS as usize],
     messages: [Message; 128],
+    /// How many messages of each queue were taken out, and how many of them were lost.
+    taken: [u16; QUEUES as usize],
+    lost: [u16; QUEUES as usize],
     /// The slots that are free.
     free: u64,
     /// All nodes.
@@ -138,6 +146,8 @@ static START: Table = {
         links: [NO_PAIR; 1024],
         ends,
         messages: [Message { call: 0, group: 0, task: 0 }; 128],
+        taken: [0; QUEUES as usize],
+        lost: [0; QUEUES as usize],
         free: u64::MAX,
         all: 0,
     }
@@ -158,6 +168,7 @@ const ANSWERED: u8 = 22;
 const ACCEPTED: u8 = 23;
 const STAYS: u8 = 24;
 const LEAVES: u8 = 25;
+const DROP: u8 = 26;
 /// From here on a message is replied to; what is done beside it is added.
 const REPLY_NO: u8 = 32;
 const REPLY_YES: u8 = REPLY_NO + IS_YES;
@@ -213,7 +224,7 @@ const fn action(row: u16, state: u16) -> u8 {
         (14, CONTACTING) => STAYS,
         (_, CONTACTING) => LEAVES,
         // "Otherwise the reply is dropped."
-        _ => LOSE,
+        _ => DROP,
     }
 }
 
@@ -351,7 +362,8 @@ fn run(list: &[u8], n: u8, text: &mut Text) -> Option<()> {
     for i in 0..n {
         text.node(i, &table.nodes[usize::from(i & 31)])?;
     }
-    text.messages(table.free.count_zeros())
+    let sum = |counts: &[u16]| counts.iter().map(|&count| u32::from(count)).sum::<u32>();
+    text.traffic(table.free.count_zeros(), sum(&table.taken), sum(&table.lost))
 }
 
 /// The number of the refusal of a field that is no event.
@@ -447,7 +459,11 @@ impl Table {
                 self.nodes[k].state = REORGANIZATION | OWN;
                 self.walk(k, HANDING, members, None);
             }
-            LOSE => self.release(Some(oldest)),
+            LOSE => {
+                self.lost[usize::from(oldest.queue & (QUEUES - 1))] += 1;
+                self.release(Some(oldest));
+            }
+            DROP => self.release(Some(oldest)),
             // "if not Normal", which is no INVITED, "or it owns that group, plain reply and no change."
             // T-03: "an invitation to the group a cabinet already holds gets a plain reply and changes
             // nothing else"
@@ -534,9 +550,10 @@ impl Table {
         *state = *state & !ACTIVITY | activity;
     }
 
-    /// Takes the oldest message out of its queue.
+    /// Takes the oldest message out of its queue, and counts it.
     #[inline(always)]
     fn take_out(&mut self, oldest: Oldest) {
+        self.taken[usize::from(oldest.queue & (QUEUES - 1))] += 1;
         let queue = usize::from(oldest.queue).min(usize::from(SLOTS) - 1);
         let next = self.links[usize::from(SLOTS) + usize::from(oldest.slot & 127)];
         self.links[queue] = next;
@@ -823,8 +840,13 @@ impl Text<'_> {
         self.words(b"cabinets ", &[u32::from(n)])
     }
 
-    fn messages(&mut self, waiting: u32) -> Option<()> {
-        self.words(b"messages ", &[waiting])
+    /// `messages`, and T-05's `sent`, `delivered` and `lost`. "Sent is delivered plus lost plus those
+    /// waiting".
+    fn traffic(&mut self, waiting: u32, taken: u32, lost: u32) -> Option<()> {
+        self.words(b"messages ", &[waiting])?;
+        self.words(b"sent ", &[taken + waiting])?;
+        self.words(b"delivered ", &[taken - lost])?;
+        self.words(b"lost ", &[lost])
     }
 
     /// "number, status, coordinator, group, task, counter, count of members"

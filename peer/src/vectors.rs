@@ -2,7 +2,9 @@
 //! its printed text (NAME.list and NAME.txt), and the sums and the wrong inputs of T-01. `calls.rs` reads
 //! the calls.
 
-use crate::machine::{Activity, Body, Event, Message, Node, Status, Table, MAX_NODES};
+use crate::machine::{
+    count_mut, count_of, Activity, Body, Event, Message, Node, Status, Table, Traffic, MAX_NODES,
+};
 use std::fmt::Write;
 use std::path::Path;
 use std::str::SplitWhitespace;
@@ -159,6 +161,7 @@ fn read_line(line: &str, draft: &mut Option<Draft>) -> Option<Option<StepCase>> 
             *table.nodes.get_mut(usize::from(i).checked_sub(1)?)? = read_node(&mut words)?;
         }
         "message" => table.messages.push(read_message(&mut words)?),
+        "counts" => read_counts(&mut words, &mut table.traffic)?,
         "event" => case.event = Some(read_event(&mut words)?),
         "answer" => {
             match words.next()? {
@@ -245,6 +248,18 @@ fn read_message(w: &mut SplitWhitespace) -> Option<Message> {
     Some(Message { sender, receiver, call, body })
 }
 
+/// `A B SENT DELIVERED LOST`
+fn read_counts(w: &mut SplitWhitespace, traffic: &mut Traffic) -> Option<()> {
+    let (a, b): (u8, u8) = (number(w)?, number(w)?);
+    if a.min(b) < 1 || a.max(b) > MAX_NODES {
+        return None;
+    }
+    *count_mut(&mut traffic.sent, a, b) = number(w)?;
+    *count_mut(&mut traffic.delivered, a, b) = number(w)?;
+    *count_mut(&mut traffic.lost, a, b) = number(w)?;
+    Some(())
+}
+
 fn read_event(w: &mut SplitWhitespace) -> Option<Event> {
     Some(match w.next()? {
         "crash" => Event::Crash(number(w)?),
@@ -281,7 +296,7 @@ pub fn node_text(i: u8, x: &Node) -> String {
     )
 }
 
-/// The cabinet and message lines of a table, as in steps.txt.
+/// The cabinet, message and counts lines of a table, as in steps.txt.
 pub fn table_text(table: &Table) -> String {
     let mut text: String =
         (1..=table.n.min(MAX_NODES)).map(|i| node_text(i, table.node(i))).collect();
@@ -299,6 +314,15 @@ pub fn table_text(table: &Table) -> String {
             u8::from(yes)
         )
         .expect("a String takes every line");
+    }
+    for (a, b) in (1..=MAX_NODES).flat_map(|a| (1..=MAX_NODES).map(move |b| (a, b))) {
+        let Traffic { sent, delivered, lost } = &table.traffic;
+        let counts = [sent, delivered, lost].map(|counts| count_of(counts, a, b));
+        if counts != [0; 3] {
+            let [sent, delivered, lost] = counts;
+            writeln!(text, "counts {a} {b} {sent} {delivered} {lost}")
+                .expect("a String takes every line");
+        }
     }
     text
 }

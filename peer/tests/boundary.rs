@@ -138,7 +138,7 @@ fn refusals_leave_the_buffer(library: &impl Library) {
         let found = walk_difference(library, &table, &[event], noise, None);
         no_difference(found.map(|found| found.words));
     }
-    for number in [0, 1, 7, 8, 9, 10, 11, 12, 13, 14] {
+    for number in [0, 1, 7, 8, 9, 10, 11, 12, 13, 14, 17] {
         assert!(answers[number] > 20, "{number}: {}", answers[number]);
     }
 }
@@ -282,7 +282,7 @@ fn fields_that_are_not_carried_decide_nothing() {
             Own.print(list, out)
         }
         fn step(&self, table: &[u8], field: &[u8], out: &mut [u8]) -> u8 {
-            let waiting = usize::from(table[TABLE_BYTES - 1]).min(MAX_MESSAGES);
+            let waiting = usize::from(table[WAITING_AT]).min(MAX_MESSAGES);
             let messages = table[465..465 + 14 * waiting].chunks(14);
             if out.len() >= TABLE_BYTES && messages.clone().any(|m| m[2] == 6 && m[7] != 0) {
                 return 1;

@@ -1,9 +1,11 @@
 //! The vectors' calls: how a line is read, what is compared, and the calls of T-04 on this program's own
 //! machine.
 
-use peer::calls::{read_calls, Arguments, Function, Takes, FUNCTIONS};
+use peer::calls::{read_calls, with_counts, Arguments, Function, Takes, FUNCTIONS};
 use peer::compare::call_difference;
-use peer::proved::{Library, Own};
+use peer::machine::{Body, Message, Table};
+use peer::proved::{table_to_bytes, Library, Own, COUNTS_AT, TABLE_BYTES};
+use peer::traffic_tables::count_waiting;
 use std::path::Path;
 
 /// Functions that take other things: nothing, two numbers around a slice, three slices.
@@ -145,6 +147,71 @@ fn recoveries_of_the_vectors() {
     for answer in [0, 1, 7, 9, 12, 255] {
         assert!(cases.iter().filter(|case| case.answer == answer).count() > 10, "{answer}");
     }
+}
+
+/// T-04's tables get counts: what waits of each pair was sent. One that was cut short is cut, and what stood
+/// behind a longer one stands behind the counts.
+#[test]
+fn tables_without_counts_get_them() {
+    let mut table = Table::start(3);
+    let mut ask = |sender: u8, receiver: u8| {
+        let body = Body::AreYouCoordinator;
+        table.messages.push(Message { sender, receiver, call: 1, body });
+    };
+    ask(1, 2);
+    ask(3, 2);
+    ask(1, 2);
+    let whole = |table: &Table| {
+        let mut bytes = [0; TABLE_BYTES];
+        table_to_bytes(table, &mut bytes);
+        bytes
+    };
+    let old = &whole(&table)[..COUNTS_AT];
+    count_waiting(&mut table);
+    assert!(table.in_range());
+    let expected = whole(&table);
+    assert_eq!(with_counts(old), expected);
+    let longer = [old, &[7, 0, 8, 0]].concat();
+    assert_eq!(with_counts(&longer), [&expected[..], &[7, 0, 8, 0]].concat());
+    // Bytes in another form stay in it.
+    let mut other = old.to_vec();
+    (other[1], other[100], other[1300]) = (4, 9, 10);
+    assert_eq!(with_counts(&other)[..COUNTS_AT], other);
+    assert_eq!(with_counts(&other)[COUNTS_AT..], expected[COUNTS_AT..]);
+    // Cut behind its nodes; then nothing waits.
+    let cut = with_counts(&[&[3][..], &[0; 80], &[5; 30]].concat());
+    assert_eq!(cut, [&[3][..], &[0; 80], &[5; 30]].concat());
+    assert_eq!(with_counts(&[2, 0, 0]), [2]);
+    assert_eq!(with_counts(&[]), [0; 0]);
+    // Messages of no pair are not counted.
+    for (sender, receiver) in [(0, 1), (1, 0), (4, 1), (1, 4), (17, 1), (2, 2)] {
+        let mut old = whole(&Table::start(3))[..COUNTS_AT].to_vec();
+        (old[465], old[466], old[1361]) = (sender, receiver, 1);
+        assert_eq!(with_counts(&old)[COUNTS_AT..], [0; TABLE_BYTES - COUNTS_AT]);
+    }
+}
+
+/// As they stand, the tables of T-04's vectors in which a message waits are now out of range.
+#[test]
+fn recoveries_without_counts() {
+    let mut refused = 0;
+    for line in recoveries().lines() {
+        let words: Vec<&str> = line.split(' ').collect();
+        let table = peer::vectors::read_hex(words[1]).unwrap();
+        let (node, room) = (words[2].parse().unwrap(), words[4].parse().unwrap());
+        let answer: u8 = words[6].parse().unwrap();
+        let now = Own.recovery(&table, node, &mut vec![0; room]);
+        let longer = table.len() > COUNTS_AT;
+        let waits = table.get(COUNTS_AT - 1).is_some_and(|&waiting| waiting > 0);
+        let expected = match answer {
+            1 | 255 => answer,
+            _ if waits || longer => 1,
+            _ => answer,
+        };
+        assert_eq!(now, expected, "{words:?}");
+        refused += u32::from(now != answer);
+    }
+    assert!(refused > 100, "{refused}");
 }
 
 /// A library with one wrong byte in the records is found by the vectors, whichever byte it is.

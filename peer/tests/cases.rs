@@ -7,6 +7,7 @@ use common::{invited_twice, LATE, NODES};
 use peer::list::write_list;
 use peer::machine::*;
 use peer::print::run_list;
+use peer::traffic_tables::count_waiting;
 use Event::*;
 
 fn printed(n: u8, events: &[Event]) -> String {
@@ -90,6 +91,7 @@ fn k8_invitation_in_election() {
         call: 7,
         body: Body::Invitation { group: 17 },
     });
+    count_waiting(&mut table);
     let nodes = table.nodes;
     step(&mut table, &Deliver(2, 1)).unwrap();
     assert_eq!(table.nodes, nodes);
@@ -108,13 +110,14 @@ fn k9_older_reply() {
         call: 4,
         body: Body::Reply { yes: true },
     });
+    count_waiting(&mut table);
     let nodes = table.nodes;
     step(&mut table, &Deliver(2, 1)).unwrap();
     assert_eq!(table.nodes, nodes);
     assert_eq!(table.messages, []);
 }
 
-/// T-02: "K10 prints the same."
+/// T-02: "K10 prints the same." T-05: "K10 gains the lines `sent 8`, `delivered 8`, `lost 0`."
 #[test]
 fn k10_two_nodes() {
     let mut events = vec![Recover(1), Recover(2), Check(2)];
@@ -122,7 +125,8 @@ fn k10_two_nodes() {
         events.extend([Deliver(2, 1), Deliver(1, 2)]);
     }
     events.extend([Finish(2, 100), Deliver(2, 1), Deliver(1, 2)]);
-    let text = "cabinets 2\n1 3 2 33 100 1 0\n2 3 2 33 100 2 1\nmessages 0\n";
+    let text = "cabinets 2\n1 3 2 33 100 1 0\n2 3 2 33 100 2 1\nmessages 0\n\
+                sent 8\ndelivered 8\nlost 0\n";
     assert_eq!(printed(2, &events), text);
 }
 
@@ -131,6 +135,7 @@ fn k11_full() {
     let mut table = recovered(2);
     let ask = Message { sender: 1, receiver: 2, call: 1, body: Body::AreYouCoordinator };
     table.messages = vec![ask; 64];
+    count_waiting(&mut table);
     refused(&table, Check(1), 14);
     assert_eq!(step(&mut table, &Deliver(1, 2)), Ok(()));
     assert_eq!(table.messages.len(), 64);
@@ -146,6 +151,7 @@ fn k12_late_accept() {
         call: 1,
         body: Body::Accept { group: 16 },
     });
+    count_waiting(&mut table);
     step(&mut table, &Deliver(2, 1)).unwrap();
     assert_eq!(table.node(1).members, 0);
 }
@@ -302,6 +308,7 @@ fn t02_all_sixteen() {
     let mut table = one_group(16, 8);
     let body = Body::Invitation { group: group_number(5, 11) };
     table.messages.push(Message { sender: 9, receiver: 8, call: 1, body });
+    count_waiting(&mut table);
     step(&mut table, &Deliver(9, 8)).unwrap();
     let messages = deliver_all(&mut table);
     assert_eq!(called(&messages, 8, 3), down);
@@ -312,14 +319,16 @@ fn invitation(sender: u8, receiver: u8, call: u32, group: u32) -> Message {
     Message { sender, receiver, call, body: Body::Invitation { group } }
 }
 
-/// What must follow on a plain reply and nothing else: the oldest message from a to b is gone, and a reply
-/// to it, yes, stands behind the rest.
+/// What must follow on a plain reply and nothing else: the oldest message from a to b is gone, a reply to it,
+/// yes, stands behind the rest, and both are counted.
 fn with_plain_reply(table: &Table, a: u8, b: u8) -> Table {
     let mut after = table.clone();
     let place = after.messages.iter().position(|m| (m.sender, m.receiver) == (a, b)).unwrap();
     let call = after.messages.remove(place).call;
     let body = Body::Reply { yes: true };
     after.messages.push(Message { sender: b, receiver: a, call, body });
+    *count_mut(&mut after.traffic.delivered, a, b) += 1;
+    *count_mut(&mut after.traffic.sent, b, a) += 1;
     after
 }
 
@@ -357,6 +366,7 @@ fn t03_group_held() {
                     table.messages = vec![invitation(1, sender, 5, held); older];
                     table.messages.push(invitation(sender, 1, call, held));
                     table.messages.extend(vec![invitation(sender, 1, 6, held); newer]);
+                    count_waiting(&mut table);
                     let expected = with_plain_reply(&table, sender, 1);
                     assert_eq!(step(&mut table, &Deliver(sender, 1)), Ok(()));
                     assert_eq!(table, expected);
@@ -377,6 +387,7 @@ fn t03_other_groups() {
             for status in [Status::Election, Status::Reorganization, Status::Normal] {
                 let mut table = member_of(held, status, Activity::Contacting);
                 table.messages = vec![invitation(sender, 1, 9, group)];
+                count_waiting(&mut table);
                 let expected = with_plain_reply(&table, sender, 1);
                 if status != Status::Normal {
                     step(&mut table, &Deliver(sender, 1)).unwrap();
@@ -392,6 +403,8 @@ fn t03_other_groups() {
                 node.last_call = 41;
                 let body = Body::Accept { group };
                 expected.messages = vec![Message { sender: 1, receiver: by, call: 41, body }];
+                *count_mut(&mut expected.traffic.delivered, sender, 1) += 1;
+                *count_mut(&mut expected.traffic.sent, 1, by) += 1;
                 step(&mut table, &Deliver(sender, 1)).unwrap();
                 assert_eq!(table, expected);
             }
@@ -406,6 +419,7 @@ fn t03_grounds_before_it() {
     let held = group_number(7, 3);
     let mut table = member_of(held, Status::Down, Activity::Idle);
     table.messages = vec![invitation(2, 1, 9, held)];
+    count_waiting(&mut table);
     refused(&table, Deliver(2, 1), 9);
     table.nodes[0].status = Status::Normal;
     table.nodes[0].coordinator = 1;
@@ -423,6 +437,7 @@ fn t03_owned_groups() {
             let mut table = recovered(4);
             (table.nodes[0].status, table.nodes[0].last_call) = (status, MAX_CALL);
             table.messages = vec![invitation(2, 1, 9, group)];
+            count_waiting(&mut table);
             let expected = with_plain_reply(&table, 2, 1);
             step(&mut table, &Deliver(2, 1)).unwrap();
             assert_eq!(table, expected);

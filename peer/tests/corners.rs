@@ -1,5 +1,6 @@
 //! The corners of T-02 are counted where the pick shows, and nowhere else, those of T-03 where an invitation
-//! comes to its receiver, and those of T-04 where the records of a recovery are asked for.
+//! comes to its receiver, those of T-04 where the records of a recovery are asked for, and those of T-05
+//! where messages are counted.
 
 mod common;
 
@@ -11,6 +12,7 @@ use peer::machine::*;
 use peer::numbers::Numbers;
 use peer::proved::{recovery_by, table_to_bytes, Library, Own, TABLE_BYTES, TOO_SHORT};
 use peer::recovery_corners::Call;
+use peer::traffic_tables::count_waiting;
 use Event::*;
 
 /// The corners that begin with these words and were met, with their counts in runs and in tables.
@@ -117,6 +119,7 @@ fn picks_in_a_table() {
     table.nodes[0].members = only(2) | only(3) | only(4);
     let body = Body::Invitation { group: group_number(2, 5) };
     table.messages.push(Message { sender: 5, receiver: 1, call: 1, body });
+    count_waiting(&mut table);
     let events = [Deliver(5, 1), Expire(1), Expire(1), Expire(1)];
     let mut corners = Corners::default();
     assert!(walk_difference(&Own, &table, &events, None, Some(&mut corners)).is_none());
@@ -188,6 +191,7 @@ fn wrong_picks_are_told() {
             call: 7,
             body: Body::Reply { yes: false },
         });
+        count_waiting(&mut table);
         let event = Deliver(4, 1);
         let remembered = Before::of(&table, &event);
         let answer = step(&mut table, &event);
@@ -288,6 +292,7 @@ fn invited_in_a_table(group: u32, change: impl Fn(&mut Table)) -> Vec<(String, u
     let body = Body::Invitation { group };
     table.messages.push(Message { sender: 2, receiver: 1, call: 1, body });
     change(&mut table);
+    count_waiting(&mut table);
     let mut corners = Corners::default();
     assert!(walk_difference(&Own, &table, &[Deliver(2, 1)], None, Some(&mut corners)).is_none());
     assert_eq!(corners.impossible(), [""; 0]);
@@ -418,6 +423,7 @@ fn wrong_answers_to_invitations_are_told() {
             call(2, 1, Body::Invitation { group }),
             call(3, 2, Body::AreYouCoordinator),
         ];
+        count_waiting(&mut table);
         let event = Deliver(2, 1);
         let remembered = Before::of(&table, &event);
         let mut after = table.clone();
@@ -442,7 +448,8 @@ fn wrong_answers_to_invitations_are_told() {
     let another = group_number(8, 3);
     assert_eq!(told(Status::Normal, another, None), [""; 0]);
     for (change, words) in elsewhere {
-        assert_eq!(told(Status::Normal, another, Some(change)), [words]);
+        let told = told(Status::Normal, another, Some(change));
+        assert!(told.iter().any(|told| told == words), "{words}: {told:?}");
     }
 }
 
@@ -723,4 +730,119 @@ fn wrong_answers_to_recoveries_are_told() {
     }
     assert_eq!(told(Status::Normal, 232, 9, 0), [AS_RECOVER]);
     assert_eq!(told(Status::Down, 232, 0, 9), [LEAVES, AS_RECOVER]);
+}
+
+/// The corners of T-05 that were met.
+fn counted_messages(corners: &Corners) -> Vec<(String, u64, u64)> {
+    met(corners, &["counts", "check, asks: "])
+}
+
+/// K10's first events: a question and its answer, and a message that is lost.
+#[test]
+fn messages_in_runs() {
+    let events =
+        [Recover(1), Recover(2), Check(2), Deliver(2, 1), Deliver(1, 2), Lose(2, 1), Crash(1)];
+    let mut corners = Corners::default();
+    assert!(run_difference(&Own, 2, &events, Some(&mut corners)).is_none());
+    assert_eq!(corners.impossible(), [""; 0]);
+    let expected = [
+        ("counts, none raised", 3),
+        ("counts, sent raised", 1),
+        ("counts, lost raised", 1),
+        ("counts, delivered raised, and sent to its sender", 2),
+    ];
+    assert_eq!(counted_messages(&corners), in_runs(&expected));
+}
+
+/// Node 2 asks node 1, with other counts.
+#[test]
+fn messages_in_tables() {
+    let met = |there: u32, back: u32, change: fn(&mut Table)| {
+        let mut table = recovered(2);
+        let Traffic { sent, lost, .. } = &mut table.traffic;
+        (sent[1][0], lost[1][0]) = (there, there);
+        (sent[0][1], lost[0][1]) = (back, back);
+        change(&mut table);
+        assert!(table.in_range());
+        let mut corners = Corners::default();
+        let found = walk_difference(&Own, &table, &[Check(2)], None, Some(&mut corners));
+        assert!(found.is_none() && corners.impossible().is_empty());
+        counted_messages(&corners).into_iter().map(|(name, ..)| name).collect::<Vec<_>>()
+    };
+    let end = MAX_COUNT;
+    assert_eq!(met(3, 0, |_| {}), ["counts, sent raised"]);
+    assert_eq!(met(end, 0, |_| {}), ["check, asks: refused 17"]);
+    let nearly = ["counts, sent raised", "counts, sent raised to its end"];
+    let one_below = "check, asks: accepted, one below the end";
+    assert_eq!(met(end - 1, 0, |_| {}), [&[one_below], &nearly[..]].concat());
+    let other = "check, asks: accepted, another pair at the end";
+    let elsewhere = ["counts, sent at its end elsewhere", "counts, lost at its end elsewhere"];
+    assert_eq!(met(3, end, |_| {}), [&[other, "counts, sent raised"], &elsewhere[..]].concat());
+    let calls = |table: &mut Table| table.nodes[1].last_call = MAX_CALL;
+    assert_eq!(met(end, 0, calls), ["check, asks: refused 13, 17 too"]);
+    assert_eq!(met(3, 0, calls), [""; 0]);
+    let full = |table: &mut Table| {
+        let body = Body::AreYouCoordinator;
+        table.messages = vec![Message { sender: 1, receiver: 2, call: 1, body }; 64];
+        table.traffic.sent[0][1] += 64;
+    };
+    assert_eq!(met(end, 0, full), ["check, asks: refused 14, 17 too"]);
+    assert_eq!(met(3, 0, full), [""; 0]);
+}
+
+/// Of the machine's own counts and answers nothing is told; of others it is.
+#[test]
+fn wrong_counts_are_told() {
+    let answer_by_grounds = "counts, another answer than by the grounds 12, 13, 14 and 17";
+    let no_message = "counts, 13, 14 or 17 where no message must be sent";
+    let not_raised = "counts, not raised by what the event sends, delivers and loses";
+    let by_refused = "counts, changed by a refused event";
+    let in_run = "counts, 17 in a run";
+    let within = "counts, 17 within the calls";
+    let no_longer = "counts, no longer within the calls";
+    let told = |source: Source, event: Event, change: &dyn Fn(&mut Table), answer: Option<u8>| {
+        let mut table = recovered(2);
+        table.nodes[1].last_call = 1;
+        table.messages =
+            vec![Message { sender: 1, receiver: 2, call: 1, body: Body::Reply { yes: true } }];
+        count_waiting(&mut table);
+        let before = Before::of(&table, &event);
+        let mut after = table.clone();
+        let right = step(&mut after, &event);
+        if answer.is_some() {
+            after = table;
+        }
+        change(&mut after);
+        let mut corners = Corners::default();
+        corners.event(source, &before, &event, answer.map_or(right, Err), &after);
+        corners.impossible()
+    };
+    let none: &dyn Fn(&mut Table) = &|_| {};
+    for event in [Check(2), Deliver(1, 2), Lose(1, 2), Timeout(2), Crash(1)] {
+        assert_eq!(told(Source::Run, event, none, None), [""; 0]);
+        let more: &dyn Fn(&mut Table) = &|table| table.traffic.delivered[0][1] += 1;
+        assert_eq!(told(Source::Run, event, more, None), [not_raised]);
+        let refused = told(Source::Table, event, more, Some(9));
+        assert!(refused.contains(&by_refused.to_string()), "{refused:?}");
+        let far: &dyn Fn(&mut Table) = &|table| table.traffic.sent[0][1] += 9;
+        assert_eq!(told(Source::Run, event, far, None), [not_raised, no_longer]);
+    }
+    for number in [12, 13, 14] {
+        let told = told(Source::Table, Check(2), none, Some(number));
+        assert!(told.contains(&answer_by_grounds.to_string()), "{told:?}");
+    }
+    let told_17 = told(Source::Table, Check(2), none, Some(17));
+    assert_eq!(told_17, [answer_by_grounds, within]);
+    let told_17 = told(Source::Run, Check(2), none, Some(17));
+    assert_eq!(told_17, [answer_by_grounds, in_run, within]);
+    let told_17 = told(Source::Table, Timeout(2), none, Some(17));
+    assert_eq!(told_17, [no_message, within]);
+    let told_17 = told(Source::Table, Lose(1, 2), none, Some(17));
+    assert_eq!(told_17, ["lose refused 17", no_message, within]);
+    // A rule of the range that is broken and not answered 1.
+    let mut corners = Corners::default();
+    corners.broken_counts(0, Err(1));
+    assert_eq!(corners.impossible(), [""; 0]);
+    corners.broken_counts(0, Ok(()));
+    assert_eq!(corners.impossible(), ["counts, a rule broken and not answered 1"]);
 }

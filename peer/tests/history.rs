@@ -1,7 +1,8 @@
-//! Random runs hold demand 3, and the check finds tables and machines that do not.
+//! Random runs hold demand 3 and what T-05 says of runs, and the check finds tables and machines that do not.
 
-use peer::history::{check_run, Checker};
+use peer::history::{beyond_calls, check_run, Checker};
 use peer::machine::*;
+use peer::traffic_tables::count_waiting;
 
 /// A plain generator of numbers, so that every run can be repeated.
 struct Numbers(u64);
@@ -164,9 +165,62 @@ fn group_before_its_time_is_found() {
     step(&mut table, &Event::Recover(1)).unwrap();
     let body = Body::Accept { group: 17 };
     table.messages.push(Message { sender: 1, receiver: 2, call: 1, body });
+    count_waiting(&mut table);
     let words = checker.check(&Event::Recover(1), &table).unwrap_err();
     assert!(words.contains("the history formed no such group"));
     step(&mut table, &Event::Recover(2)).unwrap();
     let words = checker.check(&Event::Recover(2), &table).unwrap_err();
     assert!(words.contains("an earlier table held"));
+}
+
+/// T-05: tables of a run with other counts, whose sums hold, are found, and tables whose sums do not hold.
+#[test]
+fn other_counts_are_found() {
+    let words = |change: fn(&mut Traffic)| {
+        let mut table = Table::start(2);
+        let mut checker = Checker::new(2);
+        for event in [Event::Recover(1), Event::Check(1)] {
+            step(&mut table, &event).unwrap();
+            checker.check(&event, &table).unwrap();
+        }
+        step(&mut table, &Event::Lose(1, 2)).unwrap();
+        change(&mut table.traffic);
+        checker.check(&Event::Lose(1, 2), &table).map(|_| ()).map_err(|words| words.to_string())
+    };
+    assert_eq!(words(|_| {}), Ok(()));
+    let of_events =
+        |name: &str| Err(format!("the counts of messages {name} are not those of the events"));
+    let twice = |traffic: &mut Traffic| (traffic.sent[0][1], traffic.lost[0][1]) = (2, 2);
+    assert_eq!(words(twice), of_events("sent"));
+    let delivered = |traffic: &mut Traffic| (traffic.delivered[0][1], traffic.lost[0][1]) = (1, 0);
+    assert_eq!(words(delivered), of_events("delivered"));
+    let out_of_range = Err("the table is not in range".to_string());
+    assert_eq!(words(|traffic| traffic.lost[0][1] = 0), out_of_range);
+    assert_eq!(words(|traffic| traffic.sent[0][1] = 2), out_of_range);
+}
+
+/// What is due counts: a call that waits for the one called, and an invitation that is to be replied to.
+#[test]
+fn beyond_the_calls() {
+    let mut table = Table::start(3);
+    table.nodes[0].last_call = 5;
+    table.traffic.sent[0][1] = 5;
+    assert_eq!(beyond_calls(&table), None);
+    table.traffic.sent[0][1] = 6;
+    assert_eq!(beyond_calls(&table), Some((1, 2)));
+    table.nodes[1].last_call = 1;
+    assert_eq!(beyond_calls(&table), None);
+    // A call from 2 to 1, and a reply, which is due to nobody.
+    let message = |body| Message { sender: 2, receiver: 1, call: 1, body };
+    table.messages = vec![message(Body::Reply { yes: true })];
+    assert_eq!(beyond_calls(&table), None);
+    table.messages.push(message(Body::AreYouThere { group: 16 }));
+    assert_eq!(beyond_calls(&table), Some((1, 2)));
+    table.messages.clear();
+    for (caller, beyond) in [(2, Some((1, 2))), (3, None)] {
+        table.nodes[0].activity = Activity::Accepting { caller, call: 1 };
+        assert_eq!(beyond_calls(&table), beyond);
+        table.nodes[0].activity = Activity::Forwarding { rest: 0, now: 3, caller, call: 1 };
+        assert_eq!(beyond_calls(&table), beyond);
+    }
 }

@@ -13,8 +13,9 @@ fn bytes_of(table: &Table) -> TableBytes {
 }
 
 #[test]
-fn a_table_has_1362_bytes() {
-    assert_eq!(TABLE_BYTES, 1362);
+fn a_table_has_4434_bytes() {
+    assert_eq!(TABLE_BYTES, 4434);
+    assert_eq!(COUNTS_AT, 1362);
 }
 
 /// One table byte by byte.
@@ -43,6 +44,11 @@ fn every_place_is_where_it_should_be() {
         call: 1,
         body: Body::Reply { yes: true },
     });
+    *count_mut(&mut table.traffic.sent, 1, 2) = 0x3132_3334;
+    *count_mut(&mut table.traffic.sent, 16, 16) = 0x3536_3738;
+    *count_mut(&mut table.traffic.delivered, 2, 1) = 0x4142_4344;
+    *count_mut(&mut table.traffic.lost, 1, 1) = 0x5152_5354;
+    *count_mut(&mut table.traffic.lost, 3, 16) = 0x5556_5758;
     let bytes = bytes_of(&table);
     assert_eq!(bytes[0], 3);
     assert_eq!(bytes[1..30], [0; 29]);
@@ -58,6 +64,19 @@ fn every_place_is_where_it_should_be() {
     assert_eq!(bytes[479..493], [3, 1, 6, 0, 0, 0, 1, 0, 0, 0, 0, 0, 0, 1]);
     assert_eq!(bytes[493..1361], [0; 868]);
     assert_eq!(bytes[1361], 2);
+    // Row by sender: place (a - 1) x 16 + (b - 1) of each.
+    let counts = [
+        (1362 + 4, [0x31, 0x32, 0x33, 0x34]),
+        (1362 + 4 * 255, [0x35, 0x36, 0x37, 0x38]),
+        (2386 + 4 * 16, [0x41, 0x42, 0x43, 0x44]),
+        (3410, [0x51, 0x52, 0x53, 0x54]),
+        (3410 + 4 * 47, [0x55, 0x56, 0x57, 0x58]),
+    ];
+    let mut expected = [0; 3072];
+    for (place, count) in counts {
+        expected[place - 1362..][..4].copy_from_slice(&count);
+    }
+    assert_eq!(bytes[1362..], expected);
     assert_eq!(table_from_bytes(&bytes), table);
 }
 
@@ -120,7 +139,7 @@ fn tables_come_back() {
         }
         // What is no part of the table is not read.
         let plain = bytes;
-        fill_unused(&mut bytes, || numbers.byte());
+        fill_unused(&mut bytes, &mut numbers);
         assert!(same_table(&plain, &bytes));
         assert_eq!(table_from_bytes(&bytes), same);
     }
@@ -147,7 +166,7 @@ fn what_is_part_of_a_table_is_compared() {
         };
         let part = place < 1 + 29 * n
             || (465..465 + 14 * waiting).contains(&place) && carried(place - 465)
-            || place == TABLE_BYTES - 1;
+            || place >= 1361;
         assert_eq!(same_table(&bytes, &other), !part, "{place}");
     }
 }
@@ -172,10 +191,24 @@ fn own_machine_behind_the_boundary() {
 /// "fewer bytes free than the line has": the lines before it stand, and nothing of it.
 #[test]
 fn lines_that_fit() {
-    let text = b"cabinets 1\n1 0 0 0 0 0 0\nmessages 0\n";
-    for (free, written) in
-        [(0, 0), (10, 0), (11, 11), (12, 11), (24, 11), (25, 25), (35, 25), (36, 36), (99, 36)]
-    {
+    let text = b"cabinets 1\n1 0 0 0 0 0 0\nmessages 0\nsent 0\ndelivered 0\nlost 0\n";
+    for (free, written) in [
+        (0, 0),
+        (10, 0),
+        (11, 11),
+        (12, 11),
+        (24, 11),
+        (25, 25),
+        (35, 25),
+        (36, 36),
+        (42, 36),
+        (43, 43),
+        (54, 43),
+        (55, 55),
+        (61, 55),
+        (62, 62),
+        (99, 62),
+    ] {
         assert_eq!(fitting(text, free), written, "{free}");
     }
     let mut out = [7; 30];

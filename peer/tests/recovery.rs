@@ -13,6 +13,7 @@ use peer::machine::*;
 use peer::numbers::Numbers;
 use peer::proved::*;
 use peer::tables::{in_range, to_recover};
+use peer::traffic_tables::count_waiting;
 use std::time::Duration;
 use Event::*;
 use Status::*;
@@ -176,9 +177,24 @@ fn messages_do_not_count() {
     let m = Message { sender: 2, receiver: 1, call: MAX_CALL, body };
     for waiting in [0, 1, 63, 64] {
         table.messages = vec![m; waiting];
+        count_waiting(&mut table);
         assert_eq!(recovery(&table, 1), recovery(&Table::start(2), 1));
     }
     table.messages = vec![m; 65];
+    count_waiting(&mut table);
+    refused(&table, 1, 1);
+}
+
+/// Nor do their counts, as long as they are in range.
+#[test]
+fn counts_do_not_count() {
+    let mut table = Table::start(2);
+    for lost in [1, MAX_COUNT] {
+        table.traffic.sent[0][1] = lost;
+        table.traffic.lost[0][1] = lost;
+        assert_eq!(recovery(&table, 1), recovery(&Table::start(2), 1));
+    }
+    table.traffic.sent[0][1] = MAX_COUNT - 1;
     refused(&table, 1, 1);
 }
 
@@ -206,6 +222,7 @@ fn recoveries_inside_other_events() {
                 activity,
             };
             table.messages = vec![no];
+            count_waiting(&mut table);
             let mut last = table.clone();
             last.nodes[0].counter = MAX_COUNTER;
             assert_eq!(step(&mut last, &event), Err(12));

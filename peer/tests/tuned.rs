@@ -131,6 +131,15 @@ fn every_room() {
     }
 }
 
+/// `messages` and T-05's lines, where so many deliveries are refused, no loss is, and so many messages wait.
+fn totals(events: &[Event], refused: usize, waiting: usize) -> String {
+    let count = |fits: fn(&&Event) -> bool| events.iter().filter(fits).count();
+    let delivered = count(|event| matches!(event, Event::Deliver(..))) - refused;
+    let lost = count(|event| matches!(event, Event::Lose(..)));
+    let sent = delivered + lost + waiting;
+    format!("messages {waiting}\nsent {sent}\ndelivered {delivered}\nlost {lost}\n")
+}
+
 /// T-02 of document 02, where the text shows it: nobody but the highest of a set has a message.
 #[test]
 fn higher_numbers_first() {
@@ -173,9 +182,10 @@ fn higher_numbers_first() {
     none_for_1(&mut events);
     events.extend([Deliver(4, 3), Deliver(3, 5), Deliver(5, 3), Deliver(3, 4)]);
     none_for_1(&mut events);
+    let totals = totals(&events, refused.lines().count(), 1);
     let text = format!(
         "cabinets 5\n{refused}1 3 4 35 100 1 0\n2 3 4 35 100 1 0\n3 2 5 36 100 1 0\n\
-         4 1 5 36 100 2 3\n5 1 5 36 5 2 1\nmessages 1\n"
+         4 1 5 36 100 2 3\n5 1 5 36 5 2 1\n{totals}"
     );
     let list = write_list(5, &events);
     assert_eq!(String::from_utf8(printed(&list)).unwrap(), text);
@@ -192,27 +202,31 @@ fn invited_twice_as_text() {
         assert_same(&list);
         String::from_utf8(printed(&list)).unwrap()
     };
-    let told = |nodes: &str, messages: u8| format!("cabinets 3\n{nodes}messages {messages}\n");
+    let told = |events: &[Event], words: &str, refused: usize, waiting: usize| {
+        format!("cabinets 3\n{words}{}", totals(events, refused, waiting))
+    };
     for (given_up, nodes) in [
         (false, "1 3 3 34 300 1 0\n2 1 3 34 250 2 1\n3 3 3 34 300 2 1\n"),
         (true, "1 3 3 34 300 1 0\n2 3 3 34 300 2 1\n3 3 3 34 300 2 2\n"),
     ] {
         let mut events = invited_twice(given_up);
-        assert_eq!(text(&events), told(nodes, 1));
+        assert_eq!(text(&events), told(&events, nodes, 0, 1));
         events.push(LATE);
-        assert_eq!(text(&events), told(nodes, 1));
+        assert_eq!(text(&events), told(&events, nodes, 0, 1));
         // Node 2 goes on and calls Accept, if its call is open. There is no second reply.
         events.push(Deliver(1, 2));
-        assert_eq!(text(&events), told(nodes, u8::from(!given_up)));
+        let waiting = usize::from(!given_up);
+        assert_eq!(text(&events), told(&events, nodes, 0, waiting));
         events.push(Deliver(1, 2));
         let refused = format!("refused {} 11\n", events.len());
-        assert_eq!(text(&events), told(&(refused + nodes), u8::from(!given_up)));
+        assert_eq!(text(&events), told(&events, &(refused + nodes), 1, waiting));
         // A contacting node still is one, with its call open and its answer to come.
         let mut events = invited_twice(given_up);
         events.extend([Timeout(1), LATE, Timeout(1)]);
         let refused = format!("refused {} 10\n", events.len());
-        assert_eq!(text(&events), told(&(refused.clone() + nodes), 2));
+        let words = refused + nodes;
+        assert_eq!(text(&events), told(&events, &words, 0, 2));
         events.extend([Deliver(1, 3), Deliver(3, 1), Timeout(1)]);
-        assert_eq!(text(&events), told(&(refused + nodes), 2));
+        assert_eq!(text(&events), told(&events, &words, 0, 2));
     }
 }

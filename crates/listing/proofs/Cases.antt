@@ -1,10 +1,11 @@
--- Refusal 15 on single buffers, computed over the definitions.
+-- Refusal 15 on single buffers, and totals, computed over the definitions.
 use mathlib.Core.Path.{refl}
 use Rattle.model.specs.Pick.{pick}
+use Rattle.model.specs.Counts.{total}
 use Rattle.listing.specs.Decimal.{digits, decimal}
-use Rattle.listing.specs.Lines.{row, messagesLine}
+use Rattle.listing.specs.Lines.{row, messagesLine, totalLine, totalLines}
 use Rattle.listing.specs.Printing.{printed}
-use Rattle.listing.specs.Cases.{RoomCases}
+use Rattle.listing.specs.Cases.{RoomCases, TotalCases}
 
 pub room-cases : RoomCases
 unfolding pick digits decimal row messagesLine printed
@@ -27,3 +28,7 @@ room-cases =
       second-short = refl;
       second-enough = refl;
     }
+
+pub total-cases : TotalCases
+unfolding pick digits decimal row totalLine totalLines total
+total-cases = record { none = refl; largest = refl }

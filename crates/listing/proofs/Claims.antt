@@ -4,7 +4,7 @@ use native.Mathlib.Omega.{arith}
 use mathlib.Core.Path.{_≡_, refl, sym, _∙_, ap}
 use mathlib.Core.Bool.{Bool, true, _&&_}
 use mathlib.Core.Logic.{⊎-elim}
-use mathlib.Core.List.{List, [], _∷_, _++_, append-cancel-left, head-eq-of-cons-eq, tail-eq-of-cons-eq}
+use mathlib.Core.List.{List, [], _∷_, _++_, append-assoc, append-cancel-left, head-eq-of-cons-eq, tail-eq-of-cons-eq}
 use lib.ListN.{length, getD}
 use lib.Dec.{ltb}
 use borrow.Author.Tests.{ltb-true}
@@ -14,24 +14,30 @@ use Rattle.model.specs.declared.Node.{Node}
 use Rattle.model.specs.declared.Status.{Status}
 use Rattle.model.specs.declared.Status.the-variants.{Down, Election, Reorganization, Normal}
 use Rattle.model.specs.Answers.{statusNumber}
+use Rattle.model.specs.Counts.{total}
 use Rattle.model.specs.Range.{nodeInRange}
 use Rattle.model.specs.State.{State, startingNode, nodeAt, inRange}
 use Rattle.model.proofs.Local.{both-left, both-right}
 use Rattle.model.proofs.Fields.{node-facts, in-range-size, in-range-node}
 use Rattle.listing.specs.Ascii.{bytes}
 use Rattle.listing.specs.Decimal.{decimal, valueOf}
-use Rattle.listing.specs.Lines.{row, cabinetsLine, refusedLine, stoppedLine, nodeLine, messagesLine, nodeLines, tableLines}
+use Rattle.listing.specs.Lines.{row, cabinetsLine, refusedLine, stoppedLine, nodeLine, messagesLine, sentWord, deliveredWord, lostWord, totalLine, totalLines, nodeLines, tableLines}
 use Rattle.listing.specs.Printing.{joined}
-use Rattle.listing.specs.Claims.{SameShown, SameTable, SmallNode, SmallTable, LinesDetermine, BufferKept}
+use Rattle.listing.specs.Claims.{SameShown, SameTable, SmallNode, SmallTotals, SmallTable, LinesDetermine, BufferKept, IsTotal, EndsWithTotals, TotalsDenote}
 use Rattle.listing.proofs.Decimal.{decimal-each, decimal-denotes}
 use Rattle.listing.proofs.Printing.{printed-before, printed-long}
 use Rattle.listing.proofs.Lengths.{status-small}
+use Rattle.listing.proofs.Totals.{total-fits, in-range-totals}
 use Rattle.listing.proofs.Parted.{Each, Stops, each-map, each-append, each-at, parted, Inside, IsLine, line-after, joined-same}
 
 -- ── numbers ──
 
 abbrev Small : ℕ → Type 0
-Small x = x < 2 ^ 32
+Small x = x < 2 ^ 64
+
+-- 32 bits are fewer.
+wide : {x : ℕ} → x < 2 ^ 32 → Small x
+wide h = omega arith
 
 abbrev Digit : ℕ → Type 0
 Digit b = (48 ≤ b) × (b ≤ 57)
@@ -110,6 +116,14 @@ messages-line : (k : ℕ) → IsLine (messagesLine k)
 unfolding messagesLine
 messages-line k = line-after (bytes "messages") _ (word-inside (bytes "messages") refl) (row-line (k ∷ []))
 
+total-is-line : (w : List ℕ) (x : ℕ) → above w ≡ true → IsLine (totalLine w x)
+unfolding totalLine
+total-is-line w x e = line-after w _ (word-inside w e) (row-line (x ∷ []))
+
+totals-lines : (s : State) → Each IsLine (totalLines s)
+unfolding totalLines
+totals-lines s = (total-is-line sentWord _ refl, (total-is-line deliveredWord _ refl, (total-is-line lostWord _ refl, tt)))
+
 nodes-lines : (i : ℕ) (cs : List Node) → Each IsLine (nodeLines i cs)
 unfolding nodeLines nodeLine
 nodes-lines i [] = tt
@@ -117,7 +131,7 @@ nodes-lines i (c ∷ cs) = (line-after (decimal i) _ (digits-inside i) (row-line
 
 pub table-lines : (s : State) → Each IsLine (tableLines s)
 unfolding tableLines
-table-lines s = each-append IsLine (nodeLines 1 (s .nodes)) _ (nodes-lines 1 (s .nodes)) (messages-line (length (s .queue)), tt)
+table-lines s = each-append IsLine (nodeLines 1 (s .nodes)) _ (nodes-lines 1 (s .nodes)) (messages-line (length (s .queue)), totals-lines s)
 
 -- ── a node ──
 
@@ -141,7 +155,7 @@ abbrev numbers : Node → List ℕ
 numbers c = statusNumber (c .status) ∷ c .coordinator ∷ c .group .number ∷ c .task .number ∷ c .counter ∷ count (c .members) ∷ []
 
 numbers-small : (c : Node) → SmallNode c → Each Small (numbers c)
-numbers-small c f = let s = status-small (c .status) in (omega arith, (f .coordinator, (f .group, (f .task, (f .counter, (f .members, tt))))))
+numbers-small c f = let s = status-small (c .status) in (omega arith, (wide (f .coordinator), (wide (f .group), (wide (f .task), (wide (f .counter), (wide (f .members), tt))))))
 
 numbers-same : (c d : Node) → numbers c ≡ numbers d → SameShown c d
 numbers-same c d e =
@@ -192,14 +206,15 @@ not-messages : (i : ℕ) (c : Node) (k : ℕ) → nodeLine i c ≡ messagesLine 
 unfolding messagesLine
 not-messages i c k e = let h = node-low i c in let f = ap (λ (l : List ℕ). getD l 0 0) e in omega arith
 
--- two lists of records of which their lines show the same
-record SameNodes (cs ds : List Node) (k j : ℕ) : Type 0 where
+-- two lists of records of which their lines show the same, and what comes behind them
+record SameNodes (cs ds : List Node) (k j : ℕ) (xs ys : List (List ℕ)) : Type 0 where
   pub long : length cs ≡ length ds
   pub at : (q : ℕ) → q < length cs → SameShown (getD cs q startingNode) (getD ds q startingNode)
   pub waiting : k ≡ j
+  pub behind : xs ≡ ys
 
-more : (c d : Node) (cs ds : List Node) (k j : ℕ) → SameShown c d → SameNodes cs ds k j → SameNodes (c ∷ cs) (d ∷ ds) k j
-more c d cs ds k j h r = record { long = ap suc (r .long); at = at; waiting = r .waiting }
+more : (c d : Node) (cs ds : List Node) (k j : ℕ) (xs ys : List (List ℕ)) → SameShown c d → SameNodes cs ds k j xs ys → SameNodes (c ∷ cs) (d ∷ ds) k j xs ys
+more c d cs ds k j xs ys h r = record { long = ap suc (r .long); at = at; waiting = r .waiting; behind = r .behind }
   where
     at : (q : ℕ) → q < length (c ∷ cs) → SameShown (getD (c ∷ cs) q startingNode) (getD (d ∷ ds) q startingNode)
     at zero l = h
@@ -208,32 +223,59 @@ more c d cs ds k j h r = record { long = ap suc (r .long); at = at; waiting = r 
 abbrev SmallNodes : List Node → Type 0
 SmallNodes cs = (q : ℕ) → q < length cs → SmallNode (getD cs q startingNode)
 
-module _ (k j : ℕ) (u : Small k) (v : Small j) where
-  nodes-same : (i : ℕ) (cs ds : List Node) → i + length cs ≤ 2 ^ 32 → SmallNodes cs → SmallNodes ds → nodeLines i cs ++ (messagesLine k ∷ []) ≡ nodeLines i ds ++ (messagesLine j ∷ []) → SameNodes cs ds k j
+module _ (k j : ℕ) (u : Small k) (v : Small j) (xs ys : List (List ℕ)) where
+  nodes-same : (i : ℕ) (cs ds : List Node) → i + length cs ≤ 2 ^ 32 → SmallNodes cs → SmallNodes ds → nodeLines i cs ++ (messagesLine k ∷ xs) ≡ nodeLines i ds ++ (messagesLine j ∷ ys) → SameNodes cs ds k j xs ys
   unfolding nodeLines messagesLine
-  nodes-same i [] [] a f g e = record { long = refl; at = λ q l. absurd (omega arith); waiting = one-same (bytes "messages") u v (head-eq-of-cons-eq e) }
+  nodes-same i [] [] a f g e = record { long = refl; at = λ q l. absurd (omega arith); waiting = one-same (bytes "messages") u v (head-eq-of-cons-eq e); behind = tail-eq-of-cons-eq e }
   nodes-same i [] (d ∷ ds) a f g e = absurd (not-messages i d k (sym (head-eq-of-cons-eq e)))
   nodes-same i (c ∷ cs) [] a f g e = absurd (not-messages i c j (head-eq-of-cons-eq e))
   nodes-same i (c ∷ cs) (d ∷ ds) a f g e =
-      more c d cs ds k j
+      more c d cs ds k j xs ys
       (node-same i c i d (omega arith) (f zero (omega arith)) (omega arith) (g zero (omega arith)) (head-eq-of-cons-eq e) .1)
       (nodes-same (i + 1) cs ds (omega arith) (λ q l. f (suc q) (omega arith)) (λ q l. g (suc q) (omega arith)) (tail-eq-of-cons-eq e))
 
 small-nodes : (s : State) → SmallTable s → SmallNodes (s .nodes)
 small-nodes s f q l = let z : q + 1 - 1 ≡ q = omega arith in rw z at (f .node (q + 1) (omega arith) (omega (arith, f .long)))
 
+total-same : (w : List ℕ) (x y : ℕ) → Small x → Small y → totalLine w x ≡ totalLine w y → x ≡ y
+unfolding totalLine
+total-same w x y h k e = one-same w h k e
+
+totals-same : (s t : State) → SmallTotals s → SmallTotals t → totalLines s ≡ totalLines t
+    → (total (s .sent) ≡ total (t .sent)) × (total (s .delivered) ≡ total (t .delivered)) × (total (s .lost) ≡ total (t .lost))
+unfolding totalLines
+totals-same s t f g e =
+    let e1 = tail-eq-of-cons-eq e in
+    let e2 = tail-eq-of-cons-eq e1 in
+    (total-same sentWord _ _ (f .sent) (g .sent) (head-eq-of-cons-eq e), total-same deliveredWord _ _ (f .delivered) (g .delivered) (head-eq-of-cons-eq e1), total-same lostWord _ _ (f .lost) (g .lost) (head-eq-of-cons-eq e2))
+
 pub table-same : (s t : State) → SmallTable s → SmallTable t → tableLines s ≡ tableLines t → SameTable s t
 unfolding tableLines
 table-same s t f g e =
     let r =
-    nodes-same (length (s .queue)) (length (t .queue)) (f .waiting) (g .waiting) 1 (s .nodes) (t .nodes) (omega (arith, f .long, f .n)) (small-nodes s f) (small-nodes t g) e
+    nodes-same (length (s .queue)) (length (t .queue)) (wide (f .waiting)) (wide (g .waiting)) (totalLines s) (totalLines t) 1 (s .nodes) (t .nodes) (omega (arith, f .long, f .n)) (small-nodes s f) (small-nodes t g) e
     in
-    record { n = sym (f .long) ∙ r .long ∙ g .long; node = λ i l o. r .at (i - 1) (omega (arith, f .long)); waiting = r .waiting }
+    let u = totals-same s t (f .totals) (g .totals) (r .behind) in
+    record {
+      n = sym (f .long) ∙ r .long ∙ g .long;
+      node = λ i l o. r .at (i - 1) (omega (arith, f .long));
+      waiting = r .waiting;
+      sent = u .0;
+      delivered = u .1;
+      lost = u .2;
+    }
 
 pub table-small : (s : State) → inRange s ≡ true → SmallTable s
 table-small s e =
     let a = in-range-size s e in
-    record { long = a .2; n = omega arith; node = λ i l h. node-small (s .n) i (nodeAt s i) (a .1) (in-range-node s i e l h); waiting = omega arith }
+    let b = in-range-totals s e in
+    record {
+      long = a .2;
+      n = omega arith;
+      node = λ i l h. node-small (s .n) i (nodeAt s i) (a .1) (in-range-node s i e l h);
+      waiting = omega arith;
+      totals = record { sent = omega (arith, b .0); delivered = omega (arith, b .1); lost = omega (arith, b .2) };
+    }
 
 -- ── the claims ──
 
@@ -241,21 +283,42 @@ pub lines-determine : LinesDetermine
 unfolding cabinetsLine refusedLine stoppedLine messagesLine
 lines-determine =
     record {
-      cabinets = λ n m h k. one-same (bytes "cabinets") h k;
-      refused = λ e r f q h i j k. two-same (bytes "refused") h i j k;
-      stopped = λ a r b q h i j k. two-same (bytes "stopped") h i j k;
-      messages = λ k j h i. one-same (bytes "messages") h i;
-      node = node-same;
+      cabinets = λ n m h k. one-same (bytes "cabinets") (wide h) (wide k);
+      refused = λ e r f q h i j k. two-same (bytes "refused") (wide h) (wide i) (wide j) (wide k);
+      stopped = λ a r b q h i j k. two-same (bytes "stopped") (wide h) (wide i) (wide j) (wide k);
+      messages = λ k j h i. one-same (bytes "messages") (wide h) (wide i);
+      totals = total-same;
+      node = λ i c j d h f k g. node-same i c j d (wide h) f (wide k) g;
       table = λ s t f g e. table-same s t f g (joined-same (tableLines s) (tableLines t) (table-lines s) (table-lines t) e);
       whole = whole;
       node-in-range = node-small;
       table-in-range = table-small;
     }
   where
-    whole : (n m : ℕ) (s t : State) → Small n → Small m → SmallTable s → SmallTable t → joined (cabinetsLine n ∷ tableLines s) ≡ joined (cabinetsLine m ∷ tableLines t) → (n ≡ m) × SameTable s t
+    whole : (n m : ℕ) (s t : State) → n < 2 ^ 32 → m < 2 ^ 32 → SmallTable s → SmallTable t → joined (cabinetsLine n ∷ tableLines s) ≡ joined (cabinetsLine m ∷ tableLines t) → (n ≡ m) × SameTable s t
     whole n m s t h k f g e =
         let r = joined-same (cabinetsLine n ∷ tableLines s) (cabinetsLine m ∷ tableLines t) (cabinets-line n, table-lines s) (cabinets-line m, table-lines t) e in
-        (one-same (bytes "cabinets") h k (head-eq-of-cons-eq r), table-same s t f g (tail-eq-of-cons-eq r))
+        (one-same (bytes "cabinets") (wide h) (wide k) (head-eq-of-cons-eq r), table-same s t f g (tail-eq-of-cons-eq r))
 
 pub buffer-kept : BufferKept
 buffer-kept = record { before = printed-before; long = printed-long }
+
+is-total : (w : List ℕ) (x : ℕ) → Small x → IsTotal w x (totalLine w x)
+unfolding totalLine row
+is-total w x h = record { number = decimal x; denotes = decimal-denotes x h; whole = refl }
+
+ends-with-totals : (s : State) → SmallTotals s → EndsWithTotals s
+unfolding tableLines totalLines
+ends-with-totals s f =
+    record {
+      sent = totalLine sentWord (total (s .sent));
+      delivered = totalLine deliveredWord (total (s .delivered));
+      lost = totalLine lostWord (total (s .lost));
+      ends = sym (append-assoc (nodeLines 1 (s .nodes)) (messagesLine (length (s .queue)) ∷ []) (totalLines s));
+      is-sent = is-total sentWord (total (s .sent)) (f .sent);
+      is-delivered = is-total deliveredWord (total (s .delivered)) (f .delivered);
+      is-lost = is-total lostWord (total (s .lost)) (f .lost);
+    }
+
+pub totals-denote : TotalsDenote
+totals-denote = record { ends = ends-with-totals; small = total-fits }

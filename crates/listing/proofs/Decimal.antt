@@ -2,11 +2,11 @@
 use Prim.Native.Nat.{ℕ, zero, suc, _+_, _-_, _*_, _/_, _%_, _^_, _≤_, _<_}
 use native.Mathlib.Nat.{pow-suc, one-le-pow}
 use native.Mathlib.Omega.{arith}
-use mathlib.Core.Path.{_≡_, refl, _∙_}
+use mathlib.Core.Path.{_≡_, refl, _∙_, ap}
 use mathlib.Core.List.{List, [], _∷_, _++_}
 use lib.ListN.{length, getD, length-append}
 use lib.Dec.{ltb}
-use borrow.Author.Tests.{ltb-true, ltb-false, lt-ltb}
+use borrow.Author.Tests.{ltb-true, ltb-false, lt-ltb, le-ltb}
 use Rattle.model.specs.Pick.{pick, by-test}
 use Rattle.listing.specs.Decimal.{digits, decimal, valueFrom, valueOf}
 use Rattle.listing.specs.Claims.{DecimalDenotes}
@@ -68,7 +68,7 @@ digits-short (suc p) (suc k) x h =
 pub decimal-short : (k : ℕ) {x : ℕ} → 1 ≤ k → x < 10 ^ k → length (decimal x) ≤ k
 unfolding decimal
 decimal-short zero o h = let v : ⊥ = omega arith in absurd v
-decimal-short (suc k) {x} o h = digits-short 10 k x h
+decimal-short (suc k) {x} o h = digits-short 20 k x h
 
 -- From 10 ^ k on more than k digits.
 digits-many : (p k x : ℕ) → 10 ^ k ≤ x → suc k ≤ p → suc k ≤ length (digits p x)
@@ -89,8 +89,8 @@ decimal-one x h = (rw (lt-ltb x 10 h), omega arith)
 pub decimal-count : (k x : ℕ) → k ≤ 9 → 10 ^ k ≤ x → x < 10 ^ suc k → (suc k ≡ length (decimal x)) × (suc k ≤ 10)
 unfolding decimal
 decimal-count k x q h i =
-    let a = digits-many 10 k x h (omega arith) in
-    let b = digits-short 10 k x i in
+    let a = digits-many 20 k x h (omega arith) in
+    let b = digits-short 20 k x i in
     (omega arith, omega arith)
 
 digits-long : (p x : ℕ) → length (digits p x) ≤ p
@@ -98,24 +98,51 @@ unfolding digits
 digits-long zero x = omega arith
 digits-long (suc p) x = simp length-append (by-test (λ (l : List ℕ). length l + 1 ≤ suc p) (λ t. omega arith) (λ t. let i = digits-long p (x / 10) in omega arith))
 
-pub decimal-long : (x : ℕ) → length (decimal x) ≤ 10
+pub decimal-long : (x : ℕ) → length (decimal x) ≤ 20
 unfolding decimal
-decimal-long x = digits-long 10 x
+decimal-long x = digits-long 20 x
+
+-- A number of 32 bits has at most ten.
+pub decimal-32-long : (x : ℕ) → x < 2 ^ 32 → length (decimal x) ≤ 10
+decimal-32-long x h = decimal-short 10 {x = x} (omega arith) (omega arith)
+
+digits-some : (p x : ℕ) → 1 ≤ length (digits (suc p) x)
+unfolding digits
+digits-some p x = simp length-append (omega arith)
+
+-- The digits of x / 10, and then the last.
+digits-last : (p x : ℕ) → 10 ≤ x → digits (suc p) x ≡ digits p (x / 10) ++ ((48 + x % 10) ∷ [])
+unfolding digits pick
+digits-last p x h = rw (le-ltb x 10 h)
+
+-- A place more than x has digits changes nothing.
+digits-enough : (p x : ℕ) → x < 10 ^ suc p → digits (suc (suc p)) x ≡ digits (suc p) x
+unfolding digits pick
+digits-enough zero x h = let b : x < 10 = omega arith in rw (lt-ltb x 10 b)
+digits-enough (suc p) x h = ap (λ (l : List ℕ). pick (ltb x 10) [] l ++ ((48 + x % 10) ∷ [])) (digits-enough p (x / 10) (tenth (suc p) h))
+
+pub decimal-more : (x : ℕ) → 10 ≤ x → x < 2 ^ 64 → length (decimal x) ≡ length (decimal (x / 10)) + 1
+unfolding decimal
+decimal-more x h b = rw (digits-last 19 x h, digits-enough 18 (x / 10) (omega arith)) (length-append (digits 19 (x / 10)) ((48 + x % 10) ∷ []))
 
 pub decimal-each : (x k : ℕ) → k < length (decimal x) → (48 ≤ getD (decimal x) k 0) × (getD (decimal x) k 0 ≤ 57)
 unfolding decimal
-decimal-each x = digits-each 10 x
+decimal-each x = digits-each 20 x
+
+decimal-zero : decimal 0 ≡ 48 ∷ []
+unfolding decimal digits pick
+decimal-zero = refl
 
 pub decimal-denotes : DecimalDenotes
-unfolding decimal digits pick
+unfolding decimal
 decimal-denotes x h =
-    let b : x < 10 ^ 10 = omega arith in
+    let b : x < 10 ^ 20 = omega arith in
     record {
-      value = digits-value 10 x b;
-      some = simp length-append (omega arith);
-      each = digits-each 10 x;
-      first = λ e. first-zero x e (λ o. digits-first 10 x o b);
-      alone = λ e. rw e;
+      value = digits-value 20 x b;
+      some = digits-some 19 x;
+      each = digits-each 20 x;
+      first = λ e. first-zero x e (λ o. digits-first 20 x o b);
+      alone = λ e. rw e decimal-zero;
     }
   where
     first-zero : (x : ℕ) {d : ℕ} → d ≡ 48 → (1 ≤ x → 49 ≤ d) → x ≡ 0

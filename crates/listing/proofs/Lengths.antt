@@ -12,14 +12,16 @@ use Rattle.model.specs.declared.Node.{Node}
 use Rattle.model.specs.declared.Status.{Status}
 use Rattle.model.specs.declared.Status.the-variants.{Down, Election, Reorganization, Normal}
 use Rattle.model.specs.Answers.{statusNumber}
+use Rattle.model.specs.Counts.{total}
 use Rattle.model.specs.Range.{nodeInRange}
 use Rattle.model.specs.State.{State, every, inRange}
 use Rattle.model.proofs.Local.{both-left, both-right}
 use Rattle.model.proofs.Fields.{NodeFacts, node-facts, in-range-size, in-range-nodes}
 use Rattle.listing.specs.Ascii.{bytes}
-use Rattle.listing.specs.Lines.{row, cabinetsLine, refusedLine, stoppedLine, nodeLine, messagesLine, nodeLines, tableLines}
+use Rattle.listing.specs.Lines.{row, cabinetsLine, refusedLine, stoppedLine, nodeLine, messagesLine, sentWord, deliveredWord, lostWord, totalLine, totalLines, nodeLines, tableLines}
 use Rattle.listing.specs.Printing.{joined}
 use Rattle.listing.proofs.Decimal.{decimal-short}
+use Rattle.listing.proofs.Totals.{in-range-totals}
 
 -- One number more, of at most k digits.
 row-more : (k : ℕ) {x m : ℕ} (xs : List ℕ) → 1 ≤ k → x < 10 ^ k → length (row xs) ≤ m → length (row (x ∷ xs)) ≤ 1 + k + m
@@ -44,6 +46,11 @@ cabinets-long n h = one-long (bytes "cabinets") 2 (omega arith) (omega arith)
 pub messages-long : (k : ℕ) → k ≤ 64 → length (messagesLine k) ≤ 12
 unfolding messagesLine
 messages-long k h = one-long (bytes "messages") 2 (omega arith) (omega arith)
+
+-- A total of at most k digits.
+pub total-long : (w : List ℕ) (k : ℕ) {x : ℕ} → 1 ≤ k → x < 10 ^ k → length (totalLine w x) ≤ length w + k + 2
+unfolding totalLine
+total-long w k o h = one-long w k o h
 
 pub refused-long : (e r : ℕ) → e ≤ 65536 → r ≤ 22 → length (refusedLine e r) ≤ 17
 unfolding refusedLine
@@ -85,6 +92,15 @@ pub joined-one : (x : List ℕ) → length (joined (x ∷ [])) ≡ length x
 unfolding joined
 joined-one x = simp length-append (omega arith)
 
+-- The three totals, of at most k digits each.
+pub totals-long : (s : State) (k : ℕ) → 1 ≤ k → total (s .sent) < 10 ^ k → total (s .delivered) < 10 ^ k → total (s .lost) < 10 ^ k → length (joined (totalLines s)) ≤ 23 + 3 * k
+unfolding totalLines joined
+totals-long s k o h i j =
+    let a = total-long sentWord k o h in
+    let b = total-long deliveredWord k o i in
+    let c = total-long lostWord k o j in
+    simp length-append (omega arith)
+
 -- A table in range.
 node-in-range-long : (n i : ℕ) (c : Node) → n ≤ 16 → i ≤ n → NodeFacts n i c → length (nodeLine i c) ≤ 34
 node-in-range-long n i c h k f =
@@ -100,10 +116,13 @@ nodes-in-range-long n i (c ∷ cs) h k g =
     let r = nodes-in-range-long n (i + 1) cs h (omega arith) (both-right (nodeInRange n i c) _ g) in
     simp length-append (omega arith)
 
-pub table-long : (s : State) → inRange s ≡ true → length (joined (tableLines s)) ≤ 34 * s .n + 12
+-- `sent`, `delivered` and `lost` with ten digits have 16, 21 and 16 bytes.
+pub table-long : (s : State) → inRange s ≡ true → length (joined (tableLines s)) ≤ 34 * s .n + 12 + 53
 unfolding tableLines
 table-long s g =
     let f = in-range-size s g in
     let q = messages-long (length (s .queue)) (f .3) in
     let r = nodes-in-range-long (s .n) 1 (s .nodes) (f .1) (omega arith) (in-range-nodes s g) in
-    rw (joined-append (nodeLines 1 (s .nodes)) (messagesLine (length (s .queue)) ∷ []), joined-one (messagesLine (length (s .queue)))) (omega arith)
+    let u = in-range-totals s g in
+    let t = totals-long s 10 (omega arith) (u .0) (u .1) (u .2) in
+    rw (joined-append (nodeLines 1 (s .nodes)) (messagesLine (length (s .queue)) ∷ totalLines s), joined-append (messagesLine (length (s .queue)) ∷ []) (totalLines s), joined-one (messagesLine (length (s .queue)))) (omega arith)

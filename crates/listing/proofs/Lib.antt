@@ -1,9 +1,10 @@
 pub mod Decimal
 pub mod Printing
 pub mod Appended
+pub mod Parted
+pub mod Totals
 pub mod Lengths
 pub mod Making
 pub mod Table
-pub mod Parted
 pub mod Claims
 pub mod Cases

@@ -56,7 +56,7 @@ padded-digits (suc p) x =
 -- As many digits as x has are its decimal.
 pub padded-decimal : (k x : ℕ) → k ≡ length (decimal x) → padded k x ≡ decimal x
 unfolding decimal
-padded-decimal k x e = rw e (padded-digits 10 x)
+padded-decimal k x e = rw e (padded-digits 20 x)
 
 -- ── pieces of a line, written over a buffer one after the other ──
 

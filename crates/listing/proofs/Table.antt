@@ -15,7 +15,7 @@ use Rattle.model.proofs.Table as table
 use Rattle.model.specs.State.{State, startingNode, noMessage, firstOf, view}
 use Rattle.listing.specs.declared.Put.{Put}
 use Rattle.listing.specs.declared.Put.the-variants.{Next, NoRoom}
-use Rattle.listing.specs.Lines.{nodeLine, nodeLines, messagesLine, tableLines}
+use Rattle.listing.specs.Lines.{nodeLine, nodeLines, messagesLine, totalLine, totalLines, tableLines}
 use Rattle.listing.specs.Printing.{shown, printed}
 use Rattle.listing.proofs.Printing.{then-next, then-refused}
 
@@ -39,7 +39,7 @@ first-at (suc k) d (x ∷ l) (suc j) h = first-at k d l j (omega arith)
 
 -- the lines that are left when those of i nodes are printed
 abbrev pub left : State → ℕ → List (List ℕ)
-left s i = nodeLines (i + 1) (drop i (s .nodes)) ++ (messagesLine (length (s .queue)) ∷ [])
+left s i = nodeLines (i + 1) (drop i (s .nodes)) ++ (messagesLine (length (s .queue)) ∷ totalLines s)
 
 pub left-first : (s : State) → left s 0 ≡ tableLines s
 unfolding tableLines
@@ -48,13 +48,6 @@ left-first s = refl
 left-turn : (s : State) (i : ℕ) → i < length (s .nodes) → left s i ≡ nodeLine (i + 1) (getD (s .nodes) i startingNode) ∷ left s (i + 1)
 unfolding nodeLines
 left-turn s i h = rw (drop-cons (s .nodes) i startingNode h, add-one i)
-
--- When all nodes are printed.
-pub left-end : (t : Table) (i : ℕ) → t .n ≤ i → left (view t) i ≡ messagesLine (t .waiting) ∷ []
-unfolding nodeLines
-left-end t i h =
-    let e : length (view t .nodes) ≤ i = rw (first-long (t .n) startingNode (t .nodes)) h in
-    rw (drop-of-length-le (view t .nodes) e, first-long (t .waiting) noMessage (t .messages))
 
 -- A turn: the line of the next node was written, or refused.
 module _ (t : Table) (i : ℕ) (h : i < t .n) (c : Node) (f : c ≡ getD (t .nodes) i startingNode) (b o : List ℕ) (p : ℕ) (a : Put) (w : shown a o ≡ printed b p (nodeLine (i + 1) c ∷ [])) where
@@ -68,3 +61,26 @@ module _ (t : Table) (i : ℕ) (h : i < t .n) (c : Node) (f : c ≡ getD (t .nod
 
   pub turn-refused : a ≡ NoRoom → printed b p (left (view t) i) ≡ shown NoRoom o
   turn-refused g = rw turn (then-refused b o p a (nodeLine (i + 1) c ∷ []) (left (view t) (i + 1)) w g)
+
+-- When all nodes are printed.
+left-end : (t : Table) (i : ℕ) → t .n ≤ i → left (view t) i ≡ messagesLine (t .waiting) ∷ totalLines (view t)
+unfolding nodeLines
+left-end t i h =
+    let e : length (view t .nodes) ≤ i = rw (first-long (t .n) startingNode (t .nodes)) h in
+    rw (drop-of-length-le (view t .nodes) e, first-long (t .waiting) noMessage (t .messages))
+
+-- Then `messages` was written, or refused.
+module _ (t : Table) (i : ℕ) (h : t .n ≤ i) (b o : List ℕ) (p : ℕ) (a : Put) (w : shown a o ≡ printed b p (messagesLine (t .waiting) ∷ [])) where
+  pub end-next : (q : ℕ) → a ≡ Next q → printed b p (left (view t) i) ≡ printed o q (totalLines (view t))
+  end-next q g = rw (left-end t i h) (then-next b o p q a (messagesLine (t .waiting) ∷ []) (totalLines (view t)) w g)
+
+  pub end-refused : a ≡ NoRoom → printed b p (left (view t) i) ≡ shown NoRoom o
+  end-refused g = rw (left-end t i h) (then-refused b o p a (messagesLine (t .waiting) ∷ []) (totalLines (view t)) w g)
+
+-- The line of a total was written, or refused; other lines come behind it.
+module _ (w : List ℕ) (x y : ℕ) (f : x ≡ y) (b o : List ℕ) (p : ℕ) (a : Put) (e : shown a o ≡ printed b p (totalLine w x ∷ [])) (ys : List (List ℕ)) where
+  pub total-next : (q : ℕ) → a ≡ Next q → printed b p (totalLine w y ∷ ys) ≡ printed o q ys
+  total-next q g = rw (← f) (then-next b o p q a (totalLine w x ∷ []) ys e g)
+
+  pub total-refused : a ≡ NoRoom → printed b p (totalLine w y ∷ ys) ≡ shown NoRoom o
+  total-refused g = rw (← f) (then-refused b o p a (totalLine w x ∷ []) ys e g)

@@ -1,10 +1,14 @@
--- 15, "fewer bytes free than the line has, or offset past the end", on single buffers: on each side of the end, with the bytes that the buffer then holds.
+-- 15, "fewer bytes free than the line has, or offset past the end", on single buffers: on each side of the end, with the bytes that the buffer then holds. And T-05's totals:
+-- the smallest and the largest.
 use mathlib.Core.Bool.{true, false}
 use mathlib.Core.Path.{_≡_}
 use mathlib.Core.List.{List, [], _∷_, _++_}
 use Prim.Native.Nat.{ℕ}
+use lib.ListN.{replicate}
+use Rattle.model.specs.Counts.{total}
+use Rattle.model.specs.State.{start}
 use Rattle.listing.specs.Ascii.{bytes}
-use Rattle.listing.specs.Lines.{messagesLine}
+use Rattle.listing.specs.Lines.{messagesLine, deliveredWord, totalLine, totalLines}
 use Rattle.listing.specs.Printing.{putNumber, shown, room, printed}
 use Rattle.listing.specs.declared.Put.the-variants.{Next, NoRoom}
 
@@ -35,3 +39,8 @@ pub record RoomCases : Type 0 where
   -- of two lines the second is one byte short: the first stays, and the bytes behind it are as they were
   pub second-short : printed (bytes ".....................") 0 (line ∷ line ∷ []) ≡ shown NoRoom (line ++ bytes "..........")
   pub second-enough : printed (bytes "......................") 0 (line ∷ line ∷ []) ≡ shown (Next 22) (line ++ line)
+
+pub record TotalCases : Type 0 where
+  pub none : totalLines (start 16) ≡ bytes "sent 0\n" ∷ bytes "delivered 0\n" ∷ bytes "lost 0\n" ∷ []
+  -- 256 counts of 2^32 - 1: more than 32 bits
+  pub largest : totalLine deliveredWord (total (replicate 256 4294967295)) ≡ bytes "delivered 1099511627520\n"

@@ -11,9 +11,9 @@ unfoldable pub digits : ℕ → ℕ → List ℕ
 digits zero x = []
 digits (suc p) x = pick (ltb x 10) [] (digits p (x / 10)) ++ ((48 + x % 10) ∷ [])
 
--- x in decimal; ten digits are enough for 32 bits
+-- x in decimal; twenty digits are enough for 64 bits
 unfoldable pub decimal : ℕ → List ℕ
-decimal x = digits 10 x
+decimal x = digits 20 x
 
 -- the number that digits give when they stand after those of v
 unfoldable pub valueFrom : ℕ → List ℕ → ℕ

@@ -5,6 +5,7 @@ use lib.ListN.{length}
 use Rattle.node_set.specs.NodeSet.{count}
 use Rattle.model.specs.declared.Node.{Node}
 use Rattle.model.specs.Answers.{statusNumber}
+use Rattle.model.specs.Counts.{total}
 use Rattle.model.specs.State.{State}
 use Rattle.listing.specs.Ascii.{bytes}
 use Rattle.listing.specs.Decimal.{decimal}
@@ -34,11 +35,29 @@ nodeLine i c = decimal i ++ row (statusNumber (c .status) ∷ c .coordinator ∷
 unfoldable pub messagesLine : ℕ → List ℕ
 messagesLine k = bytes "messages" ++ row (k ∷ [])
 
+-- T-05: "three more lines, `sent`, `delivered` and `lost`, each with its total": their words
+abbrev pub sentWord : List ℕ
+sentWord = bytes "sent"
+
+abbrev pub deliveredWord : List ℕ
+deliveredWord = bytes "delivered"
+
+abbrev pub lostWord : List ℕ
+lostWord = bytes "lost"
+
+-- such a line: the word and the total x
+unfoldable pub totalLine : List ℕ → ℕ → List ℕ
+totalLine word x = word ++ row (x ∷ [])
+
+-- "The totals equal the sums of the records."
+unfoldable pub totalLines : State → List (List ℕ)
+totalLines s = totalLine sentWord (total (s .sent)) ∷ totalLine deliveredWord (total (s .delivered)) ∷ totalLine lostWord (total (s .lost)) ∷ []
+
 -- the lines of nodes, the first of which is node i
 unfoldable pub nodeLines : ℕ → List Node → List (List ℕ)
 nodeLines i [] = []
 nodeLines i (c ∷ cs) = nodeLine i c ∷ nodeLines (i + 1) cs
 
--- "then a line per cabinet ..; last `messages` and how many wait"
+-- "then a line per cabinet ..; last `messages` and how many wait"; T-05: "The listing ends with three more lines"
 unfoldable pub tableLines : State → List (List ℕ)
-tableLines s = nodeLines 1 (s .nodes) ++ (messagesLine (length (s .queue)) ∷ [])
+tableLines s = nodeLines 1 (s .nodes) ++ (messagesLine (length (s .queue)) ∷ totalLines s)

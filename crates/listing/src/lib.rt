@@ -12,9 +12,10 @@ ghost use mathlib.Core.List.{[], _∷_, _++_};
 ghost use Prim.Native.Nat.{_+_, _%_, _≤_};
 ghost use lib.ListN.{length, drop, getD};
 ghost use Rattle.model.specs.Answers.{statusNumber};
+ghost use Rattle.model.specs.Counts as counts;
 ghost use Rattle.model.specs.State.{startingNode, view};
 ghost use Rattle.listing.specs.Decimal.{decimal};
-ghost use Rattle.listing.specs.Lines.{row, cabinetsLine, refusedLine, stoppedLine, nodeLine, messagesLine, tableLines};
+ghost use Rattle.listing.specs.Lines.{row, cabinetsLine, refusedLine, stoppedLine, nodeLine, messagesLine, sentWord, deliveredWord, lostWord, totalLine, totalLines, tableLines};
 ghost use Rattle.listing.specs.Printing.{shown, written, printed, Appended};
 ghost use Rattle.listing.specs.Parts.{padded};
 
@@ -78,6 +79,39 @@ fn digits_into(d: &mut [u8], x: u32)
     }
 }
 
+// The last digit of x, which has 64 bits, as totals do. The lines of refused events, which can be many, keep to 32 bits.
+fn wide_digit(x: u64) -> u8
+    ensures { λ r. ⌜ r ≡ 48 + x % 10 ⌝ }
+{
+    (48 + x % 10) as u8
+}
+
+// How many digits x has, of 64 bits.
+fn wide_digit_count(x: u64) -> usize
+    ensures { λ r. ⌜ (r ≡ length (decimal x)) × (r ≤ 20) ⌝ }
+{
+    let mut k: usize = 1;
+    let mut y = x;
+    while 10 <= y {
+        y = y / 10;
+        k += 1;
+    }
+    k
+}
+
+// The last digits of x, of 64 bits, as many as d has places.
+fn wide_digits_into(d: &mut [u8], x: u64)
+    ensures { λ _. ⌜ now (d .exit) ≡ padded (length (now (d .entry))) x ⌝ }
+{
+    let mut p = d.len();
+    let mut y = x;
+    while 0 < p {
+        p -= 1;
+        d[p] = wide_digit(y);
+        y = y / 10;
+    }
+}
+
 // s over the start of out.
 fn copy_in(out: &mut [u8], s: &[u8])
     requires { ⌜ length (now s) ≤ length (now out) ⌝ }
@@ -97,6 +131,15 @@ fn number_at(free: &mut [u8], p: usize, k: usize, x: u32)
 {
     let e = p + k;
     digits_into(&mut free[p..e], x);
+}
+
+// The last k digits of x, of 64 bits, from p on.
+fn wide_number_at(free: &mut [u8], p: usize, k: usize, x: u64)
+    requires { ⌜ (p + k ≤ length (now free)) × (k ≤ 20) ⌝ }
+    ensures { λ _. ⌜ (now (free .exit) ≡ written (now (free .entry)) p (padded k x)) × (length (now (free .exit)) ≡ length (now (free .entry))) ⌝ }
+{
+    let e = p + k;
+    wide_digits_into(&mut free[p..e], x);
 }
 
 // A space from p on, and the last k digits of x behind it.
@@ -128,22 +171,22 @@ pub fn put_field(out: &mut [u8], at: usize, x: u32) -> usize
 }
 
 // The line of a word, which has its space behind it, and a number, at the start of free, which is the free end of a buffer.
-fn write_one(free: &mut [u8], w: &[u8; 9], x: u32) -> Put
+fn write_one(free: &mut [u8], w: &[u8], x: u64) -> Put
     ensures { λ r. ⌜ shown r (now (free .exit)) ≡ printed (now (free .entry)) 0 ((now (w .entry) ++ (decimal x ++ row [])) ∷ []) ⌝ }
 {
-    let word: &[u8] = w;
-    let a = digit_count(x);
-    let e = 9 + a;
+    let p = w.len();
+    let a = wide_digit_count(x);
+    let e = p + a;
     if free.len() <= e {
         return Put::NoRoom;
     }
-    copy_in(free, word);
-    number_at(free, 9, a, x);
+    copy_in(free, w);
+    wide_number_at(free, p, a, x);
     free[e] = b'\n';
     Put::Next(e + 1)
 }
 
-// The same with two numbers.
+// The line of a word, which has its space behind it, and two numbers, at the start of free.
 fn write_two(free: &mut [u8], w: &[u8; 8], x: u32, y: u32) -> Put
     ensures { λ r. ⌜ shown r (now (free .exit)) ≡ printed (now (free .entry)) 0 ((now (w .entry) ++ (decimal x ++ row (y ∷ []))) ∷ []) ⌝ }
 {
@@ -163,7 +206,7 @@ fn write_two(free: &mut [u8], w: &[u8; 8], x: u32, y: u32) -> Put
 }
 
 // The line of a word and a number into buf from at on.
-fn put_one(buf: &mut [u8], at: usize, w: &[u8; 9], x: u32) -> Put
+fn put_one(buf: &mut [u8], at: usize, w: &[u8], x: u64) -> Put
     ensures { λ r. ⌜ shown r (now (buf .exit)) ≡ printed (now (buf .entry)) at ((now (w .entry) ++ (decimal x ++ row [])) ∷ []) ⌝ }
 {
     if buf.len() < at {
@@ -192,7 +235,7 @@ fn put_two(buf: &mut [u8], at: usize, w: &[u8; 8], x: u32, y: u32) -> Put
 pub fn put_cabinets(out: &mut [u8], at: usize, n: u8) -> Put
     ensures { λ r. ⌜ shown r (now (out .exit)) ≡ printed (now (out .entry)) at (cabinetsLine n ∷ []) ⌝ }
 {
-    put_one(out, at, b"cabinets ", n as u32)
+    put_one(out, at, b"cabinets ", n as u64)
 }
 
 // Event e was refused by r.
@@ -213,7 +256,58 @@ pub fn put_stopped(out: &mut [u8], at: usize, b: u32, r: u8) -> Put
 pub fn put_messages(out: &mut [u8], at: usize, k: u32) -> Put
     ensures { λ r. ⌜ shown r (now (out .exit)) ≡ printed (now (out .entry)) at (messagesLine k ∷ []) ⌝ }
 {
-    put_one(out, at, b"messages ", k)
+    put_one(out, at, b"messages ", k as u64)
+}
+
+// The total of what was sent.
+fn put_sent(out: &mut [u8], at: usize, x: u64) -> Put
+    ensures { λ r. ⌜ shown r (now (out .exit)) ≡ printed (now (out .entry)) at (totalLine sentWord x ∷ []) ⌝ }
+{
+    put_one(out, at, b"sent ", x)
+}
+
+// The total of what was delivered.
+fn put_delivered(out: &mut [u8], at: usize, x: u64) -> Put
+    ensures { λ r. ⌜ shown r (now (out .exit)) ≡ printed (now (out .entry)) at (totalLine deliveredWord x ∷ []) ⌝ }
+{
+    put_one(out, at, b"delivered ", x)
+}
+
+// The total of what was lost.
+fn put_lost(out: &mut [u8], at: usize, x: u64) -> Put
+    ensures { λ r. ⌜ shown r (now (out .exit)) ≡ printed (now (out .entry)) at (totalLine lostWord x ∷ []) ⌝ }
+{
+    put_one(out, at, b"lost ", x)
+}
+
+// T-05: "The totals equal the sums of the records."
+pub fn total(l: &[u32; 256]) -> u64
+    ensures { λ r. ⌜ r ≡ counts.total (now (l .entry)) ⌝ }
+{
+    let all: &[u32] = l;
+    let mut s: u64 = 0;
+    let mut i: usize = 0;
+    while i < 256 {
+        s += all[i] as u64;
+        i += 1;
+    }
+    s
+}
+
+// The three totals of a table.
+fn put_totals(out: &mut [u8], at: usize, t: Table) -> Put
+    ensures { λ r. ⌜ shown r (now (out .exit)) ≡ printed (now (out .entry)) at (totalLines (view t)) ⌝ }
+{
+    let sent = t.sent;
+    let delivered = t.delivered;
+    let lost = t.lost;
+    match put_sent(out, at, total(&sent)) {
+        Put::NoRoom => Put::NoRoom,
+        Put::Next(p) => match put_delivered(out, p, total(&delivered)) {
+            Put::NoRoom => Put::NoRoom,
+            Put::Next(q) => put_lost(out, q, total(&lost)),
+        },
+    }
 }
 
 // The status as it is printed.
@@ -328,7 +422,7 @@ fn node_at(t: Table, k: usize) -> Node
     t.nodes[k]
 }
 
-// A line for each node, and how many messages wait.
+// A line for each node, how many messages wait, and the totals.
 pub fn put_table(out: &mut [u8], at: usize, t: Table) -> Put
     ensures { λ r. ⌜ shown r (now (out .exit)) ≡ printed (now (out .entry)) at (tableLines (view t)) ⌝ }
 {
@@ -345,5 +439,8 @@ pub fn put_table(out: &mut [u8], at: usize, t: Table) -> Put
             }
         }
     }
-    put_messages(out, p, t.waiting as u32)
+    match put_messages(out, p, t.waiting as u32) {
+        Put::NoRoom => Put::NoRoom,
+        Put::Next(q) => put_totals(out, q, t),
+    }
 }

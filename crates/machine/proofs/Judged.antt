@@ -3,12 +3,17 @@ use Prim.Native.Nat.{ℕ, zero, suc, _+_, _-_, _%_, _≤_, _<_}
 use native.Mathlib.Omega.{arith}
 use mathlib.Core.Path.{_≡_, refl, sym, _∙_, ap}
 use mathlib.Core.List.{List, [], _∷_, _++_}
-use mathlib.Core.Bool.{Bool, true, false, not, true≢false}
-use borrow.Author.Tests.{not-true, not-false}
-use lib.Dec.{ltb}
+use mathlib.Core.Bool.{Bool, true, false, not, _&&_, true≢false}
+use borrow.Author.Tests.{not-true, not-false, ne-eqb}
+use lib.Dec.{eqb, ltb}
 use lib.ListN.{length, getD}
 use Rattle.model.specs.State.{startingNode, nodeAt, noMessage, inRange, view}
-use Rattle.model.specs.Step.{actor, reactionTo, Ground}
+use Rattle.model.specs.Limits.{trafficEnd}
+use Rattle.model.specs.Pick.{pick, pick-true, pick-false}
+use Rattle.model.specs.Step.{actor, reactionTo, isSending, pairAtEnd, effect, Ground, accepted, step}
+use Rattle.model.proofs.Judged.{Clear}
+use Rattle.model.proofs.Range.{OutgoingIn}
+use Rattle.model.proofs.InRange.{event-in}
 use Rattle.model.specs.React.{react}
 use Rattle.model.specs.Procedures.{stays}
 use Rattle.model.specs.Answers.{answerNumber}
@@ -22,11 +27,11 @@ use Rattle.model.specs.declared.Event.{Event}
 use Rattle.model.specs.declared.Event.the-variants.{Crash, Recover, Check, Timeout, Tick, Expire, Finish, Deliver, Lose}
 use Rattle.node_step.specs.Fits.{FitsInput}
 use Rattle.machine.specs.declared.Verdict.{Verdict}
-use Rattle.machine.specs.Parts.{placeFor, stored, Left, Room, first, numberGrounds, stateGrounds, endGrounds, isAccepted, reactsTo, inputOf, loses, FitsMessage, leftOf, allGrounds, Judging, Judged}
+use Rattle.machine.specs.Parts.{placeFor, sentPlace, withLast, stored, Left, Room, first, numberGrounds, stateGrounds, endGrounds, isAccepted, reactsTo, inputOf, loses, FitsMessage, leftOf, allGrounds, Judging, Judged}
 use Rattle.machine.specs.Stepped.{Stepped}
 use Rattle.machine.proofs.Laws.{Sized}
-use Rattle.machine.proofs.Parts.{Numbered, first-clear, first-met, accepted-zero, refused-some, numbers-refuse, state-refuses, ends-refuse, all-clear}
-use Rattle.machine.proofs.Places.{small, actor-is, node-read, node-fits, found-is, reaction-is, message-ok, left-is, place-below, left-counts, room-is, effect-is}
+use Rattle.machine.proofs.Parts.{Numbered, first-clear, first-met, accepted-zero, refused-some, numbers-refuse, state-refuses, ends-refuse, last-refuses, step-accepts, all-clear}
+use Rattle.machine.proofs.Places.{small, actor-is, node-read, node-fits, found-is, reaction-is, message-ok, left-is, place-below, left-counts, room-is, last-is, clear-is, effect-is}
 
 -- ── the reaction by what the node is told ──
 pub reacts-lost : (n : ℕ) (c : Node) (m : Message) (e : Event) → loses e ≡ true → stays c ≡ reactsTo n c m e
@@ -126,20 +131,21 @@ module _ (t : Table) (z : Sized t) (ok : inRange (view t) ≡ true) (e : Event) 
     found : ltb k (t .waiting) ≡ ltb (placeFor (view t .queue) e) (length (view t .queue))
     found = found-is t z ok e k hk reach
 
-    pub refuses : isAccepted (v .answer) ≡ false → Stepped t e (record { answer = v .answer; table = t })
-    refuses q = by-first (first (numberGrounds (t .n) e)) refl
+    -- a: any answer of the verdict's number
+    pub refuses : (a : Answer) → answerNumber a ≡ answerNumber (v .answer) → isAccepted a ≡ false → Stepped t e (record { answer = a; table = t })
+    refuses a hn q = by-first (first (numberGrounds (t .n) e)) refl
       where
-        by-second : (clear : first (numberGrounds (t .n) e) ≡ 0) (y : ℕ) → first (stateGrounds c e (ltb k (t .waiting))) ≡ y → Stepped t e (record { answer = v .answer; table = t })
+        by-second : (clear : first (numberGrounds (t .n) e) ≡ 0) (y : ℕ) → first (stateGrounds c e (ltb k (t .waiting))) ≡ y → Stepped t e (record { answer = a; table = t })
         by-second clear zero y =
             let r = reaction-is t z ok e k hk reach c y f (node-is clear) in
-            ends-refuse t e ok c (node-is clear) _ found clear y (reactsTo (t .n) c m e) (rw hm r) _ (left-counts t z ok e k hk reach _ refl) (v .answer) q (j .answer ∙ past-state (t .n) (t .waiting) k c m e clear y)
+            ends-refuse t e ok c (node-is clear) _ found clear y (reactsTo (t .n) c m e) (rw hm r) _ (left-counts t z ok e k hk reach _ refl) a q (hn ∙ j .answer ∙ past-state (t .n) (t .waiting) k c m e clear y)
         by-second clear (suc x) y =
-            state-refuses t e ok c (node-is clear) _ found clear (v .answer) q
-            (j .answer ∙ first-clear (numberGrounds (t .n) e) _ (omega arith, (omega arith, tt)) clear ∙ first-met (stateGrounds c e (ltb k (t .waiting))) _ (omega arith))
+            state-refuses t e ok c (node-is clear) _ found clear a q
+            (hn ∙ j .answer ∙ first-clear (numberGrounds (t .n) e) _ (omega arith, (omega arith, tt)) clear ∙ first-met (stateGrounds c e (ltb k (t .waiting))) _ (omega arith))
 
-        by-first : (x : ℕ) → first (numberGrounds (t .n) e) ≡ x → Stepped t e (record { answer = v .answer; table = t })
+        by-first : (x : ℕ) → first (numberGrounds (t .n) e) ≡ x → Stepped t e (record { answer = a; table = t })
         by-first zero y = by-second y (first (stateGrounds c e (ltb k (t .waiting)))) refl
-        by-first (suc x) y = numbers-refuse t e ok _ refl _ refl (v .answer) q (j .answer ∙ first-met (numberGrounds (t .n) e) _ (omega arith))
+        by-first (suc x) y = numbers-refuse t e ok _ refl _ refl a q (hn ∙ j .answer ∙ first-met (numberGrounds (t .n) e) _ (omega arith))
 
     module _ (q : isAccepted (v .answer) ≡ true) where
       none : first (allGrounds (t .n) (t .waiting) k c m e) ≡ 0
@@ -164,8 +170,66 @@ module _ (t : Table) (z : Sized t) (ok : inRange (view t) ≡ true) (e : Event) 
       pub room : Room (v .reaction .outgoing) (leftOf (t .waiting) k)
       room = room-is t z ok e k hk reach _ refl c (v .reaction) ends
 
-      pub accepts : (u : Table) → view u ≡ stored (view t) k at (v .reaction) → Stepped t e (record { answer = Accepted; table = u })
-      accepts u h =
-          let r : v .reaction ≡ reactionTo (view t) e = acts ∙ rw hm (reaction-is t z ok e k hk reach c (later .0) f (node-is clear)) in
-          all-clear t e ok c (node-is clear) _ found clear (later .0) (v .reaction) r _ (left-counts t z ok e k hk reach _ refl) ends u
-          (h ∙ effect-is t z ok e k hk reach _ refl (v .reaction) at r (at-is clear))
+      pub reacts : v .reaction ≡ reactionTo (view t) e
+      reacts = acts ∙ rw hm (reaction-is t z ok e k hk reach c (later .0) f (node-is clear))
+
+      pub is-clear : Clear (view t) e
+      is-clear = clear-is t z ok e k hk reach _ refl c (node-is clear) clear (later .0) (v .reaction) reacts ends
+
+      pub outgoing-in : OutgoingIn (t .n) (v .reaction .outgoing)
+      outgoing-in = rw reacts (event-in (view t) e is-clear .reaction .outgoing)
+
+      last-refuse : pairAtEnd (t .sent) (v .reaction .outgoing) ≡ true → (a : Answer) → isAccepted a ≡ false → answerNumber a ≡ 17 → Stepped t e (record { answer = a; table = t })
+      last-refuse = last-refuses t e ok c (node-is clear) _ found clear (later .0) (v .reaction) reacts _ (left-counts t z ok e k hk reach _ refl) ends
+
+      module _ (p : pairAtEnd (t .sent) (v .reaction .outgoing) ≡ false) where
+        -- what is then stored is the model's
+        pub stores : stored (view t) e k at (v .reaction) ≡ effect (view t) e
+        stores = effect-is t z ok e k hk reach _ refl is-clear (v .reaction) at reacts (at-is clear)
+
+        pub model-accepts : step (view t) e ≡ accepted (effect (view t) e) (reactionTo (view t) e .mark)
+        model-accepts = step-accepts t e ok c (node-is clear) _ found clear (later .0) (v .reaction) reacts _ (left-counts t z ok e k hk reach _ refl) ends p
+
+        pub accepts : (u : Table) → view u ≡ stored (view t) e k at (v .reaction) → Stepped t e (record { answer = Accepted; table = u })
+        accepts u h =
+            all-clear t e ok c (node-is clear) _ found clear (later .0) (v .reaction) reacts _ (left-counts t z ok e k hk reach _ refl) ends p u (h ∙ stores)
+
+    -- a: the verdict's answer with 17 behind it, by the count x that is read
+    module _ (x : ℕ) (hx : x ≡ getD (t .sent) (sentPlace (v .reaction .outgoing)) 0) (a : Answer) (hn : answerNumber a ≡ withLast (answerNumber (v .answer)) (v .reaction .outgoing) x) where
+      at-end : (q : isAccepted (v .answer) ≡ true) → isSending (v .reaction .outgoing) && eqb x trafficEnd ≡ pairAtEnd (t .sent) (v .reaction .outgoing)
+      at-end q = rw hx (last-is (t .n) (t .sent) (v .reaction .outgoing) (small t z ok e .1) (outgoing-in q))
+
+      number-is : (q : isAccepted (v .answer) ≡ true) → answerNumber a ≡ pick (pairAtEnd (t .sent) (v .reaction .outgoing)) 17 0
+      number-is q = hn ∙ rw (accepted-zero (v .answer) q, at-end q)
+
+      pub last-refused : isAccepted a ≡ false → Stepped t e (record { answer = a; table = t })
+      last-refused r = by (isAccepted (v .answer)) refl
+        where
+          by-last : (q : isAccepted (v .answer) ≡ true) (y : Bool) → pairAtEnd (t .sent) (v .reaction .outgoing) ≡ y → Stepped t e (record { answer = a; table = t })
+          by-last q true p = last-refuse q p a r (number-is q ∙ rw (p, pick-true))
+          by-last q false p = absurd (some-not-none (answerNumber a) (refused-some a r) (number-is q ∙ rw (p, pick-false)))
+
+          by : (y : Bool) → isAccepted (v .answer) ≡ y → Stepped t e (record { answer = a; table = t })
+          by true q = by-last q (pairAtEnd (t .sent) (v .reaction .outgoing)) refl
+          by false q = refuses a (hn ∙ rw (ne-eqb (answerNumber (v .answer)) 0 (some-not-none _ (refused-some (v .answer) q)), pick-false)) r
+
+      module _ (r : isAccepted a ≡ true) where
+        pub verdict-accepted : isAccepted (v .answer) ≡ true
+        verdict-accepted = by (isAccepted (v .answer)) refl
+          where
+            by : (y : Bool) → isAccepted (v .answer) ≡ y → y ≡ true
+            by true q = refl
+            by false q =
+                absurd
+                (some-not-none (answerNumber (v .answer)) (refused-some (v .answer) q)
+                (sym (hn ∙ rw (ne-eqb (answerNumber (v .answer)) 0 (some-not-none _ (refused-some (v .answer) q)), pick-false)) ∙ accepted-zero a r))
+
+        pub pair-below : pairAtEnd (t .sent) (v .reaction .outgoing) ≡ false
+        pair-below = by (pairAtEnd (t .sent) (v .reaction .outgoing)) refl
+          where
+            by : (y : Bool) → pairAtEnd (t .sent) (v .reaction .outgoing) ≡ y → y ≡ false
+            by true p = absurd (never (sym (accepted-zero a r) ∙ number-is verdict-accepted ∙ rw (p, pick-true)))
+              where
+                never : _≡_ {A = ℕ} 0 17 → ⊥
+                never h = omega arith
+            by false p = refl

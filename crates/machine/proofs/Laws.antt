@@ -13,9 +13,10 @@ use mir.Val.{Val}
 use denote.Laws.{Is}
 use denote.Struct.Declared.{row}
 use borrow.Author.Tests.{le-leb, eq-eqb}
+use Rattle.model.specs.Counts.{noCounts}
 use Rattle.model.specs.Range.{nodeInRange, messageInRange}
 use Rattle.model.specs.Pick.{pick, pick-true, pick-false}
-use Rattle.model.specs.State.{State, startingNode, start, noMessage, every, inRange, firstOf, view, goes}
+use Rattle.model.specs.State.{State, startingNode, start, noMessage, every, trafficInRange, inRange, firstOf, view, goes}
 use Rattle.model.specs.declared.Node.{Node}
 use Rattle.model.specs.declared.Message.{Message}
 use Rattle.model.specs.declared.Table.{Table}
@@ -28,11 +29,17 @@ use Rattle.machine.specs.Parts.{place, without, Left}
 pub record Sized (t : Table) : Type 0 where
   pub nodes : length (t .nodes) ≡ 16
   pub messages : length (t .messages) ≡ 64
+  pub sent : length (t .sent) ≡ 256
+  pub delivered : length (t .delivered) ≡ 256
+  pub lost : length (t .lost) ≡ 256
 
 pub sized : (t : Table) {vs : List Val} → Is (row T.the-type) t vs → Sized t
 sized t g = record {
   nodes = sym (length-map (t .nodes) _) ∙ g .1 .1 .1 .0 .1 .0 .1;
   messages = sym (length-map (t .messages) _) ∙ g .1 .1 .1 .1 .0 .1 .0 .1;
+  sent = sym (length-map (t .sent) _) ∙ g .1 .1 .1 .1 .1 .1 .0 .1 .0 .1;
+  delivered = sym (length-map (t .delivered) _) ∙ g .1 .1 .1 .1 .1 .1 .1 .0 .1 .0 .1;
+  lost = sym (length-map (t .lost) _) ∙ g .1 .1 .1 .1 .1 .1 .1 .1 .0 .1 .0 .1;
 }
 
 -- ── the first k of a list ──
@@ -57,7 +64,8 @@ module _ (t : Table) (s : Sized t) where
 
 -- ── the range, once n and the number waiting are good ──
 pub in-range-is : (t : Table) → Sized t → 1 ≤ t .n → t .n ≤ 16 → t .waiting ≤ 64
-    → inRange (view t) ≡ every (nodeInRange (t .n)) 1 (take (t .n) (t .nodes)) && every (λ k. messageInRange (t .n)) 1 (take (t .waiting) (t .messages))
+    → inRange (view t)
+    ≡ every (nodeInRange (t .n)) 1 (take (t .n) (t .nodes)) && every (λ k. messageInRange (t .n)) 1 (take (t .waiting) (t .messages)) && trafficInRange (view t)
 unfolding inRange
 in-range-is t s l h w =
     rw
@@ -147,22 +155,27 @@ left-few w k left x h = ⊎-elim (λ y. omega arith) (λ y. omega arith) x
 pub nodes-set : (n at : ℕ) (l : List Node) (c : Node) → at < n → n ≤ length l → firstOf n startingNode (set l at c) ≡ set (firstOf n startingNode l) at c
 nodes-set n at l c h k = rw (first-take n startingNode (set l at c) (simp length-set k), first-take n startingNode l k) (take-set-lt n l at c h)
 
-pub state-is : (n : ℕ) {xs ys : List Node} {q r : List Message} → xs ≡ ys → q ≡ r → _≡_ {A = State} (record { n = n; nodes = xs; queue = q }) (record { n = n; nodes = ys; queue = r })
-state-is n p q = cc
+-- states by their nodes and messages, with the same counts
+pub state-is : (n : ℕ) (a b c : List ℕ) {xs ys : List Node} {q r : List Message} → xs ≡ ys → q ≡ r
+    → _≡_ {A = State} (record { n = n; nodes = xs; queue = q; sent = a; delivered = b; lost = c }) (record { n = n; nodes = ys; queue = r; sent = a; delivered = b; lost = c })
+state-is n a b c p q = cc
 
 -- ms: the messages once the one at k was taken out; c the node's new record
-module _ (t : Table) (s : Sized t) (small : t .n ≤ 16) (short : t .waiting ≤ 64) (k left at : ℕ) (x : Left (t .waiting) k left) (h : at < t .n) (c : Node) (ms : List Message) (long : length ms ≡ 64) (moved : without left (take (t .waiting) ms) ≡ without k (take (t .waiting) (t .messages))) where
+module _ (t : Table) (s : Sized t) (small : t .n ≤ 16) (short : t .waiting ≤ 64) (k left at : ℕ) (x : Left (t .waiting) k left) (h : at < t .n) (c : Node) (ms : List Message) (long : length ms ≡ 64) (moved : without left (take (t .waiting) ms) ≡ without k (take (t .waiting) (t .messages))) (a b d : List ℕ) where
   taken : take left ms ≡ without k (view t .queue)
   taken = sym (left-queue (t .waiting) k left ms x) ∙ moved ∙ ap (without k) (sym (view-queue t s short))
 
-  pub stored-quiet : _≡_ {A = State} (record { n = t .n; nodes = firstOf (t .n) startingNode (set (t .nodes) at c); queue = firstOf left noMessage ms }) (record { n = t .n; nodes = set (view t .nodes) at c; queue = without k (view t .queue) ++ [] })
+  pub stored-quiet : _≡_ {A = State} (record { n = t .n; nodes = firstOf (t .n) startingNode (set (t .nodes) at c); queue = firstOf left noMessage ms; sent = a; delivered = b; lost = d })
+      (record { n = t .n; nodes = set (view t .nodes) at c; queue = without k (view t .queue) ++ []; sent = a; delivered = b; lost = d })
   stored-quiet =
-      state-is (t .n) (nodes-set (t .n) at (t .nodes) c h (omega (arith, s .nodes)))
+      state-is (t .n) a b d (nodes-set (t .n) at (t .nodes) c h (omega (arith, s .nodes)))
       (first-take left noMessage ms (omega (arith, left-few (t .waiting) k left x short)) ∙ taken ∙ sym (append-nil _))
 
-  pub stored-sent : left < 64 → (m : Message) → _≡_ {A = State} (record { n = t .n; nodes = firstOf (t .n) startingNode (set (t .nodes) at c); queue = firstOf (left + 1) noMessage (set ms left m) }) (record { n = t .n; nodes = set (view t .nodes) at c; queue = without k (view t .queue) ++ (m ∷ []) })
+  pub stored-sent : left < 64 → (m : Message)
+      → _≡_ {A = State} (record { n = t .n; nodes = firstOf (t .n) startingNode (set (t .nodes) at c); queue = firstOf (left + 1) noMessage (set ms left m); sent = a; delivered = b; lost = d })
+      (record { n = t .n; nodes = set (view t .nodes) at c; queue = without k (view t .queue) ++ (m ∷ []); sent = a; delivered = b; lost = d })
   stored-sent room m =
-      state-is (t .n) (nodes-set (t .n) at (t .nodes) c h (omega (arith, s .nodes)))
+      state-is (t .n) a b d (nodes-set (t .n) at (t .nodes) c h (omega (arith, s .nodes)))
       (first-take (left + 1) noMessage (set ms left m) (simp length-set (omega arith)) ∙ one-more ∙ ap (λ (q : List Message). q ++ (m ∷ [])) taken)
     where
       one-more : take (left + 1) (set ms left m) ≡ take left ms ++ (m ∷ [])
@@ -177,4 +190,4 @@ first-replicate {A} (suc k) (suc w) d = ap (λ (r : List A). d ∷ r) (first-rep
 
 pub start-is : (n : ℕ) → view (startingTable n) ≡ start n
 unfolding firstOf
-start-is n = state-is n (first-replicate n 16 startingNode) refl
+start-is n = state-is n noCounts noCounts noCounts (first-replicate n 16 startingNode) refl

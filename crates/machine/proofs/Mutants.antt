@@ -1,5 +1,5 @@
 -- No mutant and no wrong turning meets the contract: computed over the definitions on concrete tables, and shown for every table where the claim is for every one.
-use Prim.Native.Nat.{ℕ, zero, suc, _+_, _-_, _≤_}
+use Prim.Native.Nat.{ℕ, zero, suc, _+_, _-_, _≤_, _<_}
 use native.Mathlib.Omega.{arith}
 use mathlib.Core.Bool.{Bool, true, false, not, _&&_, true≢false}
 use mathlib.Core.Path.{_≡_, refl, sym, _∙_, ap, subst}
@@ -13,20 +13,22 @@ use lib.Seq.{getD-set-same}
 use borrow.Author.Tests.{not-false, le-leb, eq-eqb, ne-eqb, eqb-true}
 use Rattle.node_set.specs.NodeSet.{has}
 use Rattle.model.specs.Pick.{pick, by-test}
-use Rattle.model.specs.Limits.{queueLimit, counterEnd, callEnd}
+use Rattle.model.specs.Limits.{queueLimit, counterEnd, callEnd, trafficEnd}
+use Rattle.model.specs.Counts.{pairPlace, countAt, noCounts}
 use Rattle.model.specs.Node.{isDown, isReorganization, isNormal, replies}
 use Rattle.model.specs.Recovery.{recoveryRecords}
 use Rattle.model.specs.Procedures.{recovers, inviteNext, merges, handNext, finishes, forwardNext, askedAll, askAt, askAfter}
 use Rattle.model.specs.React.{checked, timedOut, ticked, expired, resumed, onAreYouCoordinator, onAreYouThere, onInvitation, onAccept, onReady, onReply, received, react}
 use Rattle.model.specs.Range.{activityInRange, nodeInRange, messageInRange}
-use Rattle.model.specs.State.{State, startingNode, start, nodeAt, waits, oldest, withoutOldest, every, inRange, firstOf, view, tableOf}
-use Rattle.model.specs.Step.{actor, reactionTo, remaining, sent, effect, forms, isCalling, isSending, grounds, judged, Result, refused, accepted, step, kept, after, runFrom}
+use Rattle.model.specs.State.{State, startingNode, start, nodeAt, waits, oldest, withoutOldest, allWaiting, countsAside, every, baseInRange, trafficInRange, inRange, firstOf, view, tableOf}
+use Rattle.model.specs.Step.{actor, reactionTo, remaining, sent, withSent, effect, forms, isCalling, isSending, pairAtEnd, grounds, judged, Result, refused, accepted, step, kept, aside, after, runFrom}
 use Rattle.model.specs.Answers.{answerNumber, resultNumber}
-use Rattle.model.specs.Claims.{isActive, Lacks, Sends, whomNow, whomStill, Below, Picked, Holds, recoversAtExpire, recordAfter}
+use Rattle.model.specs.Claims.{isActive, Lacks, Sends, whomNow, whomStill, Below, Picked, InvitationReaches, Holds, recoversAtExpire, recordAfter}
 use Rattle.model.proofs.Judged.{Clear, by-step, clear-accepts, accepted-is}
 use Rattle.model.proofs.Local.{both-right}
 use Rattle.model.proofs.Fields.{in-range-size, own-record}
-use Rattle.model.proofs.InRange.{delivery-never-full, stays-in-range}
+use Rattle.model.proofs.InRange.{end, past, not-refused, delivery-never-full, stays-in-range}
+use Rattle.model.proofs.Aside.{resultAside, waiting-aside, aside-result, quick, aside-kept, run-aside, start-room, run-below}
 use Rattle.model.proofs.Cases.{invited-twice}
 use Rattle.model.proofs.CallOrder.{call-order}
 use Rattle.model.proofs.Invitation.{kind-three}
@@ -47,12 +49,12 @@ use Rattle.model.specs.declared.Table.{Table}
 use Rattle.model.specs.declared.Event.{Event}
 use Rattle.model.specs.declared.Event.the-variants.{Crash, Recover, Check, Timeout, Tick, Expire, Finish, Deliver, Lose}
 use Rattle.model.specs.declared.Outcome.{Outcome}
-use Rattle.model.specs.declared.Answer.the-variants.{Accepted}
+use Rattle.model.specs.declared.Answer.the-variants.{Accepted, NotInRange, SentAtEnd}
 use Rattle.machine.specs.declared.RecoveryAnswer.{RecoveryAnswer}
 use Rattle.machine.specs.Stepped.{Stepped, startingTable, RecoveryAnswered}
-use Rattle.machine.specs.Mutants.{mergingTable, handingTable, invitedTable, askingTable, collectingTable, invites, Moves, NoMutant, NoWrongTurning, NoLowerFirst, NoJoiningAgain, NoOtherRecovery}
+use Rattle.machine.specs.Mutants.{mergingTable, handingTable, invitedTable, askingTable, collectingTable, invites, Moves, NoMutant, NoWrongTurning, NoLowerFirst, NoJoiningAgain, NoOtherRecovery, NoOtherCounts}
 use Rattle.machine.proofs.Laws.{start-is}
-use Rattle.machine.proofs.Runs.{run-nodes, start-node, accepted-alike, code-runs, code-fixes, folded-reached}
+use Rattle.machine.proofs.Runs.{run-nodes, start-node, answer-known, by-number, accepted-alike, code-runs, code-fixes, folded-reached}
 use Rattle.machine.proofs.Recovering.{model-accepts, code-accepts, recovery-alike}
 use Rattle.machine.proofs.Still.{accepted-differs, reply-taken}
 use Rattle.machine.proofs.Invites.{event-invites}
@@ -74,9 +76,52 @@ record Computed : Type 0 where
   two : after (view (startingTable 2)) (Recover 1) .n ≡ 2
   second : nodeAt (after (view (startingTable 2)) (Recover 1)) 2 ≡ startingNode
 
+-- with the counts aside: after an event, and after events from the starting table of two nodes
+after-one : (n : ℕ) (cs : List Node) (q : List Message) (e : Event) → baseInRange n cs q ≡ true
+    → countsAside (after (allWaiting n cs q) e) ≡ kept (allWaiting n cs q) (resultAside (allWaiting n cs q) e)
+after-one n cs q e r = aside-kept (allWaiting n cs q) (step (allWaiting n cs q) e) ∙ ap (kept (allWaiting n cs q)) (waiting-aside n cs q r e)
+
+started : (es : List Event) → length es < trafficEnd → countsAside (runFrom (view (startingTable 2)) es) ≡ quick (countsAside (start 2)) es
+started es h =
+    ap (λ (s : State). countsAside (runFrom s es)) (start-is 2)
+    ∙ run-aside (start 2) es (stays-in-range .starts 2 (omega arith) (omega arith)) (start-room (length es) h)
+
+started-one : (e : Event) → countsAside (after (view (startingTable 2)) e) ≡ quick (countsAside (start 2)) (e ∷ [])
+unfolding runFrom
+started-one e = started (e ∷ []) (omega arith)
+
+aside-number : (x : Result) → resultNumber x ≡ resultNumber (aside x)
+aside-number (refused r) = refl
+aside-number (accepted u k) = refl
+
+first-number : (e : Event) → resultNumber (step (view (startingTable 2)) e) ≡ resultNumber (resultAside (countsAside (start 2)) e)
+unfolding runFrom
+first-number e =
+    ap (λ (s : State). resultNumber (step s e)) (start-is 2)
+    ∙ aside-number (step (start 2) e)
+    ∙ ap resultNumber (aside-result (start 2) e (stays-in-range .starts 2 (omega arith) (omega arith)) (run-below 2 [] (omega arith)))
+
+first-ranged : (e : Event) → inRange (after (view (startingTable 2)) e) ≡ true
+unfolding runFrom
+first-ranged e = ap (λ (s : State). inRange (after s e)) (start-is 2) ∙ stays-in-range .runs 2 (omega arith) (omega arith) (e ∷ [])
+
 computed : Computed
-unfolding pick onesIn ones leadingZeros bitAnd bitOr inviteNext merges handNext finishes forwardNext askedAll askAt askAfter checked timedOut ticked expired resumed onAreYouCoordinator onAreYouThere onInvitation onAccept onReady onReply received react activityInRange nodeInRange messageInRange waits oldest withoutOldest every inRange reactionTo remaining effect grounds judged step runFrom firstOf
-computed = record { again = refl; members = refl; task = refl; status = refl; handed = refl; picks = refl; older = refl; other = refl; away = refl; ranged = refl; two = refl; second = refl }
+unfolding pick onesIn ones leadingZeros bitAnd bitOr inviteNext merges handNext finishes forwardNext askedAll askAt askAfter checked timedOut ticked expired resumed onAreYouCoordinator onAreYouThere onInvitation onAccept onReady onReply received react activityInRange nodeInRange messageInRange waits oldest withoutOldest every reactionTo remaining judged firstOf
+computed =
+    record {
+      again = ap (λ (s : State). nodeAt s 1 .group .number) (started (Recover 1 ∷ Crash 1 ∷ Recover 1 ∷ []) (omega arith));
+      members = ap (λ (s : State). invites (nodeAt s 1 .activity) 2) (after-one 3 (mergingTable .nodes) [] (Tick 1) refl);
+      task = ap (λ (s : State). nodeAt s 2 .task .number) (after-one 2 (invitedTable .nodes) (invitedTable .queue) (Deliver 1 2) refl);
+      status = ap (λ (s : State). nodeAt s 2 .status) (after-one 2 (invitedTable .nodes) (invitedTable .queue) (Deliver 1 2) refl);
+      handed = ap (λ (s : State). nodeAt s 3 .activity) (after-one 3 (handingTable .nodes) [] (Expire 3) refl);
+      picks = ap (λ (s : State). nodeAt s 3 .activity) (after-one 3 (collectingTable .nodes) [] (Finish 3 (record { number = 100 })) refl);
+      older = ap (λ (s : State). nodeAt s 1) (after-one 3 (askingTable [] .nodes) (replies 2 1 (record { number = 4 }) true ∷ []) (Deliver 2 1) refl);
+      other = ap (λ (s : State). nodeAt s 1 .activity) (after-one 3 (askingTable [] .nodes) (replies 3 1 (record { number = 5 }) true ∷ []) (Deliver 3 1) refl);
+      away = first-number (Crash 1);
+      ranged = first-ranged (Recover 1);
+      two = ap (λ (s : State). s .n) (started-one (Recover 1));
+      second = ap (λ (s : State). nodeAt s 2) (started-one (Recover 1));
+    }
 
 asked-apart : Asking 3 2 ≡ Asking 2 0 → ⊥
 asked-apart e = let z : _≡_ {A = ℕ} 3 2 = cc in omega arith
@@ -95,7 +140,7 @@ stored s i c f h = by (s .nodes) (i - 1) h
 crash-keeps : (s : State) (i : ℕ) → nodeAt (after s (Crash i)) i .counter ≡ nodeAt s i .counter
 unfolding effect reactionTo react
 crash-keeps s i =
-    by-step (λ (q : Result). nodeAt (kept s q) i .counter ≡ nodeAt s i .counter) s (Crash i) (λ x. refl) (λ c. stored s i _ (λ (d : Node). d .counter) refl)
+    by-step (λ (q : Result). nodeAt (kept s q) i .counter ≡ nodeAt s i .counter) s (Crash i) (λ x. refl) (λ c _. stored s i _ (λ (d : Node). d .counter) refl)
 
 expire-reaction : (s : State) (i : ℕ) → recoversAtExpire (nodeAt s i .activity) ≡ true → reactionTo s (Expire i) ≡ recovers i (nodeAt s i)
 unfolding reactionTo react
@@ -105,7 +150,7 @@ expire-silent : (s : State) (i : ℕ) → recoversAtExpire (nodeAt s i .activity
 unfolding effect remaining
 expire-silent s i h =
     by-step (λ (q : Result). kept s q .queue ≡ s .queue) s (Expire i) (λ x. refl)
-    (λ c. ap (λ (r : Reaction). s .queue ++ sent (r .outgoing)) (expire-reaction s i h) ∙ append-nil (s .queue))
+    (λ c _. ap (λ (r : Reaction). s .queue ++ sent (r .outgoing)) (expire-reaction s i h) ∙ append-nil (s .queue))
 
 -- what holds of an invitation's receiver
 module _ (i : ℕ) (c : Node) (m : Message) where
@@ -131,13 +176,13 @@ invitation-task : (s : State) (a b : ℕ) → oldest a b (s .queue) .kind ≡ 3 
 unfolding effect reactionTo react
 invitation-task s a b k =
     by-step (λ (q : Result). nodeAt (kept s q) b .task ≡ nodeAt s b .task) s (Deliver a b) (λ x. refl)
-    (λ c. stored s b _ (λ (d : Node). d .task) (ap (λ (r : Reaction). r .node .task) (kind-three (s .n) b (nodeAt s b) _ k) ∙ invited-keeps b (nodeAt s b) _))
+    (λ c _. stored s b _ (λ (d : Node). d .task) (ap (λ (r : Reaction). r .node .task) (kind-three (s .n) b (nodeAt s b) _ k) ∙ invited-keeps b (nodeAt s b) _))
 
 invitation-active : (s : State) (a b : ℕ) → oldest a b (s .queue) .kind ≡ 3 → isActive (nodeAt (after s (Deliver a b)) b .status) ≡ true → nodeAt (after s (Deliver a b)) b ≡ nodeAt s b
 unfolding effect reactionTo react
 invitation-active s a b k =
     by-step (λ (q : Result). isActive (nodeAt (kept s q) b .status) ≡ true → nodeAt (kept s q) b ≡ nodeAt s b) s (Deliver a b) (λ x h. refl)
-    (λ c h.
+    (λ c _ h.
     let o = own-record s (Deliver a b) c in
     let e = ap (λ (r : Reaction). r .node) (kind-three (s .n) b (nodeAt s b) (oldest a b (s .queue)) k) in
     o ∙ e ∙ invited-rests b (nodeAt s b) (oldest a b (s .queue)) (sym (ap (λ (d : Node). isActive (d .status)) (o ∙ e)) ∙ h))
@@ -146,7 +191,7 @@ reply-dropped : (s : State) (a b : ℕ) → oldest a b (s .queue) .kind ≡ 6 �
 unfolding effect reactionTo react
 reply-dropped s a b k d =
     by-step (λ (q : Result). nodeAt (kept s q) b ≡ nodeAt s b) s (Deliver a b) (λ x. refl)
-    (λ c. stored s b _ (λ (x : Node). x) (kind-six (s .n) b (nodeAt s b) _ k d))
+    (λ c _. stored s b _ (λ (x : Node). x) (kind-six (s .n) b (nodeAt s b) _ k d))
 
 -- "at none it merges"
 invite-marks : (i : ℕ) (c : Node) (k : Mark) (f o : ℕ) → inviteNext i c k f o .mark ≡ k
@@ -267,6 +312,13 @@ none-remains n (Finish i t) = refl
 none-remains n (Deliver a b) = refl
 none-remains n (Lose a b) = refl
 
+pair-first : (n : ℕ) (e : Event) → pairAtEnd (start n .sent) (reactionTo (start n) e .outgoing) ≡ false
+pair-first n e = none (reactionTo (start n) e .outgoing)
+  where
+    none : (o : Outgoing) → pairAtEnd noCounts o ≡ false
+    none Nothing = refl
+    none (Send m) = let p = pairPlace (m .sender) (m .receiver) in ne-eqb (getD noCounts p 0) trafficEnd (λ q. omega (arith, q, start-room 0 (omega arith) p))
+
 first-small : (n : ℕ) (e : Event) → 12 ≤ resultNumber (step (start n) e) → ⊥
 unfolding step grounds judged
 first-small n e =
@@ -279,7 +331,7 @@ first-small n e =
     (λ _. by-test P (λ q h. absurd (end (forms (reactionTo (start n) e .mark)) (nodeAt (start n) (actor e) .counter) counterEnd q (ap (λ (c : Node). c .counter) (start-node n (actor e - 1))) (omega arith)))
     (λ _. by-test P (λ q h. absurd (end (isCalling (reactionTo (start n) e .outgoing)) (nodeAt (start n) (actor e) .last .number) callEnd q (ap (λ (c : Node). c .last .number) (start-node n (actor e - 1))) (omega arith)))
     (λ _. by-test P (λ q h. absurd (end (isSending (reactionTo (start n) e .outgoing)) (length (remaining (start n) e)) queueLimit q (ap length (none-remains n e)) (omega arith)))
-    (λ _ h. omega arith)))))))))
+    (λ _. by-test P (λ q h. true≢false (sym q ∙ pair-first n e)) (λ _ h. omega arith))))))))))
   where
     P : Result → Type 0
     P q = 12 ≤ resultNumber q → ⊥
@@ -338,7 +390,7 @@ module _ (t : Table) (e : Event) {r : Outcome} (x : Stepped t e r)
   in-queue =
       ap (λ (s : State). s .queue) (x .table)
       ∙ by-step (λ (q : Result). (nodeAt (kept (view t) q) (actor e) .activity ≡ nodeAt (view t) (actor e) .activity → ⊥) → kept (view t) q .queue ≡ remaining (view t) e ++ sent (reactionTo (view t) e .outgoing))
-      (view t) e (λ _ d. absurd (d refl)) (λ _ _. refl) (subst (λ (s : State). nodeAt s (actor e) .activity ≡ nodeAt (view t) (actor e) .activity → ⊥) (x .table) changed)
+      (view t) e (λ _ d. absurd (d refl)) (λ _ _ _. refl) (subst (λ (s : State). nodeAt s (actor e) .activity ≡ nodeAt (view t) (actor e) .activity → ⊥) (x .table) changed)
 
 handed-apart : Handing 1 2 ≡ Handing 2 1 → ⊥
 handed-apart q = let z : _≡_ {A = ℕ} 1 2 = cc in omega arith
@@ -357,23 +409,31 @@ no-lower-first =
 
 -- ── an invitation that arrives twice ──
 
+accepted-not-refused : {u : State} {k : Mark} {r : ℕ} → accepted u k ≡ refused r → ⊥
+accepted-not-refused q = let z : _≡_ {A = ℕ} 1 0 = cc in omega arith
+
 records-kept : (s : State) (a b : ℕ) → oldest a b (s .queue) .kind ≡ 3 → Holds s a b → after s (Deliver a b) .nodes ≡ s .nodes
 records-kept s a b k g =
     by-step (λ (q : Result). kept s q .nodes ≡ s .nodes) s (Deliver a b) (λ _. refl)
-    (λ c. ap (λ (q : Result). kept s q .nodes) (sym (clear-accepts s (Deliver a b) c) ∙ invitation-rules .held s a b (record { in-range = c .in-range; not-down = c .status; kind = k }) g))
+    (λ c d.
+    let w : InvitationReaches s a b = record { in-range = c .in-range; not-down = c .status; kind = k } in
+    ap (λ (q : Result). kept s q .nodes)
+    (sym (clear-accepts s (Deliver a b) c d)
+    ∙ invitation-rules .held s a b w (λ m. accepted-not-refused (sym (clear-accepts s (Deliver a b) c d) ∙ invitation-rules .reply-end s a b w g m)) g))
 
 pub no-joining-again : NoJoiningAgain
 no-joining-again =
     record {
       changes-records = λ t a b k g {r} x h. h (ap (λ (s : State). s .nodes) (x .table) ∙ records-kept (view t) a b k g);
-      refuses = λ t a b w g {r} x h. h (accepted-alike .code-accepts x _ _ (invitation-rules .held (view t) a b w g));
-      other-messages = λ t a b w g {r} x h.
-          h (ap (λ (s : State). s .queue) (x .table) ∙ ap (λ (q : Result). kept (view t) q .queue) (invitation-rules .held (view t) a b w g));
+      refuses = λ t a b w m g {r} x h. h (accepted-alike .code-accepts x _ _ (invitation-rules .held (view t) a b w m g));
+      other-messages = λ t a b w m g {r} x h.
+          h (ap (λ (s : State). s .queue) (x .table) ∙ ap (λ (q : Result). kept (view t) q .queue) (invitation-rules .held (view t) a b w m g));
       stays-normal = λ t a b k o g {r} x y h.
           true≢false (sym h ∙ ap (λ (c : Node). isNormal (c .status)) (accepted-record t (Deliver a b) x y) ∙ acts-not-normal (view t) a b k o g);
       leaves-normal = λ {u} f h.
           h (ap (λ (s : State). nodeAt s 1 .status)
-          (code-runs .from-any _ _ _ f ∙ ap (λ (s : State). runFrom s (invitedOnce ++ (Deliver 2 1 ∷ []))) (start-is 3) ∙ invited-twice .only-messages));
+          (code-runs .from-any _ _ _ f ∙ ap (λ (s : State). runFrom s (invitedOnce ++ (Deliver 2 1 ∷ []))) (start-is 3))
+          ∙ ap (λ (s : State). nodeAt s 1 .status) (invited-twice .only-messages));
     }
 
 -- ── 02, T-04 ──
@@ -408,3 +468,68 @@ no-other-recovery =
       not-down = λ {t} {i} d y a. true≢false (sym (ap not d) ∙ recover-clear y a .status);
       at-end = λ {t} {i} e y a. true≢false (sym (eq-eqb (nodeAt (view t) i .counter) counterEnd e) ∙ recover-clear y a .counter);
     }
+
+-- ── 02, T-05 ──
+
+-- an accepted event leaves the counts of the model's effect
+effect-counts : {t : Table} {e : Event} {r : Outcome} → Stepped t e r → r .answer ≡ Accepted → view (r .table) ≡ effect (view t) e
+effect-counts {t} {e} x a = accepted-is (view t) e _ _ (accepted-alike .model-accepts x a) .state
+
+-- of the counts after any event: as they were, or the effect's
+by-counts : (f : State → List ℕ) (l : List ℕ) {t : Table} {e : Event} {r : Outcome} → Stepped t e r → f (view t) ≡ l → f (effect (view t) e) ≡ l → f (view (r .table)) ≡ l
+by-counts f l {t} {e} x p q = ap f (x .table) ∙ by-step (λ (y : Result). f (kept (view t) y) ≡ l) (view t) e (λ _. p) (λ _ _. q)
+
+-- a table whose counts are not in range is refused
+not-in-range : (s : State) (e : Event) → trafficInRange s ≡ false → step s e ≡ refused 1
+unfolding step grounds judged inRange pick
+not-in-range s e f = rw (f, and-false (baseInRange (s .n) (s .nodes) (s .queue)))
+  where
+    and-false : (x : Bool) → (x && false) ≡ false
+    and-false true = refl
+    and-false false = refl
+
+below-end-not-seventeen : (s : State) (e : Event) → pairAtEnd (s .sent) (reactionTo s e .outgoing) ≡ false → step s e ≡ refused 17 → ⊥
+unfolding step grounds
+below-end-not-seventeen s e p =
+    not-refused 17 _ _
+    (past (λ z _. omega arith)
+    (λ _. past (λ z _. omega arith)
+    (λ _. past (λ z _. omega arith)
+    (λ _. past (λ z _. omega arith)
+    (λ _. past (λ z _. omega arith)
+    (λ _. past (λ z _. omega arith)
+    (λ _. past (λ z _. omega arith)
+    (λ _. past (λ z _. omega arith)
+    (λ _. past (λ z _. omega arith)
+    (λ _. past (λ _ t. true≢false (sym t ∙ p)) (λ _. end)))))))))))
+
+-- 17 is given only where the pair's count is at its end
+seventeen-at-end : (s : State) (e : Event) → step s e ≡ refused 17 → pairAtEnd (s .sent) (reactionTo s e .outgoing) ≡ true
+seventeen-at-end s e q = by (pairAtEnd (s .sent) (reactionTo s e .outgoing)) refl
+  where
+    by : (t : Bool) → pairAtEnd (s .sent) (reactionTo s e .outgoing) ≡ t → t ≡ true
+    by true p = refl
+    by false p = absurd (below-end-not-seventeen s e p q)
+
+pub no-other-counts : NoOtherCounts
+unfolding effect reactionTo
+no-other-counts =
+    record {
+      counts-refused = λ {t} {e} {r} x n h. h (ap (λ (u : Table). u .sent) (x .same n));
+      lost-as-delivered = λ {t} {a} {b} {r} x h. h (by-counts (λ (s : State). s .delivered) (t .delivered) x refl refl);
+      delivered-as-lost = λ {t} {a} {b} {r} x h. h (by-counts (λ (s : State). s .lost) (t .lost) x refl refl);
+      lost-as-sent = λ {t} {a} {b} {r} x h. h (by-counts (λ (s : State). s .sent) (t .sent) x refl refl);
+      delivery-uncounted = λ {t} {a} {b} {r} x y h. h (ap (λ (s : State). s .delivered) (effect-counts x y));
+      loss-uncounted = λ {t} {a} {b} {r} x y h. h (ap (λ (s : State). s .lost) (effect-counts x y));
+      sent-uncounted = λ {t} {e} {r} m x y o h. h (ap (λ (s : State). s .sent) (effect-counts x y) ∙ ap (withSent (t .sent)) o);
+      none-sent = λ {t} {e} {r} x o h. h (by-counts (λ (s : State). s .sent) (t .sent) x refl (ap (withSent (t .sent)) o));
+      past-end = λ {t} {e} {r} m x o k y.
+          true≢false
+          (sym (ap (pairAtEnd (t .sent)) o ∙ eq-eqb _ _ k) ∙ accepted-is (view t) e _ _ (accepted-alike .model-accepts x y) .not-at-end);
+      seventeen-unsent = λ {t} {e} {r} x o y. true≢false (sym (at-end x y) ∙ ap (pairAtEnd (t .sent)) o);
+      seventeen-early = λ {t} {e} {r} m x o k y. k (eqb-true _ _ (sym (ap (pairAtEnd (t .sent)) o) ∙ at-end x y));
+      takes-wrong-sums = λ {t} {e} {r} f x h. h (answer-known (r .answer) NotInRange (x .answer ∙ ap resultNumber (not-in-range (view t) e f)));
+    }
+  where
+    at-end : {t : Table} {e : Event} {r : Outcome} → Stepped t e r → r .answer ≡ SentAtEnd → pairAtEnd (t .sent) (reactionTo (view t) e .outgoing) ≡ true
+    at-end {t} {e} {r} x y = seventeen-at-end (view t) e (by-number (step (view t) e) 17 (omega arith) (sym (ap answerNumber y) ∙ x .answer))

@@ -11,7 +11,7 @@ use lib.ListN.{length, getD, take, drop, length-append, length-take, length-drop
 use borrow.Author.Tests.{lt-ltb, le-ltb}
 use Rattle.model.specs.Pick.{pick, pick-true, pick-false, by-test}
 use Rattle.model.specs.State.{State, startingNode, nodeAt, noMessage, goes, waits, oldest, withoutOldest, inRange, view}
-use Rattle.model.specs.Step.{actor, reactionTo, remaining, noneWaits, effect, Ground, ground, grounds, Result, refused, accepted, judged, step, kept, after}
+use Rattle.model.specs.Step.{actor, reactionTo, remaining, noneWaits, pairAtEnd, effect, Ground, ground, grounds, Result, refused, accepted, judged, step, kept, after}
 use Rattle.model.specs.React.{react}
 use Rattle.model.specs.Answers.{answerNumber, resultNumber}
 use Rattle.model.specs.declared.Input.the-variants.{Receive}
@@ -21,11 +21,11 @@ use Rattle.model.specs.declared.Mark.{Mark}
 use Rattle.model.specs.declared.Reaction.{Reaction}
 use Rattle.model.specs.declared.Table.{Table}
 use Rattle.model.specs.declared.Answer.{Answer}
-use Rattle.model.specs.declared.Answer.the-variants.{Accepted, NotInRange, WrongNumber, WrongTask, WrongStatus, WrongActivity, NoMessage, CounterAtEnd, CallsAtEnd, QueueFull}
+use Rattle.model.specs.declared.Answer.the-variants.{Accepted, NotInRange, WrongNumber, WrongTask, WrongStatus, WrongActivity, NoMessage, CounterAtEnd, CallsAtEnd, QueueFull, SentAtEnd}
 use Rattle.model.specs.declared.Outcome.{Outcome}
 use Rattle.model.specs.declared.Event.{Event}
 use Rattle.model.specs.declared.Event.the-variants.{Crash, Recover, Check, Timeout, Tick, Expire, Finish, Deliver, Lose}
-use Rattle.machine.specs.Parts.{place, without, takes, sender, placeFor, first, numberGrounds, stateGrounds, endGrounds, isAccepted, reactsTo}
+use Rattle.machine.specs.Parts.{place, without, takes, sender, placeFor, first, numberGrounds, stateGrounds, endGrounds, lastGrounds, isAccepted, reactsTo}
 use Rattle.machine.specs.Stepped.{Stepped}
 use Rattle.machine.proofs.Laws.{without-none}
 
@@ -189,6 +189,21 @@ accepted-zero NoMessage q = absurd (true≢false (sym q))
 accepted-zero CounterAtEnd q = absurd (true≢false (sym q))
 accepted-zero CallsAtEnd q = absurd (true≢false (sym q))
 accepted-zero QueueFull q = absurd (true≢false (sym q))
+accepted-zero SentAtEnd q = absurd (true≢false (sym q))
+
+-- Accepted is the answer of number 0
+pub zero-accepted : (a : Answer) → eqb (answerNumber a) 0 ≡ isAccepted a
+zero-accepted Accepted = refl
+zero-accepted NotInRange = refl
+zero-accepted WrongNumber = refl
+zero-accepted WrongTask = refl
+zero-accepted WrongStatus = refl
+zero-accepted WrongActivity = refl
+zero-accepted NoMessage = refl
+zero-accepted CounterAtEnd = refl
+zero-accepted CallsAtEnd = refl
+zero-accepted QueueFull = refl
+zero-accepted SentAtEnd = refl
 
 pub refused-some : (a : Answer) → isAccepted a ≡ false → 1 ≤ answerNumber a
 refused-some Accepted q = absurd (true≢false q)
@@ -201,6 +216,7 @@ refused-some NoMessage q = omega arith
 refused-some CounterAtEnd q = omega arith
 refused-some CallsAtEnd q = omega arith
 refused-some QueueFull q = omega arith
+refused-some SentAtEnd q = omega arith
 
 -- ── what a step comes to ──
 
@@ -215,18 +231,19 @@ refused-stepped t e a q h =
 -- the grounds in three groups, of a table in range
 module _ (t : Table) (e : Event) (ok : inRange (view t) ≡ true) (c : Node) (hc : c ≡ nodeAt (view t) (actor e)) (found : Bool) (hf : found ≡ ltb (placeFor (view t .queue) e) (length (view t .queue))) where
   grounds-are : (r : Reaction) (left : ℕ) → r ≡ reactionTo (view t) e → left ≡ length (remaining (view t) e)
-      → grounds (view t) e ≡ ground 1 false ∷ (numberGrounds (t .n) e ++ (stateGrounds c e found ++ endGrounds c r left))
+      → grounds (view t) e ≡ ground 1 false ∷ (numberGrounds (t .n) e ++ (stateGrounds c e found ++ (endGrounds c r left ++ lastGrounds (t .sent) (r .outgoing))))
   unfolding grounds
   grounds-are r left hr hl = rw (hc, hf, hr, hl, ok, none-place (view t .queue) e)
 
-  rest : Reaction → ℕ → List Ground
-  rest r left = stateGrounds c e found ++ endGrounds c r left
+  -- those behind the state's, of the event's own reaction
+  abbrev behind : List Ground
+  behind = endGrounds c (reactionTo (view t) e) (length (remaining (view t) e)) ++ lastGrounds (t .sent) (reactionTo (view t) e .outgoing)
 
   first-is : (xs : List Ground) → first (ground 1 false ∷ xs) ≡ first xs
   unfolding first
   first-is xs = pick-false 1 (first xs)
 
-  actual : first (grounds (view t) e) ≡ first (numberGrounds (t .n) e ++ (stateGrounds c e found ++ endGrounds c (reactionTo (view t) e) (length (remaining (view t) e))))
+  actual : first (grounds (view t) e) ≡ first (numberGrounds (t .n) e ++ (stateGrounds c e found ++ behind))
   actual = ap first (grounds-are _ _ refl refl) ∙ first-is _
 
   -- 7 and 8
@@ -234,7 +251,7 @@ module _ (t : Table) (e : Event) (ok : inRange (view t) ≡ true) (c : Node) (hc
   numbers-refuse a q h = refused-stepped t e a q (h ∙ sym (actual ∙ first-met (numberGrounds (t .n) e) _ (omega (arith, refused-some a q, h))))
 
   module _ (clear : first (numberGrounds (t .n) e) ≡ 0) where
-    past-numbers : first (grounds (view t) e) ≡ first (stateGrounds c e found ++ endGrounds c (reactionTo (view t) e) (length (remaining (view t) e)))
+    past-numbers : first (grounds (view t) e) ≡ first (stateGrounds c e found ++ behind)
     past-numbers = actual ∙ first-clear (numberGrounds (t .n) e) _ (omega arith, (omega arith, tt)) clear
 
     -- 9 to 11
@@ -242,19 +259,34 @@ module _ (t : Table) (e : Event) (ok : inRange (view t) ≡ true) (c : Node) (hc
     state-refuses a q h = refused-stepped t e a q (h ∙ sym (past-numbers ∙ first-met (stateGrounds c e found) _ (omega (arith, refused-some a q, h))))
 
     module _ (going : first (stateGrounds c e found) ≡ 0) (r : Reaction) (hr : r ≡ reactionTo (view t) e) (left : ℕ) (hl : left ≡ length (remaining (view t) e)) where
-      past-state : first (grounds (view t) e) ≡ first (endGrounds c r left)
+      past-state : first (grounds (view t) e) ≡ first (endGrounds c r left ++ lastGrounds (t .sent) (r .outgoing))
       past-state = rw (hr, hl) (past-numbers ∙ first-clear (stateGrounds c e found) _ (omega arith, (omega arith, (omega arith, tt))) going)
 
       -- 12 to 14
       pub ends-refuse : (a : Answer) → isAccepted a ≡ false → answerNumber a ≡ first (endGrounds c r left) → Stepped t e (record { answer = a; table = t })
-      ends-refuse a q h = refused-stepped t e a q (h ∙ sym past-state)
+      ends-refuse a q h = refused-stepped t e a q (h ∙ sym (past-state ∙ first-met (endGrounds c r left) _ (omega (arith, refused-some a q, h))))
 
-      pub all-clear : first (endGrounds c r left) ≡ 0 → (u : Table) → view u ≡ effect (view t) e → Stepped t e (record { answer = Accepted; table = u })
-      unfolding step grounds
-      all-clear h u v =
-          let k = judged-clear (accepted (effect (view t) e) (reactionTo (view t) e .mark)) (grounds (view t) e)
-          (omega arith, (omega arith, (omega arith, (omega arith, (omega arith, (omega arith, (omega arith, (omega arith, (omega arith, tt))))))))) (past-state ∙ h) in
-          record { answer = sym (ap resultNumber k); table = v ∙ sym (ap (kept (view t)) k); same = λ n. absurd (n refl) }
+      module _ (ends : first (endGrounds c r left) ≡ 0) where
+        past-ends : first (grounds (view t) e) ≡ first (lastGrounds (t .sent) (r .outgoing))
+        past-ends = past-state ∙ first-clear (endGrounds c r left) _ (omega arith, (omega arith, (omega arith, tt))) ends
+
+        -- 17
+        pub last-refuses : pairAtEnd (t .sent) (r .outgoing) ≡ true → (a : Answer) → isAccepted a ≡ false → answerNumber a ≡ 17 → Stepped t e (record { answer = a; table = t })
+        unfolding first
+        last-refuses p a q h = refused-stepped t e a q (h ∙ sym (past-ends ∙ rw (p, pick-true)))
+
+        -- none
+        pub step-accepts : pairAtEnd (t .sent) (r .outgoing) ≡ false → step (view t) e ≡ accepted (effect (view t) e) (reactionTo (view t) e .mark)
+        unfolding step grounds first
+        step-accepts p =
+            judged-clear (accepted (effect (view t) e) (reactionTo (view t) e .mark)) (grounds (view t) e)
+            (omega arith, (omega arith, (omega arith, (omega arith, (omega arith, (omega arith, (omega arith, (omega arith, (omega arith, (omega arith, tt))))))))))
+            (past-ends ∙ rw (p, pick-false))
+
+        pub all-clear : pairAtEnd (t .sent) (r .outgoing) ≡ false → (u : Table) → view u ≡ effect (view t) e → Stepped t e (record { answer = Accepted; table = u })
+        all-clear p u v =
+            let k = step-accepts p in
+            record { answer = sym (ap resultNumber k); table = v ∙ sym (ap (kept (view t)) k); same = λ n. absurd (n refl) }
 
 -- a table that is not in range
 pub range-refuses : (t : Table) (e : Event) → inRange (view t) ≡ false → Stepped t e (record { answer = NotInRange; table = t })

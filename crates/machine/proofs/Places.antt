@@ -8,12 +8,20 @@ use mathlib.Core.List.{List, [], _∷_, _++_}
 use mathlib.Core.Bool.{Bool, true, false, not, _&&_, true≢false}
 use lib.Dec.{eqb, ltb}
 use lib.ListN.{length, getD, take, drop, set, length-append, length-take, length-drop}
-use lib.Seq.{getD-take, length-take-le}
+use lib.Seq.{getD-take, length-take-le, set-getD}
 use borrow.Author.Tests.{ltb-true, ltb-false, eqb-false, not-false, lt-ltb}
 use Rattle.model.specs.Pick.{pick, pick-true, pick-false}
-use Rattle.model.specs.State.{State, startingNode, nodeAt, noMessage, waits, oldest, inRange, firstOf, view}
-use Rattle.model.specs.Step.{actor, reactionTo, remaining, sent, effect, wrongNumber, isSending, Ground}
-use Rattle.model.proofs.Fields.{in-range-size, in-range-node, in-range-oldest}
+use Rattle.model.specs.Limits.{trafficEnd}
+use Rattle.model.specs.Counts.{pairPlace, oneMore}
+use Rattle.model.specs.Range.{isPair, messageInRange, countInRange}
+use Rattle.model.specs.State.{State, startingNode, nodeAt, noMessage, waits, oldest, every, inRange, firstOf, view}
+use Rattle.model.specs.Step.{actor, reactionTo, remaining, sent, withSent, withDelivered, withLost, effect, wrongNumber, isSending, pairAtEnd, Ground}
+use Rattle.model.proofs.Judged.{Clear}
+use Rattle.model.proofs.Local.{both-left, both-right}
+use Rattle.model.proofs.Fields.{count-facts, in-range-size, in-range-each, in-range-node, in-range-oldest}
+use Rattle.model.proofs.Counts.{pair-counting}
+use Rattle.model.proofs.Range.{OutgoingIn}
+use Rattle.model.proofs.InRange.{event-in}
 use Rattle.model.proofs.Numbers.{actor-in}
 use Rattle.node_step.specs.Fits.{Fits}
 use Rattle.node_step.proofs.InRange.{in-range-fits, message-fits}
@@ -25,9 +33,9 @@ use Rattle.model.specs.declared.Reaction.{Reaction}
 use Rattle.model.specs.declared.Table.{Table}
 use Rattle.model.specs.declared.Event.{Event}
 use Rattle.model.specs.declared.Event.the-variants.{Crash, Recover, Check, Timeout, Tick, Expire, Finish, Deliver, Lose}
-use Rattle.machine.specs.Parts.{place, without, takes, placeFor, stored, Left, Room, first, numberGrounds, stateGrounds, endGrounds, FitsMessage, reactsTo}
+use Rattle.machine.specs.Parts.{place, without, takes, placeFor, placeOf, sentPlace, sentBy, movedPlace, deliveredBy, lostBy, raised, Small, stored, Left, Room, first, numberGrounds, stateGrounds, endGrounds, FitsMessage, reactsTo}
 use Rattle.machine.proofs.Laws.{Sized, first-take, first-length, without-none, left-few}
-use Rattle.machine.proofs.Parts.{waits-place, oldest-place, remaining-place, reaction-place}
+use Rattle.machine.proofs.Parts.{waits-place, oldest-place, remaining-place, none-place, reaction-place}
 
 -- ── lists ──
 
@@ -58,6 +66,65 @@ first-head g gs n h = by-applies (g .applies) refl
         none : g .number ≡ 0 → ⊥
         none q = omega arith
     by-applies false a = (a, rw (a, pick-false) at h)
+
+-- ── counts ──
+
+-- the place of a pair of nodes
+place-pair : (n a b : ℕ) → n ≤ 16 → isPair n a b ≡ true → placeOf a b ≡ pairPlace a b
+place-pair n a b h p = let c = pair-counting n a b h p in omega (arith, c .low, c .high, c .low-to, c .high-to)
+
+raise-none : (l : List ℕ) (p : ℕ) → raised l p 0 ≡ l
+raise-none l p = ap (set l p) (omega arith) ∙ set-getD l p 0
+
+raise-one : (n : ℕ) (l : List ℕ) (a b : ℕ) → n ≤ 16 → isPair n a b ≡ true → raised l (placeOf a b) 1 ≡ oneMore l a b
+raise-one n l a b h p = ap (λ (k : ℕ). raised l k 1) (place-pair n a b h p)
+
+sent-pair : (n : ℕ) (m : Message) → OutgoingIn n (Send m) → isPair n (m .sender) (m .receiver) ≡ true
+unfolding messageInRange
+sent-pair n m x = both-left _ _ (both-left _ _ (both-left _ _ (both-left _ _ x)))
+
+raise-sent : (n : ℕ) (l : List ℕ) (o : Outgoing) → n ≤ 16 → OutgoingIn n o → raised l (sentPlace o) (sentBy o) ≡ withSent l o
+raise-sent n l Nothing h x = raise-none l 0
+raise-sent n l (Send m) h x = raise-one n l (m .sender) (m .receiver) h (sent-pair n m x)
+
+raise-delivered : (n : ℕ) (l : List ℕ) (e : Event) → n ≤ 16 → wrongNumber n e ≡ false → raised l (movedPlace e) (deliveredBy e) ≡ withDelivered l e
+raise-delivered n l (Crash i) h q = raise-none l _
+raise-delivered n l (Recover i) h q = raise-none l _
+raise-delivered n l (Check i) h q = raise-none l _
+raise-delivered n l (Timeout i) h q = raise-none l _
+raise-delivered n l (Tick i) h q = raise-none l _
+raise-delivered n l (Expire i) h q = raise-none l _
+raise-delivered n l (Finish i t) h q = raise-none l _
+raise-delivered n l (Deliver a b) h q = raise-one n l a b h (not-false _ q)
+raise-delivered n l (Lose a b) h q = raise-none l _
+
+raise-lost : (n : ℕ) (l : List ℕ) (e : Event) → n ≤ 16 → wrongNumber n e ≡ false → raised l (movedPlace e) (lostBy e) ≡ withLost l e
+raise-lost n l (Crash i) h q = raise-none l _
+raise-lost n l (Recover i) h q = raise-none l _
+raise-lost n l (Check i) h q = raise-none l _
+raise-lost n l (Timeout i) h q = raise-none l _
+raise-lost n l (Tick i) h q = raise-none l _
+raise-lost n l (Expire i) h q = raise-none l _
+raise-lost n l (Finish i t) h q = raise-none l _
+raise-lost n l (Deliver a b) h q = raise-none l _
+raise-lost n l (Lose a b) h q = raise-one n l a b h (not-false _ q)
+
+-- 17 by the count that the code reads
+pub last-is : (n : ℕ) (l : List ℕ) (o : Outgoing) → n ≤ 16 → OutgoingIn n o → isSending o && eqb (getD l (sentPlace o) 0) trafficEnd ≡ pairAtEnd l o
+last-is n l Nothing h x = refl
+last-is n l (Send m) h x = ap (λ (k : ℕ). eqb (getD l k 0) trafficEnd) (place-pair n (m .sender) (m .receiver) h (sent-pair n m x))
+
+-- no count of a table in range is above the end
+each-small : (n j : ℕ) (l : List ℕ) → every (countInRange n) j l ≡ true → Small l
+unfolding every
+each-small n j [] e p = omega arith
+each-small n j (x ∷ l) e zero = count-facts n j x (both-left (countInRange n j x) _ e) .bounded
+each-small n j (x ∷ l) e (suc p) = each-small n (j + 1) l (both-right (countInRange n j x) _ e) p
+
+pub counts-small : (t : Table) → inRange (view t) ≡ true → Small (t .sent) × Small (t .delivered) × Small (t .lost)
+counts-small t ok =
+    let r = in-range-each (view t) ok in
+    (each-small (t .n) 0 (t .sent) (r .0), each-small (t .n) 0 (t .delivered) (r .1), each-small (t .n) 0 (t .lost) (r .2))
 
 module _ (t : Table) (z : Sized t) (ok : inRange (view t) ≡ true) (e : Event) where
   pub small : (1 ≤ t .n) × (t .n ≤ 16) × (t .waiting ≤ 64)
@@ -168,6 +235,31 @@ module _ (t : Table) (z : Sized t) (ok : inRange (view t) ≡ true) (e : Event) 
               place-few : left ≤ 64
               place-few = left-few (t .waiting) k left left-is (small .2)
 
-      pub effect-is : (r : Reaction) (at : ℕ) → r ≡ reactionTo (view t) e → at ≡ actor e - 1 → stored (view t) k at r ≡ effect (view t) e
+      -- what is known where none of the grounds 1 to 14 applies
+      pub clear-is : (c : Node) → c ≡ nodeAt (view t) (actor e) → first (numberGrounds (t .n) e) ≡ 0 → first (stateGrounds c e (ltb k (t .waiting))) ≡ 0 → (r : Reaction) → r ≡ reactionTo (view t) e
+          → first (endGrounds c r left) ≡ 0 → Clear (view t) e
+      clear-is c hc g h r hr i =
+          let g7 = first-head _ _ (omega arith) g in
+          let g8 = first-head _ _ (omega arith) (g7 .1) in
+          let g9 = first-head _ _ (omega arith) h in
+          let g10 = first-head _ _ (omega arith) (g9 .1) in
+          let g11 = first-head _ _ (omega arith) (g10 .1) in
+          let g12 = first-head _ _ (omega arith) i in
+          let g13 = first-head _ _ (omega arith) (g12 .1) in
+          let g14 = first-head _ _ (omega arith) (g13 .1) in
+          record {
+            in-range = ok;
+            number = g7 .0;
+            task = g8 .0;
+            status = rw hc at (g9 .0);
+            activity = rw hc at (g10 .0);
+            waiting = none-place (view t .queue) e ∙ rw found-is at (g11 .0);
+            counter = rw (hr, hc) at (g12 .0);
+            calls = rw (hr, hc) at (g13 .0);
+            room = rw (hr, left-counts) at (g14 .0);
+          }
+
+      pub effect-is : Clear (view t) e → (r : Reaction) (at : ℕ) → r ≡ reactionTo (view t) e → at ≡ actor e - 1 → stored (view t) e k at r ≡ effect (view t) e
       unfolding effect
-      effect-is r at hr ha = rw (hr, ha, remaining-place (view t) e, ← hk)
+      effect-is x r at hr ha =
+          rw (hr, ha, remaining-place (view t) e, ← hk, raise-sent (t .n) (t .sent) (reactionTo (view t) e .outgoing) (small .1) (event-in (view t) e x .reaction .outgoing), raise-delivered (t .n) (t .delivered) e (small .1) (x .number), raise-lost (t .n) (t .lost) e (small .1) (x .number))

@@ -1,5 +1,6 @@
 -- What ties the code to demand 3: the tables that the code's step returns, one after another, are those of the model's run.
-use Prim.Native.Nat.{ℕ, zero, suc, _≤_}
+use Prim.Native.Nat.{ℕ, zero, suc, _+_, _≤_}
+use native.Mathlib.Omega.{arith}
 use mathlib.Core.Path.{_≡_, refl, sym, _∙_, ap, subst}
 use mathlib.Core.List.{List, [], _∷_, _++_}
 use mathlib.Core.Bool.{true}
@@ -7,12 +8,14 @@ use lib.Dec.{eqb}
 use lib.ListN.{getD, replicate}
 use Rattle.model.specs.Limits.{nodeLimit}
 use Rattle.model.specs.Pick.{pick}
-use Rattle.model.specs.State.{State, startingNode, start, nodeAt, inRange, view}
+use Rattle.model.specs.Counts.{countAt}
+use Rattle.model.specs.State.{State, startingNode, start, nodeAt, inRange, view, waiting}
 use Rattle.model.specs.Step.{actor, reactionTo, effect, Result, refused, accepted, step, kept, after, runFrom, run}
 use Rattle.model.specs.Answers.{answerNumber, resultNumber}
 use Rattle.model.specs.History.{Task, coming, history}
 use Rattle.model.specs.Claims.{isActive, Lacks, Fixes, EachGroup}
-use Rattle.model.proofs.Judged.{by-step, accepted-is}
+use Rattle.model.proofs.Judged.{accepted-is}
+use Rattle.model.proofs.Traffic.{run-n, traffic-agrees}
 use Rattle.model.proofs.Refusals.{refuses-by-ground}
 use Rattle.model.proofs.Whole.{run-fixes}
 use Rattle.model.proofs.Fixed.{task-from-list}
@@ -23,10 +26,10 @@ use Rattle.model.specs.declared.Event.{Event}
 use Rattle.model.specs.declared.Mark.{Mark}
 use Rattle.model.specs.declared.Outcome.{Outcome}
 use Rattle.model.specs.declared.Answer.{Answer}
-use Rattle.model.specs.declared.Answer.the-variants.{Accepted, NotInRange, WrongNumber, WrongTask, WrongStatus, WrongActivity, NoMessage, CounterAtEnd, CallsAtEnd, QueueFull}
+use Rattle.model.specs.declared.Answer.the-variants.{Accepted, NotInRange, WrongNumber, WrongTask, WrongStatus, WrongActivity, NoMessage, CounterAtEnd, CallsAtEnd, QueueFull, SentAtEnd}
 use Rattle.machine.specs.Stepped.{Stepped}
 use Rattle.machine.specs.Folded.{Folded, none, more}
-use Rattle.machine.specs.Claims.{AcceptedAlike, SteppedAlike, isForming, Chain, Reached, CodeRuns, CodeFixes}
+use Rattle.machine.specs.Claims.{AcceptedAlike, SteppedAlike, isForming, Chain, Reached, CodeRuns, CodeFixes, CodeTraffic}
 
 -- ── the tables of a chain are those of the model's run ──
 
@@ -42,13 +45,8 @@ folded-append none g = g
 folded-append (more s f) g = more s (folded-append f g)
 
 -- a run keeps the number of nodes
-run-keeps : (s : State) (es : List Event) → runFrom s es .n ≡ s .n
-unfolding runFrom effect
-run-keeps s [] = refl
-run-keeps s (e ∷ es) = run-keeps (after s e) es ∙ by-step (λ (q : Result). kept s q .n ≡ s .n) s e (λ x. refl) (λ c. refl)
-
 pub run-nodes : (n : ℕ) (es : List Event) → run n es .n ≡ n
-run-nodes n es = run-keeps (start n) es
+run-nodes n es = run-n (start n) es
 
 -- every node of a starting table
 pub start-node : (n k : ℕ) → getD (replicate n startingNode) k startingNode ≡ startingNode
@@ -70,7 +68,8 @@ answerOf r =
     (pick (eqb r 12) CounterAtEnd
     (pick (eqb r 13) CallsAtEnd
     (pick (eqb r 14) QueueFull
-    Accepted))))))))
+    (pick (eqb r 17) SentAtEnd
+    Accepted)))))))))
 
 answer-back : (a : Answer) → answerOf (answerNumber a) ≡ a
 unfolding answerOf pick
@@ -84,9 +83,15 @@ answer-back NoMessage = refl
 answer-back CounterAtEnd = refl
 answer-back CallsAtEnd = refl
 answer-back QueueFull = refl
+answer-back SentAtEnd = refl
 
 pub answer-known : (a b : Answer) → answerNumber a ≡ answerNumber b → a ≡ b
 answer-known a b e = sym (answer-back a) ∙ ap answerOf e ∙ answer-back b
+
+-- a result with a number is that refusal
+pub by-number : (x : Result) (r : ℕ) → 1 ≤ r → r ≡ resultNumber x → x ≡ refused r
+by-number (refused k) r l h = ap refused (sym h)
+by-number (accepted u m) r l h = absurd (omega arith)
 
 pub stepped-alike : SteppedAlike
 stepped-alike =
@@ -189,6 +194,20 @@ module _ (chain : Chain) (folds : (t : Table) (es : List Event) (u : Table) → 
             (sym (runs c)) (task-from-list n h .task es);
       }
 
+  pub chain-traffic : (n : ℕ) → 1 ≤ n → n ≤ nodeLimit → CodeTraffic chain n
+  chain-traffic n l h =
+      record {
+        sent-counted = λ {es} {t} c a b p q i j. ap (λ (s : State). countAt (s .sent) a b) (runs c) ∙ traffic-agrees n l h .sent-counted es a b p q i j;
+        delivered-counted = λ {es} {t} c a b p q i j. ap (λ (s : State). countAt (s .delivered) a b) (runs c) ∙ traffic-agrees n l h .delivered-counted es a b p q i j;
+        lost-counted = λ {es} {t} c a b p q i j. ap (λ (s : State). countAt (s .lost) a b) (runs c) ∙ traffic-agrees n l h .lost-counted es a b p q i j;
+        adds-up = λ {es} {t} c a b p q i j.
+            subst (λ (s : State). countAt (s .sent) a b ≡ countAt (s .delivered) a b + countAt (s .lost) a b + waiting (s .queue) a b) (sym (runs c))
+            (traffic-agrees n l h .adds-up es a b p q i j);
+        never-seventeen = λ {es} {u} {e} {r} c x a.
+            traffic-agrees n l h .never-seventeen es e
+            (ap (λ (s : State). step s e) (sym (runs c)) ∙ by-number (step (view u) e) 17 (omega arith) (sym (ap answerNumber a) ∙ x .answer));
+      }
+
 -- of the step by value
 folded : (t : Table) (es : List Event) (u : Table) → Folded t es u → Folded t es u
 folded t es u f = f
@@ -202,3 +221,6 @@ code-runs = chain-runs Folded folded
 
 pub code-fixes : (n : ℕ) → n ≤ nodeLimit → CodeFixes Folded n
 code-fixes = chain-fixes Folded folded
+
+pub code-traffic : (n : ℕ) → 1 ≤ n → n ≤ nodeLimit → CodeTraffic Folded n
+code-traffic = chain-traffic Folded folded

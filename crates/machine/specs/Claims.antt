@@ -1,15 +1,17 @@
--- What is claimed of the tables that the code returns: they are those of the model's run, and demand 3, whole, holds of them; and of the records of a recovery. The proofs
+-- What is claimed of the tables that the code returns: they are those of the model's run, and demand 3, whole, and T-05 hold of them; and of the records of a recovery. The proofs
 -- are in proofs/Runs and proofs/Recovering.
-use Prim.Native.Nat.{ℕ, _≤_}
+use Prim.Native.Nat.{ℕ, _+_, _≤_}
 use mathlib.Core.Bool.{Bool, true, false}
 use mathlib.Core.Path.{_≡_}
 use mathlib.Core.List.{List, _++_}
 use lib.ListN.{replicate}
 use Rattle.model.specs.Limits.{nodeLimit}
+use Rattle.model.specs.Counts.{countAt}
 use Rattle.model.specs.Recovery.{recoveryRecords}
-use Rattle.model.specs.State.{State, startingNode, nodeAt, inRange, view}
+use Rattle.model.specs.State.{State, startingNode, nodeAt, waiting, inRange, view}
 use Rattle.model.specs.Step.{actor, reactionTo, forms, accepted, step, runFrom, run}
 use Rattle.model.specs.History.{NotFormed, NoTask, Task, newest, coming, history}
+use Rattle.model.specs.Traffic.{sentIn, deliveredIn, lostIn}
 use Rattle.model.specs.Claims.{isActive, Lacks, Fixes, EachGroup, recordAfter}
 use Rattle.model.specs.declared.Status.the-variants.{Normal}
 use Rattle.model.specs.declared.TaskNo.{TaskNo}
@@ -18,7 +20,7 @@ use Rattle.model.specs.declared.Event.{Event}
 use Rattle.model.specs.declared.Event.the-variants.{Recover, Finish}
 use Rattle.model.specs.declared.Table.{Table}
 use Rattle.model.specs.declared.Outcome.{Outcome}
-use Rattle.model.specs.declared.Answer.the-variants.{Accepted}
+use Rattle.model.specs.declared.Answer.the-variants.{Accepted, SentAtEnd}
 use Rattle.machine.specs.declared.Start.{Start}
 use Rattle.machine.specs.declared.RecoveryAnswer.{RecoveryAnswer}
 use Rattle.machine.specs.Stepped.{Stepped, Begun, RecoveryAnswered}
@@ -104,6 +106,20 @@ pub record CodeFixes (chain : Chain) (n : ℕ) : Type 0 where
       → Fixes n es (nodeAt (view t) i .group .number) (nodeAt (view t) i .task .number)
 
 -- ── 02, T-04: recovery as the paper prints it ──
+
+-- T-05 of the tables that the code returned: each field is that of `TrafficAgrees` (model/specs/Claims), of them. t is any table that events led to; u is the one on
+-- which e is answered with r.
+pub record CodeTraffic (chain : Chain) (n : ℕ) : Type 0 where
+  -- "The records equal the counts taken from the accepted events of the run."
+  pub sent-counted : {es : List Event} {t : Table} → Reached chain n es t → (a b : ℕ) → 1 ≤ a → a ≤ nodeLimit → 1 ≤ b → b ≤ nodeLimit → countAt (t .sent) a b ≡ sentIn n es a b
+  pub delivered-counted : {es : List Event} {t : Table} → Reached chain n es t → (a b : ℕ) → 1 ≤ a → a ≤ nodeLimit → 1 ≤ b → b ≤ nodeLimit
+      → countAt (t .delivered) a b ≡ deliveredIn n es a b
+  pub lost-counted : {es : List Event} {t : Table} → Reached chain n es t → (a b : ℕ) → 1 ≤ a → a ≤ nodeLimit → 1 ≤ b → b ≤ nodeLimit → countAt (t .lost) a b ≡ lostIn n es a b
+  -- "Sent is delivered plus lost plus those waiting, for each pair."
+  pub adds-up : {es : List Event} {t : Table} → Reached chain n es t → (a b : ℕ) → 1 ≤ a → a ≤ n → 1 ≤ b → b ≤ n
+      → countAt (t .sent) a b ≡ countAt (t .delivered) a b + countAt (t .lost) a b + waiting (view t .queue) a b
+  -- "From the starting table no event ever meets the new ground"
+  pub never-seventeen : {es : List Event} {u : Table} {e : Event} {r : Outcome} → Reached chain n es u → Stepped u e r → r .answer ≡ SentAtEnd → ⊥
 
 -- Of any answer q that meets `RecoveryAnswered`, what `recovery` promises for the table t and node i: it agrees with any outcome r that meets `Stepped` for recover i on the
 -- same table, and nothing of it is free.

@@ -1,4 +1,4 @@
--- "Try these impostors", "Wrong turnings in this protocol" and 02's T-02 to T-04: what no machine does that meets `Stepped`, or `RecoveryAnswered` (mutant: 01's impostor). A machine is here
+-- "Try these impostors", "Wrong turnings in this protocol" and 02's T-02 to T-05: what no machine does that meets `Stepped`, or `RecoveryAnswered` (mutant: 01's impostor). A machine is here
 -- whatever answers an event e on a table t with an outcome r, as a function f from tables and events does with f t e; nothing is asked of how it comes to r, so it may also
 -- remember. Each field takes as little of the mutant's behaviour as shuts it out: one event, and one thing that is wrong then. The proofs are in proofs/Mutants.
 use Prim.Native.Nat.{ℕ, _+_, _≤_}
@@ -8,25 +8,27 @@ use mathlib.Core.List.{List, [], _∷_, _++_, map}
 use lib.Dec.{eqb, ltb}
 use lib.ListN.{replicate}
 use Rattle.node_set.specs.NodeSet.{has}
-use Rattle.model.specs.Limits.{nodeLimit, counterEnd}
+use Rattle.model.specs.Limits.{nodeLimit, counterEnd, trafficEnd}
+use Rattle.model.specs.Counts.{countAt, oneMore}
 use Rattle.model.specs.Node.{isDown, isNormal, hasOpenCall, groupOf, replies}
 use Rattle.model.specs.React.{leads}
 use Rattle.model.specs.Range.{isNode}
-use Rattle.model.specs.State.{State, nodeAt, waits, oldest, inRange, view, tableOf}
+use Rattle.model.specs.State.{State, nodeAt, waits, oldest, allWaiting, trafficInRange, inRange, view, tableOf}
 use Rattle.model.specs.Step.{actor, reactionTo, remaining}
 use Rattle.model.specs.Answers.{answerNumber}
-use Rattle.model.specs.Claims.{isActive, Lacks, whomNow, whomStill, whomAside, InvitationReaches, Owns, Holds, withPlainReply, recoversAtExpire, recordAfter}
+use Rattle.model.specs.Claims.{isActive, Lacks, whomNow, whomStill, whomAside, InvitationReaches, Owns, Holds, withPlainReply, MaySend, recoversAtExpire, recordAfter}
 use Rattle.model.specs.Cases.{setOf, none, node, invitedOnce}
 use Rattle.model.specs.declared.Mark.the-variants.{Merges}
 use Rattle.model.specs.declared.Status.the-variants.{Election, Reorganization, Normal}
 use Rattle.model.specs.declared.Activity.{Activity}
 use Rattle.model.specs.declared.Activity.the-variants.{Idle, Asking, Waiting, Inviting, Collecting, Handing, Contacting, Forwarding, Accepting}
 use Rattle.model.specs.declared.Message.{Message}
+use Rattle.model.specs.declared.Outgoing.the-variants.{Nothing, Send}
 use Rattle.model.specs.declared.Table.{Table}
 use Rattle.model.specs.declared.Event.{Event}
 use Rattle.model.specs.declared.Event.the-variants.{Crash, Recover, Check, Timeout, Tick, Expire, Finish, Deliver, Lose}
 use Rattle.model.specs.declared.Outcome.{Outcome}
-use Rattle.model.specs.declared.Answer.the-variants.{Accepted, QueueFull}
+use Rattle.model.specs.declared.Answer.the-variants.{Accepted, NotInRange, QueueFull, SentAtEnd}
 use Rattle.machine.specs.declared.RecoveryAnswer.{RecoveryAnswer}
 use Rattle.machine.specs.Stepped.{Stepped, startingTable, RecoveryAnswered}
 use Rattle.machine.specs.Folded.{Folded}
@@ -36,22 +38,20 @@ use Rattle.machine.specs.Claims.{isForming, Reached}
 
 -- node 1 leads node 2, has found node 3, and merges at the next tick
 abbrev pub mergingTable : State
-mergingTable = record {
-  n = 3;
-  nodes = node Normal 2 32 1 100 (setOf (2 ∷ [])) 5 (Waiting 1 (setOf (3 ∷ []))) ∷ node Normal 1 32 1 100 none 2 Idle ∷ node Normal 1 18 3 3 none 0 Idle ∷ [];
-  queue = [];
-}
+mergingTable =
+    allWaiting 3
+    (node Normal 2 32 1 100 (setOf (2 ∷ [])) 5 (Waiting 1 (setOf (3 ∷ []))) ∷ node Normal 1 32 1 100 none 2 Idle ∷ node Normal 1 18 3 3 none 0 Idle ∷ [])
+    []
 
 -- node 3 hands Ready to node 2, and node 1 is still to get it
 abbrev pub handingTable : State
-handingTable = record {
-  n = 3;
-  nodes = node Reorganization 1 50 3 1 none 2 Idle
+handingTable =
+    allWaiting 3
+    (node Reorganization 1 50 3 1 none 2 Idle
       ∷ node Reorganization 1 50 3 2 none 2 Idle
       ∷ node Reorganization 3 50 3 100 (setOf (1 ∷ 2 ∷ [])) 5 (Handing (setOf (1 ∷ [])) 2)
-      ∷ [];
-  queue = [];
-}
+      ∷ [])
+    []
 
 -- an invitation to node 2, into node 1's group 32, that says the task 200 too
 abbrev pub taskedInvitation : Message
@@ -67,19 +67,17 @@ taskedInvitation = record {
 
 -- node 2 leads its group 33, with node 1 in its members; node 1 has left it for its own group 32, and invites node 2
 abbrev pub invitedTable : State
-invitedTable = record {
-  n = 2;
-  nodes = node Normal 2 32 1 1 none 3 Idle ∷ node Normal 2 33 2 100 (setOf (1 ∷ [])) 2 Idle ∷ [];
-  queue = taskedInvitation ∷ [];
-}
+invitedTable =
+    allWaiting 2
+    (node Normal 2 32 1 1 none 3 Idle ∷ node Normal 2 33 2 100 (setOf (1 ∷ [])) 2 Idle ∷ [])
+    (taskedInvitation ∷ [])
 
 -- node 1 asks node 2 by its call 5, and the messages q wait
 abbrev pub askingTable : List Message → State
-askingTable q = record {
-  n = 3;
-  nodes = node Normal 1 16 1 1 none 5 (Asking 2 none) ∷ node Normal 1 17 2 2 none 0 Idle ∷ node Normal 1 18 3 3 none 0 Idle ∷ [];
-  queue = q;
-}
+askingTable q =
+    allWaiting 3
+    (node Normal 1 16 1 1 none 5 (Asking 2 none) ∷ node Normal 1 17 2 2 none 0 Idle ∷ node Normal 1 18 3 3 none 0 Idle ∷ [])
+    q
 
 -- ── tests ──
 
@@ -200,11 +198,10 @@ pub record NoWrongTurning : Type 0 where
 
 -- node 3 collects, with the members 1 and 2
 abbrev pub collectingTable : State
-collectingTable = record {
-  n = 3;
-  nodes = node Reorganization 1 50 3 1 none 2 Idle ∷ node Reorganization 1 50 3 2 none 2 Idle ∷ node Election 3 50 3 3 (setOf (1 ∷ 2 ∷ [])) 5 Collecting ∷ [];
-  queue = [];
-}
+collectingTable =
+    allWaiting 3
+    (node Reorganization 1 50 3 1 none 2 Idle ∷ node Reorganization 1 50 3 2 none 2 Idle ∷ node Election 3 50 3 3 (setOf (1 ∷ 2 ∷ [])) 5 Collecting ∷ [])
+    []
 
 -- "Whoever picks the next cabinet from a set shall now pick the highest, in inviting, forwarding and handing." An event that leaves the activity of its node as it was
 -- picks nobody.
@@ -234,11 +231,11 @@ pub record NoJoiningAgain : Type 0 where
   -- at its delivery no machine changes a record, of the receiver or of another, in any table
   pub changes-records : (t : Table) (a b : ℕ) → oldest a b (view t .queue) .kind ≡ 3 → Holds (view t) a b
       → {r : Outcome} → Stepped t (Deliver a b) r → (view (r .table) .nodes ≡ view t .nodes → ⊥) → ⊥
-  -- where the table is in range and the receiver not Down, no machine refuses it
-  pub refuses : (t : Table) (a b : ℕ) → InvitationReaches (view t) a b → Holds (view t) a b
+  -- where the table is in range and the receiver not Down, no machine refuses it (T-05: unless its pair's count is at its end)
+  pub refuses : (t : Table) (a b : ℕ) → InvitationReaches (view t) a b → MaySend (view t) b a → Holds (view t) a b
       → {r : Outcome} → Stepped t (Deliver a b) r → (r .answer ≡ Accepted → ⊥) → ⊥
   -- nor leaves other messages than `withPlainReply` has
-  pub other-messages : (t : Table) (a b : ℕ) → InvitationReaches (view t) a b → Holds (view t) a b
+  pub other-messages : (t : Table) (a b : ℕ) → InvitationReaches (view t) a b → MaySend (view t) b a → Holds (view t) a b
       → {r : Outcome} → Stepped t (Deliver a b) r → (view (r .table) .queue ≡ withPlainReply (view t) a b .queue → ⊥) → ⊥
   -- the opposite mistake: after an accepted delivery of an invitation to a group that the receiver neither owns nor holds, be it of the same coordinator, no machine has
   -- it Normal
@@ -288,3 +285,32 @@ pub record NoOtherRecovery : Type 0 where
   pub no-node : {t : Table} {i : ℕ} {q : RecoveryAnswer} → isNode (t .n) i ≡ false → RecoveryAnswered t i q → q .answer ≡ Accepted → ⊥
   pub not-down : {t : Table} {i : ℕ} {q : RecoveryAnswer} → isDown (nodeAt (view t) i .status) ≡ false → RecoveryAnswered t i q → q .answer ≡ Accepted → ⊥
   pub at-end : {t : Table} {i : ℕ} {q : RecoveryAnswer} → nodeAt (view t) i .counter ≡ counterEnd → RecoveryAnswered t i q → q .answer ≡ Accepted → ⊥
+
+-- ── 02, T-05: traffic totals ──
+
+-- A machine is here whatever makes the outcome r of an event on a table t, by the contract of the step.
+pub record NoOtherCounts : Type 0 where
+  -- one that counts a refused event
+  pub counts-refused : {t : Table} {e : Event} {r : Outcome} → Stepped t e r → (r .answer ≡ Accepted → ⊥) → (r .table .sent ≡ t .sent → ⊥) → ⊥
+  -- a loss as a delivery, a delivery as a loss, or either as something sent
+  pub lost-as-delivered : {t : Table} {a b : ℕ} {r : Outcome} → Stepped t (Lose a b) r → (r .table .delivered ≡ t .delivered → ⊥) → ⊥
+  pub delivered-as-lost : {t : Table} {a b : ℕ} {r : Outcome} → Stepped t (Deliver a b) r → (r .table .lost ≡ t .lost → ⊥) → ⊥
+  pub lost-as-sent : {t : Table} {a b : ℕ} {r : Outcome} → Stepped t (Lose a b) r → (r .table .sent ≡ t .sent → ⊥) → ⊥
+  -- an accepted deliver or lose not at all, or in another pair than its own
+  pub delivery-uncounted : {t : Table} {a b : ℕ} {r : Outcome} → Stepped t (Deliver a b) r → r .answer ≡ Accepted
+      → (r .table .delivered ≡ oneMore (t .delivered) a b → ⊥) → ⊥
+  pub loss-uncounted : {t : Table} {a b : ℕ} {r : Outcome} → Stepped t (Lose a b) r → r .answer ≡ Accepted → (r .table .lost ≡ oneMore (t .lost) a b → ⊥) → ⊥
+  -- a message that is sent not at all, or in another pair than its own
+  pub sent-uncounted : {t : Table} {e : Event} {r : Outcome} (m : Message) → Stepped t e r → r .answer ≡ Accepted → reactionTo (view t) e .outgoing ≡ Send m
+      → (r .table .sent ≡ oneMore (t .sent) (m .sender) (m .receiver) → ⊥) → ⊥
+  -- and where none is sent, one all the same
+  pub none-sent : {t : Table} {e : Event} {r : Outcome} → Stepped t e r → reactionTo (view t) e .outgoing ≡ Nothing → (r .table .sent ≡ t .sent → ⊥) → ⊥
+  -- one that sends a message of a pair whose count is at its end
+  pub past-end : {t : Table} {e : Event} {r : Outcome} (m : Message) → Stepped t e r → reactionTo (view t) e .outgoing ≡ Send m
+      → countAt (t .sent) (m .sender) (m .receiver) ≡ trafficEnd → r .answer ≡ Accepted → ⊥
+  -- one that gives 17 where nothing is sent, or another pair's count, or none, is at its end
+  pub seventeen-unsent : {t : Table} {e : Event} {r : Outcome} → Stepped t e r → reactionTo (view t) e .outgoing ≡ Nothing → r .answer ≡ SentAtEnd → ⊥
+  pub seventeen-early : {t : Table} {e : Event} {r : Outcome} (m : Message) → Stepped t e r → reactionTo (view t) e .outgoing ≡ Send m
+      → (countAt (t .sent) (m .sender) (m .receiver) ≡ trafficEnd → ⊥) → r .answer ≡ SentAtEnd → ⊥
+  -- one that takes a table whose counts do not add up
+  pub takes-wrong-sums : {t : Table} {e : Event} {r : Outcome} → trafficInRange (view t) ≡ false → Stepped t e r → (r .answer ≡ NotInRange → ⊥) → ⊥

@@ -1,25 +1,25 @@
 -- What the inner functions compute: parts of the model's step, over one node, one message and numbers, or over the table's arrays.
-use Prim.Native.Nat.{ℕ, suc, _+_, _-_, _≤_, _<_}
+use Prim.Native.Nat.{ℕ, suc, _+_, _-_, _*_, _%_, _≤_, _<_}
 use mathlib.Core.Path.{_≡_}
 use mathlib.Core.Logic.{_⊎_}
 use mathlib.Core.Bool.{Bool, true, false, not, _&&_}
 use mathlib.Core.List.{List, [], _∷_, _++_}
 use lib.Dec.{eqb, ltb}
-use lib.ListN.{length, take, drop, set}
+use lib.ListN.{length, take, drop, set, getD}
 use Rattle.model.specs.Pick.{pick}
-use Rattle.model.specs.Limits.{nodeLimit, queueLimit, counterEnd, callEnd}
+use Rattle.model.specs.Limits.{nodeLimit, queueLimit, counterEnd, callEnd, trafficEnd}
 use Rattle.model.specs.Procedures.{stays}
 use Rattle.model.specs.React.{react}
 use Rattle.model.specs.State.{State, goes}
 use Rattle.model.specs.Answers.{answerNumber}
-use Rattle.model.specs.Step.{actor, wrongNumber, wrongTask, wrongStatus, wrongActivity, forms, isCalling, isSending, sent, Ground, ground}
+use Rattle.model.specs.Step.{actor, wrongNumber, wrongTask, wrongStatus, wrongActivity, forms, isCalling, isSending, pairAtEnd, sent, Ground, ground}
 use Rattle.model.specs.declared.Node.{Node}
 use Rattle.model.specs.declared.Message.{Message}
 use Rattle.model.specs.declared.Outgoing.{Outgoing}
 use Rattle.model.specs.declared.Outgoing.the-variants.{Nothing, Send}
 use Rattle.model.specs.declared.Reaction.{Reaction}
 use Rattle.model.specs.declared.Answer.{Answer}
-use Rattle.model.specs.declared.Answer.the-variants.{Accepted, NotInRange, WrongNumber, WrongTask, WrongStatus, WrongActivity, NoMessage, CounterAtEnd, CallsAtEnd, QueueFull}
+use Rattle.model.specs.declared.Answer.the-variants.{Accepted, NotInRange, WrongNumber, WrongTask, WrongStatus, WrongActivity, NoMessage, CounterAtEnd, CallsAtEnd, QueueFull, SentAtEnd}
 use Rattle.model.specs.declared.Input.{Input}
 use Rattle.model.specs.declared.Input.the-variants as Input
 use Rattle.node_step.specs.Fits.{Fits}
@@ -73,9 +73,65 @@ placeFor q (Finish i t) = length q
 placeFor q (Deliver a b) = place a b q
 placeFor q (Lose a b) = place a b q
 
--- the state after the reaction r: r's record stored at place `at`, the message at place k out, and what is sent in
-abbrev pub stored : State → ℕ → ℕ → Reaction → State
-stored s k at r = record { n = s .n; nodes = set (s .nodes) at (r .node); queue = without k (s .queue) ++ sent (r .outgoing) }
+-- ── the counts by places (T-05): each event raises one count of each kind, by 1 or by 0 ──
+
+-- the place of the count from a to b, where both are 1 to 16; one of the 256 for any numbers
+abbrev pub placeOf : ℕ → ℕ → ℕ
+placeOf a b = (a + 15) % 16 * 16 + (b + 15) % 16
+
+-- of what was sent: where, and by how much
+abbrev pub sentPlace : Outgoing → ℕ
+sentPlace Nothing = 0
+sentPlace (Send m) = placeOf (m .sender) (m .receiver)
+
+abbrev pub sentBy : Outgoing → ℕ
+sentBy Nothing = 0
+sentBy (Send m) = 1
+
+-- of what was delivered and lost
+abbrev pub movedPlace : Event → ℕ
+movedPlace e = placeOf (sender e) (actor e)
+
+abbrev pub deliveredBy : Event → ℕ
+deliveredBy (Crash i) = 0
+deliveredBy (Recover i) = 0
+deliveredBy (Check i) = 0
+deliveredBy (Timeout i) = 0
+deliveredBy (Tick i) = 0
+deliveredBy (Expire i) = 0
+deliveredBy (Finish i t) = 0
+deliveredBy (Deliver a b) = 1
+deliveredBy (Lose a b) = 0
+
+abbrev pub lostBy : Event → ℕ
+lostBy (Crash i) = 0
+lostBy (Recover i) = 0
+lostBy (Check i) = 0
+lostBy (Timeout i) = 0
+lostBy (Tick i) = 0
+lostBy (Expire i) = 0
+lostBy (Finish i t) = 0
+lostBy (Deliver a b) = 0
+lostBy (Lose a b) = 1
+
+-- counts with the one at place p raised by k
+abbrev pub raised : List ℕ → ℕ → ℕ → List ℕ
+raised l p k = set l p (getD l p 0 + k)
+
+-- no count is above the end
+abbrev pub Small : List ℕ → Type 0
+Small l = (p : ℕ) → getD l p 0 ≤ trafficEnd
+
+-- the state after the event e with the reaction r: r's record stored at place `at`, the message at place k out, what is sent in, and both counted
+abbrev pub stored : State → Event → ℕ → ℕ → Reaction → State
+stored s e k at r = record {
+  n = s .n;
+  nodes = set (s .nodes) at (r .node);
+  queue = without k (s .queue) ++ sent (r .outgoing);
+  sent = raised (s .sent) (sentPlace (r .outgoing)) (sentBy (r .outgoing));
+  delivered = raised (s .delivered) (movedPlace e) (deliveredBy e);
+  lost = raised (s .lost) (movedPlace e) (lostBy e);
+}
 
 -- w messages wait, and one of them, at k, goes out; or none, where k is w
 abbrev pub Left : ℕ → ℕ → ℕ → Type 0
@@ -102,13 +158,21 @@ abbrev pub stateGrounds : Node → Event → Bool → List Ground
 stateGrounds c e found =
     ground 9 (wrongStatus (c .status) e) ∷ ground 10 (wrongActivity (c .activity) e) ∷ ground 11 (takes e && not found) ∷ []
 
--- by the ends of the ranges; left: how many messages wait once the event's own is out
+-- by the ends of the ranges, 17 apart; left: how many messages wait once the event's own is out
 abbrev pub endGrounds : Node → Reaction → ℕ → List Ground
 endGrounds c r left =
     ground 12 (forms (r .mark) && eqb (c .counter) counterEnd)
     ∷ ground 13 (isCalling (r .outgoing) && eqb (c .last .number) callEnd)
     ∷ ground 14 (isSending (r .outgoing) && eqb left queueLimit)
     ∷ []
+
+-- 17, behind all others, by the counts of what was sent
+abbrev pub lastGrounds : List ℕ → Outgoing → List Ground
+lastGrounds l o = ground 17 (pairAtEnd l o) ∷ []
+
+-- the same from the number r that the others gave and the count x of the pair
+abbrev pub withLast : ℕ → Outgoing → ℕ → ℕ
+withLast r o x = pick (eqb r 0 && isSending o && eqb x trafficEnd) 17 r
 
 abbrev pub isAccepted : Answer → Bool
 isAccepted Accepted = true
@@ -121,6 +185,7 @@ isAccepted NoMessage = false
 isAccepted CounterAtEnd = false
 isAccepted CallsAtEnd = false
 isAccepted QueueFull = false
+isAccepted SentAtEnd = false
 
 -- ── the reaction to an event, of the node's record c and the message m ──
 abbrev pub reactsTo : ℕ → Node → Message → Event → Reaction
@@ -175,6 +240,7 @@ FitsMessage m (Lose a b) = Unit {0}
 abbrev pub leftOf : ℕ → ℕ → ℕ
 leftOf waiting k = pick (ltb k waiting) (waiting - 1) waiting
 
+-- 7 to 14
 abbrev pub allGrounds : ℕ → ℕ → ℕ → Node → Message → Event → List Ground
 allGrounds n waiting k c m e = numberGrounds n e ++ (stateGrounds c e (ltb k waiting) ++ endGrounds c (reactsTo n c m e) (leftOf waiting k))
 
@@ -184,7 +250,7 @@ pub record Judging (n waiting k : ℕ) (c : Node) (m : Message) (e : Event) : Ty
   pub message : first (numberGrounds n e) ≡ 0 → first (stateGrounds c e (ltb k waiting)) ≡ 0 → FitsMessage m e
 
 pub record Judged (n waiting k : ℕ) (c : Node) (m : Message) (e : Event) (v : Verdict) : Type 0 where
-  -- the first ground's number, or 0
+  -- the number of the first ground from 7 to 14, or 0
   pub answer : answerNumber (v .answer) ≡ first (allGrounds n waiting k c m e)
   -- what the node does, where none applies
   pub reaction : answerNumber (v .answer) ≡ 0 → v .reaction ≡ reactsTo n c m e

@@ -5,6 +5,7 @@ use mathlib.Core.List.{List}
 use lib.ListN.{replicate}
 use Rattle.model.specs.Pick.{pick}
 use Rattle.model.specs.Limits.{nodeLimit, queueLimit}
+use Rattle.model.specs.Counts.{noCounts}
 use Rattle.model.specs.Recovery.{recoveryRecords}
 use Rattle.model.specs.State.{State, startingNode, start, wrongCount, nodeAt, noMessage, view}
 use Rattle.model.specs.Step.{Result, refused, accepted, step, after}
@@ -36,7 +37,15 @@ startNumber WrongCount = 6
 
 -- "all Down and idle, every number 0, every set empty, no messages": in every record and every place of the code's table
 abbrev pub startingTable : ℕ → Table
-startingTable n = record { n = n; nodes = replicate nodeLimit startingNode; messages = replicate queueLimit noMessage; waiting = 0 }
+startingTable n = record {
+  n = n;
+  nodes = replicate nodeLimit startingNode;
+  messages = replicate queueLimit noMessage;
+  waiting = 0;
+  sent = noCounts;
+  delivered = noCounts;
+  lost = noCounts;
+}
 
 -- What `starting` answers for n, and the table that it returns, also where it refuses n.
 pub record Begun (n : ℕ) (r : Start) : Type 0 where

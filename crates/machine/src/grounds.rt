@@ -1,7 +1,7 @@
 // The grounds of an event, and what its node does: functions over one node, one message and numbers.
 ghost use mathlib.Core.Path.{_≡_};
 ghost use mathlib.Core.Bool.{Bool, true, not, _&&_};
-ghost use Prim.Native.Nat.{ℕ, _-_, _≤_};
+ghost use Prim.Native.Nat.{ℕ, _-_, _≤_, _<_};
 ghost use Rattle.model.specs.Pick.{pick};
 ghost use Rattle.model.specs.Range.{isNode, isOther};
 ghost use Rattle.model.specs.Answers.{answerNumber};
@@ -15,6 +15,7 @@ use model::Event;
 use model::Input;
 use model::Message;
 use model::Node;
+use model::Outgoing;
 use model::Reaction;
 use model::Status;
 
@@ -186,6 +187,16 @@ pub fn end_answer(c: Node, r: Reaction, left: u8) -> Answer
     Answer::Accepted
 }
 
+// Ground 17, behind the others: answer is what they gave, and count is of the pair of what is sent.
+pub fn with_last(answer: Answer, outgoing: Outgoing, count: u32) -> Answer
+    ensures { λ r. ⌜ answerNumber r ≡ parts.withLast (answerNumber answer) outgoing count ⌝ }
+{
+    if is_accepted(answer) & node_step::is_sending(outgoing) & (count == 33554430) {
+        return Answer::SentAtEnd;
+    }
+    answer
+}
+
 pub fn is_accepted(a: Answer) -> bool
     ensures { λ r. ⌜ r ≡ parts.isAccepted a ⌝ }
 {
@@ -200,6 +211,7 @@ pub fn is_accepted(a: Answer) -> bool
         Answer::CounterAtEnd => false,
         Answer::CallsAtEnd => false,
         Answer::QueueFull => false,
+        Answer::SentAtEnd => false,
     }
 }
 
@@ -218,6 +230,7 @@ pub fn answer_number(a: Answer) -> u8
         Answer::CounterAtEnd => 12,
         Answer::CallsAtEnd => 13,
         Answer::QueueFull => 14,
+        Answer::SentAtEnd => 17,
     }
 }
 
@@ -276,7 +289,72 @@ pub fn left_of(waiting: u8, found: bool) -> u8
     waiting
 }
 
-// The whole judgement of an event: c is its node's record, m the message at place k of the waiting ones.
+// The place of the count from a to b.
+fn place(a: u8, b: u8) -> usize
+    ensures { λ r. ⌜ (r ≡ parts.placeOf a b) × (r < 256) ⌝ }
+{
+    (a as usize + 15) % 16 * 16 + (b as usize + 15) % 16
+}
+
+// Where the count of what is sent stands, and by how much it is raised.
+pub fn sent_place(o: Outgoing) -> usize
+    ensures { λ r. ⌜ (r ≡ parts.sentPlace o) × (r < 256) ⌝ }
+{
+    match o {
+        Outgoing::Nothing => 0,
+        Outgoing::Send(m) => place(m.sender, m.receiver),
+    }
+}
+
+pub fn sent_by(o: Outgoing) -> u32
+    ensures { λ r. ⌜ (r ≡ parts.sentBy o) × (r ≤ 1) ⌝ }
+{
+    match o {
+        Outgoing::Nothing => 0,
+        Outgoing::Send(_) => 1,
+    }
+}
+
+// Where the counts of what the event delivers and loses stand, and by how much each is raised.
+pub fn moved_place(e: Event) -> usize
+    ensures { λ r. ⌜ (r ≡ parts.movedPlace e) × (r < 256) ⌝ }
+{
+    place(sender(e), actor(e))
+}
+
+pub fn delivered_by(e: Event) -> u32
+    ensures { λ r. ⌜ (r ≡ parts.deliveredBy e) × (r ≤ 1) ⌝ }
+{
+    match e {
+        Event::Crash(_) => 0,
+        Event::Recover(_) => 0,
+        Event::Check(_) => 0,
+        Event::Timeout(_) => 0,
+        Event::Tick(_) => 0,
+        Event::Expire(_) => 0,
+        Event::Finish(_, _) => 0,
+        Event::Deliver(_, _) => 1,
+        Event::Lose(_, _) => 0,
+    }
+}
+
+pub fn lost_by(e: Event) -> u32
+    ensures { λ r. ⌜ (r ≡ parts.lostBy e) × (r ≤ 1) ⌝ }
+{
+    match e {
+        Event::Crash(_) => 0,
+        Event::Recover(_) => 0,
+        Event::Check(_) => 0,
+        Event::Timeout(_) => 0,
+        Event::Tick(_) => 0,
+        Event::Expire(_) => 0,
+        Event::Finish(_, _) => 0,
+        Event::Deliver(_, _) => 0,
+        Event::Lose(_, _) => 1,
+    }
+}
+
+// The judgement of an event by the grounds 7 to 14: c is its node's record, m the message at place k of the waiting ones.
 pub fn judge(n: u8, waiting: u8, k: usize, c: Node, m: Message, e: Event) -> Verdict
     requires { ⌜ parts.Judging n waiting k c m e ⌝ }
     ensures { λ v. ⌜ parts.Judged n waiting k c m e v ⌝ }

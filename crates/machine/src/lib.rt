@@ -10,9 +10,14 @@ ghost use Rattle.model.specs.State.{startingNode, view, inRange};
 ghost use Rattle.machine.specs.Stepped.{Stepped, startingTable, Begun, RecoveryAnswered};
 pub use grounds::actor;
 pub use grounds::answer_number;
+pub use grounds::delivered_by;
 pub use grounds::is_accepted;
 pub use grounds::judge;
+pub use grounds::lost_by;
+pub use grounds::moved_place;
 pub use grounds::sender;
+pub use grounds::sent_by;
+pub use grounds::sent_place;
 pub use grounds::takes;
 use model::Activity;
 use model::Answer;
@@ -86,6 +91,9 @@ fn blank(n: u8) -> Table
         nodes: [c; 16],
         messages: [m; 64],
         waiting: 0,
+        sent: [0; 256],
+        delivered: [0; 256],
+        lost: [0; 256],
     }
 }
 
@@ -124,15 +132,19 @@ pub fn advance(t: Table, e: Event) -> Outcome
     let at = (grounds::actor(e) as usize + 15) % 16;
     let c = t.nodes[at];
     let v = grounds::judge(n, waiting, k, c, m, e);
-    let answer = v.answer;
+    let r = v.reaction;
+    let outgoing = r.outgoing;
+    let first = v.answer;
+    let p = grounds::sent_place(outgoing);
+    let count = t.sent[p];
+    let answer = grounds::with_last(first, outgoing, count);
     if !grounds::is_accepted(answer) {
         return Outcome {
             answer: answer,
             table: t,
         };
     }
-    let r = v.reaction;
-    let next = queue::stored(t, k, grounds::left_of(waiting, k < waiting as usize), at, r);
+    let next = queue::stored(t, e, k, grounds::left_of(waiting, k < waiting as usize), at, r);
     Outcome {
         answer: Answer::Accepted,
         table: next,

@@ -46,11 +46,12 @@ pub fn place_for(t: Table, e: Event) -> usize
     t.waiting as usize
 }
 
-// The table with r's record at `at`, the message at k out and r's message in; left is how many wait between.
-pub fn stored(t: Table, k: usize, left: u8, at: usize, r: Reaction) -> Table
+// The table with r's record at `at`, the message at k out and r's message in, and both counted; left is how many wait between.
+pub fn stored(t: Table, e: Event, k: usize, left: u8, at: usize, r: Reaction) -> Table
     requires { ⌜ (t .waiting ≤ 64) × (k ≤ left) × (parts.Left (t .waiting) k left) × (at < t .n) × (t .n ≤ 16) ⌝ }
     requires { ⌜ parts.Room (r .outgoing) left ⌝ }
-    ensures { λ u. ⌜ view u ≡ parts.stored (view t) k at r ⌝ }
+    requires { ⌜ parts.Small (t .sent) × parts.Small (t .delivered) × parts.Small (t .lost) ⌝ }
+    ensures { λ u. ⌜ view u ≡ parts.stored (view t) e k at r ⌝ }
 {
     let node = r.node;
     let outgoing = r.outgoing;
@@ -63,6 +64,11 @@ pub fn stored(t: Table, k: usize, left: u8, at: usize, r: Reaction) -> Table
         j += 1;
     }
     next.nodes[at] = node;
+    let p = grounds::sent_place(outgoing);
+    next.sent[p] = next.sent[p] + grounds::sent_by(outgoing);
+    let i = grounds::moved_place(e);
+    next.delivered[i] = next.delivered[i] + grounds::delivered_by(e);
+    next.lost[i] = next.lost[i] + grounds::lost_by(e);
     match outgoing {
         Outgoing::Nothing => {
             next.waiting = left;

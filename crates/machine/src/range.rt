@@ -55,5 +55,5 @@ pub fn in_range(t: Table) -> bool
     if 64 < waiting {
         return false;
     }
-    nodes_in_range(t) & messages_in_range(t)
+    nodes_in_range(t) & messages_in_range(t) & traffic::traffic_in_range(t)
 }

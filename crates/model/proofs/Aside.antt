@@ -58,7 +58,7 @@ sent-room j l (Send m) h k =
     let b = set-bounded l p k (getD l p 0 + 1) (trafficEnd - suc j) (omega (arith, h k)) (omega (arith, h p)) in
     omega (arith, b, h k)
 
-below : (l : List ℕ) (o : Outgoing) → BelowEnd l → pairAtEnd l o ≡ false
+pub below : (l : List ℕ) (o : Outgoing) → BelowEnd l → pairAtEnd l o ≡ false
 below l Nothing h = refl
 below l (Send m) h = let p = pairPlace (m .sender) (m .receiver) in ne-eqb (getD l p 0) trafficEnd (λ q. omega (arith, q, h p))
 

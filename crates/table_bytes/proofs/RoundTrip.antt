@@ -5,7 +5,7 @@ use mathlib.Core.Path.{_≡_, refl, _∙_, ap}
 use mathlib.Core.Bool.{Bool, true, false}
 use mathlib.Core.List.{List, [], _∷_, _++_, append-assoc, append-nil}
 use lib.Dec.{eqb}
-use lib.ListN.{length, drop, length-append}
+use lib.ListN.{length, drop}
 use lib.Seq.{drop-at}
 use Rattle.model.specs.Pick.{pick}
 use Rattle.model.specs.Answers.{statusNumber}
@@ -16,10 +16,10 @@ use Rattle.model.specs.declared.Activity.the-variants.{Idle, Asking, Waiting, I
 use Rattle.model.specs.declared.Node.{Node}
 use Rattle.model.specs.declared.Message.{Message}
 use Rattle.model.specs.declared.Table.{Table}
-use Rattle.table_bytes.specs.Bytes.{number, bytes, many, all, partsOf, activityOf, statusOf, nodeOf, messageOf, decoded, yesNumber, partsBytes, nodeBytes, messageBytes, size, encoded, written, Stored, recordsSize, RecordsStored, NodeFits, MessageFits, Each, Fits}
+use Rattle.table_bytes.specs.Bytes.{number, bytes, many, all, partsOf, activityOf, statusOf, nodeOf, messageOf, countOf, decoded, yesNumber, partsBytes, nodeBytes, messageBytes, size, encoded, written, Stored, recordsSize, RecordsStored, NodeFits, MessageFits, Each, CountFits, Fits}
 use Rattle.table_bytes.specs.Claims.{ReadBack}
 use Rattle.table_bytes.proofs.Numbers.{read, number-at, length-bytes, written-over}
-use Rattle.table_bytes.proofs.Records.{all-long, node-long, message-long, nodes-end, messages-end}
+use Rattle.table_bytes.proofs.Records.{all-long, node-long, message-long, lengths, toNodes, toMessages, toWaiting, toSent, toDelivered, nodes-end, messages-end, waiting-end, sent-end, delivered-end, encoded-size}
 
 -- ── records of one size ──
 module _ {A : Type 0} (f : List ℕ → A) (g : A → List ℕ) (size : ℕ) (long : (x : A) → length (g x) ≡ size) (P : A → Type 0) (back : (x : A) → P x → (l : List ℕ) → f (g x ++ l) ≡ x) where
@@ -29,8 +29,9 @@ module _ {A : Type 0} (f : List ℕ → A) (g : A → List ℕ) (size : ℕ) (lo
   many-all (x ∷ xs) h l =
       rw (append-assoc (g x) (all g xs) l, back x (h .0), drop-at (g x) (all g xs ++ l) size (long x), many-all xs (h .1) l)
 
-  many-back : (k : ℕ) (xs : List A) → length xs ≡ k → Each P xs → (l : List ℕ) → many f size k (all g xs ++ l) ≡ xs
-  many-back k xs e h l = rw (← e) (many-all xs h l)
+  -- k of them that stand behind n bytes
+  many-back : (k n : ℕ) (a : List ℕ) (xs : List A) → length a ≡ n → (length xs ≡ k) × Each P xs → (l : List ℕ) → many f size k (drop n (a ++ (all g xs ++ l))) ≡ xs
+  many-back k n a xs e h l = rw (drop-at a (all g xs ++ l) n e, ← h .0) (many-all xs (h .1) l)
 
 -- ── the records ──
 status-back : (s : Status) → statusOf (statusNumber s) ≡ s
@@ -79,13 +80,21 @@ unfolding number bytes messageOf messageBytes
 message-back m h l =
     rw (read 1 (m .sender) (h .sender), read 1 (m .receiver) (h .receiver), read 1 (m .kind) (h .kind), read 4 (m .call .number) (h .call), read 4 (m .group .number) (h .group), read 2 (m .task .number) (h .task), read 1 (yesNumber (m .yes)) (yes-small (m .yes)), yes-back)
 
+count-back : (x : ℕ) → CountFits x → (l : List ℕ) → countOf (bytes 4 x ++ l) ≡ x
+unfolding number bytes
+count-back x h l = read 4 x h
+
+counts-back : (n : ℕ) (a xs : List ℕ) → length a ≡ n → (length xs ≡ 256) × Each CountFits xs → (l : List ℕ) → many countOf 4 256 (drop n (a ++ (all (bytes 4) xs ++ l))) ≡ xs
+counts-back = many-back countOf (bytes 4) 4 (length-bytes 4) CountFits count-back 256
+
 -- ── the table ──
 one-back : (x : ℕ) → x < 256 → (l : List ℕ) → number 1 (bytes 1 x ++ l) 0 ≡ x
 unfolding number bytes
 one-back x h l = read 1 x h
 
-table-is : {n m w v : ℕ} {xs ys : List Node} {qs rs : List Message} → n ≡ m → xs ≡ ys → qs ≡ rs → w ≡ v → _≡_ {A = Table} (record { n = n; nodes = xs; messages = qs; waiting = w }) (record { n = m; nodes = ys; messages = rs; waiting = v })
-table-is a b c d = cc
+table-is : (t : Table) {n w : ℕ} {xs : List Node} {qs : List Message} {ss ds ls : List ℕ} → n ≡ t .n → xs ≡ t .nodes → qs ≡ t .messages → w ≡ t .waiting → ss ≡ t .sent → ds ≡ t .delivered → ls ≡ t .lost
+    → _≡_ {A = Table} (record { n = n; nodes = xs; messages = qs; waiting = w; sent = ss; delivered = ds; lost = ls }) t
+table-is t a b c d e f g = rw (a, b, c, d, e, f, g)
 
 module _ (t : Table) (h : Fits t) (l : List ℕ) where
   n-back : number 1 (encoded t ++ l) 0 ≡ t .n
@@ -93,35 +102,45 @@ module _ (t : Table) (h : Fits t) (l : List ℕ) where
   n-back = read 1 (t .n) (h .n)
 
   nodes-back : many nodeOf 29 16 (drop 1 (encoded t ++ l)) ≡ t .nodes
-  unfolding encoded bytes
-  nodes-back = rw (append-assoc, append-assoc) (many-back nodeOf nodeBytes 29 node-long NodeFits node-back 16 (t .nodes) (h .nodes .0) (h .nodes .1) _)
+  unfolding encoded
+  nodes-back =
+      rw (append-assoc, append-assoc, append-assoc, append-assoc, append-assoc, append-assoc)
+      (many-back nodeOf nodeBytes 29 node-long NodeFits node-back 16 1 (bytes 1 (t .n)) (t .nodes) (length-bytes 1 (t .n)) (h .nodes) _)
 
   messages-back : many messageOf 14 64 (drop 465 (encoded t ++ l)) ≡ t .messages
   unfolding encoded
   messages-back =
-      rw (append-assoc, append-assoc, drop-at (bytes 1 (t .n) ++ all nodeBytes (t .nodes)) _ 465 (nodes-end t (h .nodes .0)))
-      (many-back messageOf messageBytes 14 message-long MessageFits message-back 64 (t .messages) (h .messages .0) (h .messages .1) _)
+      rw (append-assoc, append-assoc, append-assoc, append-assoc, append-assoc)
+      (many-back messageOf messageBytes 14 message-long MessageFits message-back 64 465 (toNodes t) (t .messages) (nodes-end t (lengths t h)) (h .messages) _)
 
   waiting-back : number 1 (encoded t ++ l) 1361 ≡ t .waiting
   unfolding encoded
   waiting-back =
-      rw (append-assoc, number-at 1 (bytes 1 (t .n) ++ all nodeBytes (t .nodes) ++ all messageBytes (t .messages)) _ 1361 (messages-end t (h .nodes .0) (h .messages .0)))
-      (one-back (t .waiting) (h .waiting) l)
+      rw (append-assoc, append-assoc, append-assoc, append-assoc, number-at 1 (toMessages t) _ 1361 (messages-end t (lengths t h)))
+      (one-back (t .waiting) (h .waiting) _)
+
+  sent-back : many countOf 4 256 (drop 1362 (encoded t ++ l)) ≡ t .sent
+  unfolding encoded
+  sent-back = rw (append-assoc, append-assoc, append-assoc) (counts-back 1362 (toWaiting t) (t .sent) (waiting-end t (lengths t h)) (h .sent) _)
+
+  delivered-back : many countOf 4 256 (drop 2386 (encoded t ++ l)) ≡ t .delivered
+  unfolding encoded
+  delivered-back = rw (append-assoc, append-assoc) (counts-back 2386 (toSent t) (t .delivered) (sent-end t (lengths t h)) (h .delivered) _)
+
+  lost-back : many countOf 4 256 (drop 3410 (encoded t ++ l)) ≡ t .lost
+  unfolding encoded
+  lost-back = rw append-assoc (counts-back 3410 (toDelivered t) (t .lost) (delivered-end t (lengths t h)) (h .lost) _)
 
   -- also where more bytes come after them
   decode-more : decoded (encoded t ++ l) ≡ t
   unfolding decoded
-  decode-more = table-is n-back nodes-back messages-back waiting-back
+  decode-more = table-is t n-back nodes-back messages-back waiting-back sent-back delivered-back lost-back
 
 decode-encode : (t : Table) → Fits t → decoded (encoded t) ≡ t
 decode-encode t h = rw (← append-nil (encoded t)) (decode-more t h [])
 
-pub encoded-size : (t : Table) → length (t .nodes) ≡ 16 → length (t .messages) ≡ 64 → length (encoded t) ≡ size
-unfolding encoded
-encoded-size t n m = rw (length-append, messages-end t n m, length-bytes)
-
 encoded-long : (t : Table) → Fits t → length (encoded t) ≡ size
-encoded-long t h = encoded-size t (h .nodes .0) (h .messages .0)
+encoded-long t h = encoded-size t (lengths t h)
 
 over : (t : Table) → Fits t → (out : List ℕ) → size ≤ length out → written out 0 (encoded t) ≡ encoded t ++ drop size out
 over t h out room =
@@ -146,7 +165,7 @@ records-stored l e h b o w =
     record {
       bytes = w;
       whole = over;
-      back = λ room. ap (many nodeOf 29 8) (over room) ∙ many-back nodeOf nodeBytes 29 node-long NodeFits node-back 8 l e h (drop recordsSize b);
+      back = λ room. ap (many nodeOf 29 8) (over room) ∙ many-back nodeOf nodeBytes 29 node-long NodeFits node-back 8 0 [] l refl (e, h) (drop recordsSize b);
     }
   where
     long : length (all nodeBytes l) ≡ recordsSize

@@ -9,6 +9,7 @@ use denote.Laws.{Is}
 use denote.Shadow.{shadow}
 use denote.Array.{Array, each}
 use denote.RattleType.{RattleType}
+use denote.Struct.Field.{u32-field}
 use denote.Struct.Declared as struct
 use denote.Enum.Declared as enum
 use Rattle.model.specs.declared.Activity.{Activity}
@@ -20,7 +21,7 @@ use Rattle.model.proofs.Activity as activity
 use Rattle.model.proofs.Node as node
 use Rattle.model.proofs.Message as message
 use Rattle.model.proofs.Table as table
-use Rattle.table_bytes.specs.Bytes.{partsOf, PartsFit, NodeFits, MessageFits, Each, Fits}
+use Rattle.table_bytes.specs.Bytes.{partsOf, PartsFit, NodeFits, MessageFits, Each, CountFits, Fits}
 
 parts-fit : (a : Activity) {vs : List Val} → Is (enum.row activity.the-type) a vs → PartsFit (partsOf a)
 parts-fit Idle g = record { tag = omega arith; set = omega arith; former = omega arith; node = omega arith; caller = omega arith; call = omega arith }
@@ -72,7 +73,7 @@ message-fits m g =
       task = h .1 .1 .0 .1 .1 .0 .1;
     }
 
--- of each element of an array: R is the elements' type, and h takes an element to what R owns
+-- of an array and each element of it: R is the elements' type, and h takes an element to what R owns
 module _ {A : Type 0} (R : RattleType) (h : A → R .Denot) (P : A → Type 0) (fits : (x : A) (vs : List Val) → Is R (h x) vs → P x) where
   each-fits : (xs : List A) (us : List Val) → shadow (each (R .Denot) (R .own) (map h xs) us) → Each P xs
   unfolding Each
@@ -80,24 +81,33 @@ module _ {A : Type 0} (R : RattleType) (h : A → R .Denot) (P : A → Type 0) (
   each-fits (x ∷ xs) [] s = absurd s
   each-fits (x ∷ xs) (u ∷ us) s = (fits x (u ∷ []) (s .0), each-fits xs us (s .1))
 
+  array-fits : (k : ℕ) (xs : List A) {vs : List Val} → Is (Array R k) (map h xs) vs → (length xs ≡ k) × Each P xs
+  array-fits k xs g = (sym (length-map xs h) ∙ g .1 .0 .1, each-fits xs (g .0) (g .1 .1))
+
 map-identity : {A : Type 0} (xs : List A) → map (λ x. x) xs ≡ xs
 map-identity [] = refl
 map-identity {A} (x ∷ xs) = ap (λ (r : List A). x ∷ r) (map-identity xs)
 
 -- records owned as an array
 pub records-fit : (k : ℕ) (xs : List Node) {vs : List Val} → Is (Array (struct.row node.the-type) k) xs vs → (length xs ≡ k) × Each NodeFits xs
-records-fit k xs g =
-    let own = subst (λ (l : List Node). shadow (each Node (struct.row node.the-type .own) l (g .0))) (sym (map-identity xs)) (g .1 .1) in
-    (g .1 .0 .1, each-fits (struct.row node.the-type) (λ c. c) NodeFits (λ c vs f. node-fits c {vs = vs} f) xs (g .0) own)
+records-fit k xs {vs} g =
+    array-fits (struct.row node.the-type) (λ c. c) NodeFits (λ c us f. node-fits c {vs = us} f) k xs {vs = vs}
+    (subst (λ (l : List Node). Is (Array (struct.row node.the-type) k) l vs) (sym (map-identity xs)) g)
+
+-- counts owned as a field of a struct
+counts-fit : (xs : List ℕ) {vs : List Val} → Is (Array (u32-field .row) 256) (map (u32-field .into) xs) vs → (length xs ≡ 256) × Each CountFits xs
+counts-fit xs {vs} g = array-fits (u32-field .row) (u32-field .into) CountFits (λ x us f. f .1) 256 xs {vs = vs} g
 
 pub table-fits : (t : Table) {vs : List Val} → Is (struct.row table.the-type) t vs → Fits t
 table-fits t g =
     let f = g .1 .1 in
-    let a = f .1 .0 in
-    let b = f .1 .1 .0 in
+    let h = f .1 .1 .1 in
     record {
       n = f .0 .1;
-      nodes = (sym (length-map (t .nodes) _) ∙ a .1 .0 .1, each-fits (node.the-field .row) (node.the-field .into) NodeFits (λ c vs h. node-fits c {vs = vs} h) (t .nodes) (a .0) (a .1 .1));
-      messages = (sym (length-map (t .messages) _) ∙ b .1 .0 .1, each-fits (message.the-field .row) (message.the-field .into) MessageFits (λ m vs h. message-fits m {vs = vs} h) (t .messages) (b .0) (b .1 .1));
-      waiting = f .1 .1 .1 .0 .1;
+      nodes = array-fits (node.the-field .row) (node.the-field .into) NodeFits (λ c vs g. node-fits c {vs = vs} g) 16 (t .nodes) (f .1 .0);
+      messages = array-fits (message.the-field .row) (message.the-field .into) MessageFits (λ m vs g. message-fits m {vs = vs} g) 64 (t .messages) (f .1 .1 .0);
+      waiting = h .0 .1;
+      sent = counts-fit (t .sent) (h .1 .0);
+      delivered = counts-fit (t .delivered) (h .1 .1 .0);
+      lost = counts-fit (t .lost) (h .1 .1 .1 .0);
     }

@@ -1,9 +1,10 @@
--- A table as 1,362 bytes, and the table of any bytes. Numbers have their high byte first.
---   table     n 1, 16 nodes of 29 bytes, 64 messages of 14 bytes, waiting 1
+-- A table as 4,434 bytes, and the table of any bytes. Numbers have their high byte first.
+--   table     n 1, 16 nodes of 29 bytes, 64 messages of 14 bytes, waiting 1, then sent, delivered and lost, each of 256 counts of 4 bytes
 --   node      status 1, counter 4, group 4, coordinator 1, task 2, members 2, last 4, activity 11
 --   activity  tag 1, set 2, former 2, node 1, caller 1, call 4; what an activity does not have is 0
 --             set is found or rest; node is asked, ticks or now
 --   message   sender 1, receiver 1, kind 1, call 4, group 4, task 2, yes 1
+--   counts    that from node a to node b is at place (a - 1) * 16 + (b - 1): `pairPlace` of crate model
 -- That a table is read back from its bytes is claimed in Claims.
 use Prim.Native.Nat.{ℕ, zero, suc, _+_, _*_, _/_, _%_, _^_, _≤_, _<_}
 use mathlib.Core.Path.{_≡_}
@@ -110,6 +111,10 @@ messageOf l = record {
   yes = eqb (number 1 l 13 % 2) 1;
 }
 
+-- a count of messages (02, T-05)
+abbrev pub countOf : List ℕ → ℕ
+countOf l = number 4 l 0
+
 -- the table of any bytes, in range or not
 unfoldable pub decoded : List ℕ → Table
 decoded l = record {
@@ -117,6 +122,9 @@ decoded l = record {
   nodes = many nodeOf 29 16 (drop 1 l);
   messages = many messageOf 14 64 (drop 465 l);
   waiting = number 1 l 1361;
+  sent = many countOf 4 256 (drop 1362 l);
+  delivered = many countOf 4 256 (drop 2386 l);
+  lost = many countOf 4 256 (drop 3410 l);
 }
 
 -- ── the bytes of a table ──
@@ -140,10 +148,12 @@ messageBytes m =
 
 -- how many they are
 abbrev pub size : ℕ
-size = 1362
+size = 4434
 
 unfoldable pub encoded : Table → List ℕ
-encoded t = bytes 1 (t .n) ++ all nodeBytes (t .nodes) ++ all messageBytes (t .messages) ++ bytes 1 (t .waiting)
+encoded t =
+    bytes 1 (t .n) ++ all nodeBytes (t .nodes) ++ all messageBytes (t .messages) ++ bytes 1 (t .waiting)
+    ++ all (bytes 4) (t .sent) ++ all (bytes 4) (t .delivered) ++ all (bytes 4) (t .lost)
 
 -- l over out from at on; what comes past the end of out is not written
 unfoldable pub written : List ℕ → ℕ → List ℕ → List ℕ
@@ -206,8 +216,14 @@ unfoldable pub Each : {A : Type 0} → (A → Type 0) → List A → Type 0
 Each P [] = Unit {0}
 Each P (x ∷ xs) = P x × Each P xs
 
+abbrev pub CountFits : ℕ → Type 0
+CountFits x = x < 4294967296
+
 pub record Fits (t : Table) : Type 0 where
   pub n : t .n < 256
   pub nodes : (length (t .nodes) ≡ 16) × Each NodeFits (t .nodes)
   pub messages : (length (t .messages) ≡ 64) × Each MessageFits (t .messages)
   pub waiting : t .waiting < 256
+  pub sent : (length (t .sent) ≡ 256) × Each CountFits (t .sent)
+  pub delivered : (length (t .delivered) ≡ 256) × Each CountFits (t .delivered)
+  pub lost : (length (t .lost) ≡ 256) × Each CountFits (t .lost)

@@ -1,10 +1,11 @@
-// A table as 1,362 bytes, and the table of any bytes: a form in which any table at all, in range or not, can be handed in.
+// A table as 4,434 bytes, and the table of any bytes: a form in which any table at all, in range or not, can be handed in.
 // Numbers have their high byte first.
-//   table     n 1, 16 nodes of 29 bytes, 64 messages of 14 bytes, waiting 1
+//   table     n 1, 16 nodes of 29 bytes, 64 messages of 14 bytes, waiting 1, then sent, delivered and lost, each of 256 counts of 4 bytes
 //   node      status 1, counter 4, group 4, coordinator 1, task 2, members 2, last 4, activity 11
 //   activity  tag 1, set 2, former 2, node 1, caller 1, call 4; what an activity does not have is 0
 //             set is found or rest; node is asked, ticks or now
 //   message   sender 1, receiver 1, kind 1, call 4, group 4, task 2, yes 1
+//   counts    that from node a to node b is at place (a - 1) * 16 + (b - 1)
 // Reading takes status modulo 4, tag modulo 9 (0 Idle .. 8 Accepting) and yes modulo 2; every other number as it stands, in range or not.
 // What is read and written is in specs/Bytes.
 use model::Activity;
@@ -22,7 +23,7 @@ ghost use Rattle.model.specs.Answers.{statusNumber};
 ghost use Rattle.table_bytes.specs.Bytes as spec;
 
 // How long a table's bytes are, and those of eight records.
-pub const SIZE: usize = 1362;
+pub const SIZE: usize = 4434;
 
 pub const RECORDS_SIZE: usize = 232;
 
@@ -215,7 +216,20 @@ fn messages_of(s: &[u8]) -> [Message; 64]
     all
 }
 
-// The table of any bytes. What a list is too short for is 0; what comes after 1,362 bytes is not looked at.
+// The counts whose bytes start s.
+fn counts_of(s: &[u8]) -> [u32; 256]
+    ensures { λ r. ⌜ r ≡ spec.many spec.countOf 4 256 (now (s .entry)) ⌝ }
+{
+    let mut all: [u32; 256] = [0; 256];
+    let mut i: usize = 0;
+    while i < 256 {
+        all[i] = four(from(s, i * 4), 0);
+        i += 1;
+    }
+    all
+}
+
+// The table of any bytes. What a list is too short for is 0; what comes after 4,434 bytes is not looked at.
 pub fn decode(bytes: &[u8]) -> Table
     ensures { λ r. ⌜ r ≡ spec.decoded (now (bytes .entry)) ⌝ }
 {
@@ -226,6 +240,9 @@ pub fn decode(bytes: &[u8]) -> Table
         nodes: nodes,
         messages: messages,
         waiting: one(bytes, 1361),
+        sent: counts_of(from(bytes, 1362)),
+        delivered: counts_of(from(bytes, 2386)),
+        lost: counts_of(from(bytes, 3410)),
     }
 }
 
@@ -247,7 +264,7 @@ fn put_one(out: &mut [u8], at: usize, x: u8)
 }
 
 fn put_two(out: &mut [u8], at: usize, x: u16)
-    requires { ⌜ at ≤ 4096 ⌝ }
+    requires { ⌜ at ≤ 5000 ⌝ }
     ensures { λ _. ⌜ now (out .exit) ≡ spec.written (now (out .entry)) at (spec.bytes 2 x) ⌝ }
 {
     put(out, at, (x / 256) as u8);
@@ -255,7 +272,7 @@ fn put_two(out: &mut [u8], at: usize, x: u16)
 }
 
 fn put_four(out: &mut [u8], at: usize, x: u32)
-    requires { ⌜ at ≤ 4000 ⌝ }
+    requires { ⌜ at ≤ 4900 ⌝ }
     ensures { λ _. ⌜ now (out .exit) ≡ spec.written (now (out .entry)) at (spec.bytes 4 x) ⌝ }
 {
     put_two(out, at, (x / 65536) as u16);
@@ -372,14 +389,31 @@ fn put_messages(out: &mut [u8], t: Table)
     }
 }
 
+fn put_counts(out: &mut [u8], at: usize, counts: [u32; 256])
+    requires { ⌜ at ≤ 3500 ⌝ }
+    ensures { λ _. ⌜ now (out .exit) ≡ spec.written (now (out .entry)) at (spec.all (spec.bytes 4) counts) ⌝ }
+{
+    let mut i: usize = 0;
+    while i < 256 {
+        put_four(out, at + i * 4, counts[i]);
+        i += 1;
+    }
+}
+
 // The bytes of t over the start of out, and what is behind them stays; where out is shorter, as many as it has room for.
 pub fn encode(t: Table, out: &mut [u8])
     ensures { λ _. ⌜ spec.Stored t (now (out .entry)) (now (out .exit)) ⌝ }
 {
+    let sent = t.sent;
+    let delivered = t.delivered;
+    let lost = t.lost;
     put_one(out, 0, t.n);
     put_nodes(out, t);
     put_messages(out, t);
-    put_one(out, 1361, t.waiting)
+    put_one(out, 1361, t.waiting);
+    put_counts(out, 1362, sent);
+    put_counts(out, 2386, delivered);
+    put_counts(out, 3410, lost)
 }
 
 // The bytes of eight records, such as `machine::recovery` answers, one after another over the start of out, as `encode` writes those of a table.

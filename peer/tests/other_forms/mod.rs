@@ -4,11 +4,14 @@ use peer::numbers::Numbers;
 use peer::proved::{TableBytes, TABLE_BYTES};
 
 /// The k-th form: cut short or with bytes behind it, and some with other remainders of status and activity.
-/// What is cut off is cleared in the bytes themselves too, as it is read as zeros.
+/// What is cut off is cleared in the bytes themselves too, as it is read as zeros; half of the time it is
+/// zeros already, so that the table stays in range.
 pub fn in_another_form(k: u32, bytes: &mut TableBytes, numbers: &mut Numbers) -> Vec<u8> {
     let mut given = bytes.to_vec();
     if k.is_multiple_of(2) {
-        given.truncate(numbers.place(TABLE_BYTES + 1));
+        let end = bytes.iter().rposition(|&byte| byte != 0).map_or(0, |place| place + 1);
+        let least = if numbers.one_in(2) { end } else { 0 };
+        given.truncate(least + numbers.place(TABLE_BYTES - least + 1));
         bytes[given.len()..].fill(0);
     } else {
         given.resize(TABLE_BYTES + numbers.place(50), numbers.byte());

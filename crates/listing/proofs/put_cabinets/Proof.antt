@@ -9,4 +9,4 @@ unfolding row cabinetsLine
 returns c = c .before .before .put-one .ensures
 
 pub put-cabinets-spec : {M : Type 1} → statement M
-put-cabinets-spec = tie.close (tie.spec (λ c κs. search needs) (λ c. search needs) returns)
+put-cabinets-spec = tie.close (tie.spec (λ c. search needs) (λ c κs. search needs) (λ c. search needs) returns)

@@ -9,4 +9,4 @@ unfolding row messagesLine
 returns c = c .before .before .put-one .ensures
 
 pub put-messages-spec : {M : Type 1} → statement M
-put-messages-spec = tie.close (tie.spec (λ c κs. search needs) (λ c. search needs) returns)
+put-messages-spec = tie.close (tie.spec (λ c. search needs) (λ c κs. search needs) (λ c. search needs) returns)

@@ -7,7 +7,7 @@ use lib.ListN.{length}
 use Rattle.model.specs.State.{view}
 use Rattle.listing.specs.Lines.{tableLines}
 use Rattle.listing.specs.Printing.{printed}
-use Rattle.listing.proofs.Table.{left, left-first, left-end, turn-next, turn-refused}
+use Rattle.listing.proofs.Table.{left, left-first, turn-next, turn-refused, end-next, end-refused}
 use Rattle.listing.proofs.put_table.Statement.{statement}
 use Rattle.listing.proofs.put_table.Tie as tie
 
@@ -38,11 +38,19 @@ loop-again c =
 
 returns-2 : tie.Need-returns-2 Inv-loop μ-loop
 returns-2 c =
-    let m = c .before .before in
-    let e = m .before .before .before in
-    let l = e .before in
+    let m = c .before .before .before .before in
+    let l = m .before .before .before .before in
     let t = l .before .before .args .t in
-    m .put-messages .ensures ∙ rw (← left-end t (l .loop .i) (omega arith)) (l .loop .inv .2)
+    sym (end-refused t (l .loop .i) (omega arith) _ _ _ _ (m .put-messages .ensures) (c .enum-told2 .given .1)) ∙ l .loop .inv .2
+
+returns-3 : tie.Need-returns-3 Inv-loop μ-loop
+returns-3 c =
+    let u = c .before .before in
+    let q = u .before .before .before in
+    let m = q .before .before .before .before in
+    let l = m .before .before .before .before in
+    let t = l .before .before .args .t in
+    u .put-totals .ensures ∙ sym (end-next t (l .loop .i) (omega arith) _ _ _ _ (m .put-messages .ensures) _ (q .q2 .given .1)) ∙ l .loop .inv .2
 
 pub put-table-spec : {M : Type 1} → statement M
 put-table-spec =
@@ -64,4 +72,9 @@ put-table-spec =
     (λ c. search needs)
     (λ c κs. search needs)
     (λ c. search needs)
-    returns-2)
+    (λ c. search needs)
+    (λ c κs. search needs)
+    (λ c. search needs)
+    returns-2
+    (λ c. search needs)
+    returns-3)

@@ -1,7 +1,7 @@
 -- `listing::write_one` meets its contract: the line is refused, or its pieces are written one after the other.
 use borrow.Author.Needs.{needs}
 use Prim.Native.Nat.{_+_}
-use mathlib.Core.Path.{_≡_, _∙_}
+use mathlib.Core.Path.{_≡_, refl, _∙_}
 use mathlib.Core.List.{_++_}
 use native.Mathlib.Omega.{arith}
 use denote.Ref.{now}
@@ -14,26 +14,26 @@ use Rattle.listing.proofs.write_one.Tie as tie
 
 returns : tie.Need-returns
 returns c =
-    let g = c .before .before in
-    let a = g .before .before .args in
-    let h : length (now (a .w)) ≡ 9 = g .word .given .0 in
-    line-refused (now (a .free)) _ 0 (rw (← one-text (now (a .w)) (a .x)) (simp length-append (omega arith)))
+    let k = c .before in
+    let a = k .before .before .before .args in
+    line-refused (now (a .free)) _ 0 (rw (← one-text (now (a .w)) (a .x)) (simp length-append (omega (arith, k .wide-digit-count .ensures .0, c .if1 .taken))))
 
 returns-2 : tie.Need-returns-2
 returns-2 c =
     let n = c .before .before in
     let w = n .before .before .before .before in
-    let k = w .before .before .before in
-    let g = k .before in
-    let a = g .before .before .args in
+    let i = w .before .before in
+    let k = i .before in
+    let a = k .before .before .before .args in
     let b = now (a .free) in
     let t = now (a .w) in
-    let h : length t ≡ 9 = g .word .given .0 in
+    let d = k .wide-digit-count .result in
+    let h = k .wide-digit-count .ensures .0 in
     let t1 = t ++ decimal (a .x) in
-    let p1 : 9 + k .digit-count .result ≡ length t1 = simp length-append (omega arith) in
+    let p1 : length t + d ≡ length t1 = simp length-append (omega arith) in
     let o = word-piece b _ t (w .copy-in .ensures) in
-    let o1 = with-number b _ t o 9 (omega arith) (k .digit-count .result) (a .x) _ (k .digit-count .ensures .0) (omega arith) (n .number-at .ensures .0) in
-    let o2 = with-end b _ t1 o1 (9 + k .digit-count .result) p1 (omega arith) in
+    let o1 = with-number b _ t o (length t) refl d (a .x) _ h (omega arith) (n .wide-number-at .ensures .0) in
+    let o2 = with-end b _ t1 o1 (length t + d) p1 (omega arith) in
     line-next b _ _ 0 _ (rw (← one-text t (a .x)) (simp length-append (omega arith))) (omega arith) (o2 ∙ rw (one-text t (a .x)))
 
 pub write-one-spec : {M : Type 1} → statement M

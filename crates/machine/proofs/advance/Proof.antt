@@ -3,10 +3,11 @@ use borrow.Author.Needs.{needs}
 use borrow.Author.Tests.{not-true, not-false, ltb-true}
 use native.Mathlib.Omega.{arith}
 use Prim.Native.Nat.{ℕ, _+_, _%_}
+use lib.ListN.{getD}
 use mathlib.Core.Path.{_≡_, refl, sym, _∙_, ap}
 use Rattle.machine.proofs.Laws.{sized}
-use Rattle.machine.proofs.Places.{small, left-is, place-below}
-use Rattle.machine.proofs.Judged.{halted, judging, refuses, seated, room, accepts}
+use Rattle.machine.proofs.Places.{small, counts-small, left-is, place-below}
+use Rattle.machine.proofs.Judged.{halted, judging, seated, room, accepts, last-refused, verdict-accepted, pair-below}
 use Rattle.machine.proofs.advance.Statement.{statement}
 use Rattle.machine.proofs.advance.Tie as tie
 
@@ -23,22 +24,27 @@ judge-requires c κs =
 
 returns : tie.Need-returns
 returns c =
-    let j = c .before .before in
+    let w = c .before .before in
+    let n = w .before .before in
+    let j = n .before .before in
     let a = j .before .before in
     let p = a .before .before in
     let o = p .before in
     let t = o .args .t1 in
-    refuses t (sized t (o .good .0)) (o .pre) (o .args .e) _ (p .place-for .ensures .0) (p .place-for .ensures .1) _ (ap (λ (i : ℕ). (i + 15) % 16) (a .actor .ensures)) _ _ refl _ _ refl _ (j .judge .ensures) (halted (j .judge .result .answer) (c .before .is-accepted .ensures) (c .if1 .taken))
+    last-refused t (sized t (o .good .0)) (o .pre) (o .args .e) _ (p .place-for .ensures .0) (p .place-for .ensures .1) _ (ap (λ (i : ℕ). (i + 15) % 16) (a .actor .ensures)) _ _ refl _ _ refl _ (j .judge .ensures)
+    _ (ap (λ (i : ℕ). getD (t .sent) i 0) (n .sent-place .ensures .0)) (w .with-last .result) (w .with-last .ensures) (halted (w .with-last .result) (c .before .is-accepted .ensures) (c .if1 .taken))
 
 left-of-requires : tie.Need-left-of-requires
 left-of-requires c κs q =
-    let p = c .before .before .before .before .before .before .before in
+    let p = c .before .before .before .before .before .before .before .before .before .before in
     omega (arith, ltb-true (p .place-for .result) (p .before .args .t1 .waiting) q)
 
 stored-requires : tie.Need-stored-requires
 stored-requires c κs =
-    let i = c .before .before .before in
-    let j = i .before in
+    let i = c .before .before in
+    let w = i .before in
+    let n = w .before .before in
+    let j = n .before .before in
     let a = j .before .before in
     let p = a .before .before in
     let o = p .before in
@@ -47,7 +53,8 @@ stored-requires c κs =
     let e = o .args .e in
     let k = p .place-for .ensures in
     let at = ap (λ (i : ℕ). (i + 15) % 16) (a .actor .ensures) in
-    let yes = sym (i .is-accepted .ensures) ∙ not-false _ (c .before .before .if1 .left) in
+    let x = ap (λ (i : ℕ). getD (t .sent) i 0) (n .sent-place .ensures .0) in
+    let yes = verdict-accepted t z (o .pre) e _ (k .0) (k .1) _ at _ _ refl _ _ refl _ (j .judge .ensures) _ x (w .with-last .result) (w .with-last .ensures) (sym (i .is-accepted .ensures) ∙ not-false _ (c .before .if1 .left)) in
     let hl = c .left-of .ensures in
     let s = small t z (o .pre) e in (
       (
@@ -57,20 +64,28 @@ stored-requires c κs =
         seated t z (o .pre) e _ (k .0) (k .1) _ at _ _ refl _ _ refl _ (j .judge .ensures) yes,
         s .1,
       ),
-      rw hl (room t z (o .pre) e _ (k .0) (k .1) _ at _ _ refl _ _ refl _ (j .judge .ensures) yes),
+      (rw hl (room t z (o .pre) e _ (k .0) (k .1) _ at _ _ refl _ _ refl _ (j .judge .ensures) yes), counts-small t (o .pre)),
     )
 
 returns-2 : tie.Need-returns-2
 returns-2 c =
-    let i = c .before .before .before .before in
-    let j = i .before in
+    let i = c .before .before .before in
+    let w = i .before in
+    let n = w .before .before in
+    let j = n .before .before in
     let a = j .before .before in
     let p = a .before .before in
     let o = p .before in
     let t = o .args .t1 in
+    let z = sized t (o .good .0) in
+    let e = o .args .e in
     let k = p .place-for .ensures in
     let at = ap (λ (i : ℕ). (i + 15) % 16) (a .actor .ensures) in
-    accepts t (sized t (o .good .0)) (o .pre) (o .args .e) _ (k .0) (k .1) _ at _ _ refl _ _ refl _ (j .judge .ensures) (sym (i .is-accepted .ensures) ∙ not-false _ (c .before .before .before .if1 .left)) _ (c .stored .ensures)
+    let x = ap (λ (i : ℕ). getD (t .sent) i 0) (n .sent-place .ensures .0) in
+    let r = sym (i .is-accepted .ensures) ∙ not-false _ (c .before .before .if1 .left) in
+    let yes = verdict-accepted t z (o .pre) e _ (k .0) (k .1) _ at _ _ refl _ _ refl _ (j .judge .ensures) _ x (w .with-last .result) (w .with-last .ensures) r in
+    let below = pair-below t z (o .pre) e _ (k .0) (k .1) _ at _ _ refl _ _ refl _ (j .judge .ensures) _ x (w .with-last .result) (w .with-last .ensures) r in
+    accepts t z (o .pre) e _ (k .0) (k .1) _ at _ _ refl _ _ refl _ (j .judge .ensures) yes below _ (c .stored .ensures)
 
 pub advance-spec : {M : Type 1} → statement M
 advance-spec =
@@ -85,6 +100,10 @@ advance-spec =
     (λ c. search needs)
     (λ c. search needs)
     judge-requires
+    (λ c κs. search needs)
+    (λ c. search needs)
+    (λ c. omega (arith, c .sent-place .ensures .1, sized (c .before .before .before .before .before .before .before .args .t1) (c .before .before .before .before .before .before .before .good .0) .sent))
+    (λ c κs. search needs)
     (λ c κs. search needs)
     returns
     (λ c. search needs)

@@ -7,14 +7,24 @@ use Rattle.table_bytes.proofs.decode.Tie as tie
 returns : tie.Need-returns
 unfolding decoded
 returns c =
-    let m = c .before .before in
+    let d = c .before .before in
+    let s = d .before .before in
+    let w = s .before .before in
+    let m = w .before .before in
     let n = m .before .before in
-    rw (c .one2 .ensures, c .before .one .ensures, m .messages-of .ensures, m .before .from2 .ensures, n .nodes-of .ensures, n .before .from .ensures)
+    rw (c .counts-of3 .ensures, c .before .from5 .ensures, d .counts-of2 .ensures, d .before .from4 .ensures, s .counts-of .ensures, s .before .from3 .ensures)
+    (rw (w .one2 .ensures, w .before .one .ensures, m .messages-of .ensures, m .before .from2 .ensures, n .nodes-of .ensures, n .before .from .ensures))
 
 pub decode-spec : {M : Type 1} → statement M
 decode-spec =
     tie.close
     (tie.spec
+    (λ c κs. search needs)
+    (λ c κs. search needs)
+    (λ c κs. search needs)
+    (λ c κs. search needs)
+    (λ c κs. search needs)
+    (λ c κs. search needs)
     (λ c κs. search needs)
     (λ c κs. search needs)
     (λ c κs. search needs)

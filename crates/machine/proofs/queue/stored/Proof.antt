@@ -3,7 +3,8 @@ use borrow.Author.Needs.{needs}
 use Prim.Native.Nat.{ℕ, _≤_, _<_, _-_, _+_}
 use mathlib.Core.Path.{_≡_, refl, sym, _∙_, ap}
 use native.Mathlib.Omega.{arith}
-use lib.ListN.{length, take, set, length-set}
+use mathlib.Core.List.{List}
+use lib.ListN.{length, getD, take, set, length-set}
 use Rattle.machine.specs.Parts.{without}
 use Rattle.machine.proofs.Laws.{sized, without-turn, moves, left-few, stored-quiet, stored-sent}
 use Rattle.machine.proofs.queue.stored.Statement.{statement}
@@ -12,17 +13,17 @@ use Rattle.machine.proofs.queue.stored.Reads as reads
 use Rattle.machine.proofs.queue.stored.Lts as lts
 
 abbrev Inv-loop : tie.InvT-loop
-Inv-loop k left at node outgoing end next₀ j₀ next j =
-    (k ≤ j) × (j ≤ end) × (length (next .messages) ≡ 64) × (without j (take (next₀ .waiting) (next .messages)) ≡ without k (take (next₀ .waiting) (next₀ .messages))) × (next .nodes ≡ next₀ .nodes) × (next .n ≡ next₀ .n)
+Inv-loop e k left at node outgoing end next₀ j₀ next j =
+    (k ≤ j) × (j ≤ end) × (length (next .messages) ≡ 64) × (without j (take (next₀ .waiting) (next .messages)) ≡ without k (take (next₀ .waiting) (next₀ .messages))) × (next .nodes ≡ next₀ .nodes) × (next .n ≡ next₀ .n) × (next .sent ≡ next₀ .sent) × (next .delivered ≡ next₀ .delivered) × (next .lost ≡ next₀ .lost)
 
 abbrev μ-loop : tie.MeasureT-loop
-μ-loop k left at node outgoing end next₀ j₀ next j = end - j
+μ-loop e k left at node outgoing end next₀ j₀ next j = end - j
 
 loop-holds : tie.Need-loop-holds Inv-loop μ-loop
 loop-holds c =
     let p = c .before .pre .0 in
     let t = c .before .args .t in
-    (search needs, p .1, sized t (c .before .good .0) .messages, refl, refl, refl)
+    (search needs, p .1, sized t (c .before .good .0) .messages, refl, refl, refl, refl, refl, refl)
 
 add-m : tie.Need-add-m Inv-loop μ-loop
 add-m c = omega arith
@@ -69,6 +70,9 @@ loop-again c =
       without-turn (l .next .messages) (c .before .before .before .before .args .t .waiting) (omega arith) (l .j) (omega arith) _ ∙ v .3,
       v .4,
       v .5,
+      v .6,
+      v .7,
+      v .8,
     )
 
 mul-node : tie.Need-mul-node Inv-loop μ-loop
@@ -82,50 +86,147 @@ element-set-from-node c =
     let p = c .before .before .before .pre .0 in
     omega (arith, ap length (c .before .loop .inv .4), s .nodes)
 
-enum-told : tie.Need-enum-told Inv-loop μ-loop
-enum-told c = search needs
+mul-next : tie.Need-mul-next Inv-loop μ-loop
+mul-next c =
+    let l = c .before .before .loop in
+    let o = c .before .before .before .before in
+    omega (arith, c .sent-place .ensures .1, ap length (l .inv .6), sized (o .args .t) (o .good .0) .sent)
 
-enum-known-outgoing : tie.Need-enum-known-outgoing Inv-loop μ-loop
-enum-known-outgoing c = search needs
+element-copy-out-next : tie.Need-element-copy-out-next Inv-loop μ-loop
+element-copy-out-next c =
+    let l = c .before .before .loop in
+    let o = c .before .before .before .before in
+    omega (arith, c .sent-place .ensures .1, ap length (l .inv .6), sized (o .args .t) (o .good .0) .sent)
+
+add-next : tie.Need-add-next Inv-loop μ-loop
+add-next c =
+    let l = c .before .before .before .before .loop in
+    let o = c .before .before .before .before .before .before in
+    let p = c .before .before .sent-place .result in
+    omega (arith, c .sent-by .ensures .1, ap (λ (x : List ℕ). getD x p 0) (l .inv .6), o .pre .1 .1 .0 p)
+
+mul-next-2 : tie.Need-mul-next-2 Inv-loop μ-loop
+mul-next-2 c =
+    let l = c .before .before .before .before .loop in
+    let o = c .before .before .before .before .before .before in
+    omega (arith, c .before .before .sent-place .ensures .1, ap length (l .inv .6), sized (o .args .t) (o .good .0) .sent)
+
+element-write-next : tie.Need-element-write-next Inv-loop μ-loop
+element-write-next c =
+    let l = c .before .before .before .before .loop in
+    let o = c .before .before .before .before .before .before in
+    omega (arith, c .before .before .sent-place .ensures .1, ap length (l .inv .6), sized (o .args .t) (o .good .0) .sent)
+
+mul-next-3 : tie.Need-mul-next-3 Inv-loop μ-loop
+mul-next-3 c =
+    let l = c .before .before .before .before .before .loop in
+    let o = c .before .before .before .before .before .before .before in
+    omega (arith, c .moved-place .ensures .1, ap length (l .inv .7), sized (o .args .t) (o .good .0) .delivered)
+
+element-copy-out-next-2 : tie.Need-element-copy-out-next-2 Inv-loop μ-loop
+element-copy-out-next-2 c =
+    let l = c .before .before .before .before .before .loop in
+    let o = c .before .before .before .before .before .before .before in
+    omega (arith, c .moved-place .ensures .1, ap length (l .inv .7), sized (o .args .t) (o .good .0) .delivered)
+
+add-next-2 : tie.Need-add-next-2 Inv-loop μ-loop
+add-next-2 c =
+    let l = c .before .before .before .before .before .before .before .loop in
+    let o = c .before .before .before .before .before .before .before .before .before in
+    let p = c .before .before .moved-place .result in
+    omega (arith, c .delivered-by .ensures .1, ap (λ (x : List ℕ). getD x p 0) (l .inv .7), o .pre .1 .1 .1 p)
+
+mul-next-4 : tie.Need-mul-next-4 Inv-loop μ-loop
+mul-next-4 c =
+    let l = c .before .before .before .before .before .before .before .loop in
+    let o = c .before .before .before .before .before .before .before .before .before in
+    omega (arith, c .before .before .moved-place .ensures .1, ap length (l .inv .7), sized (o .args .t) (o .good .0) .delivered)
+
+element-write-next-2 : tie.Need-element-write-next-2 Inv-loop μ-loop
+element-write-next-2 c =
+    let l = c .before .before .before .before .before .before .before .loop in
+    let o = c .before .before .before .before .before .before .before .before .before in
+    omega (arith, c .before .before .moved-place .ensures .1, ap length (l .inv .7), sized (o .args .t) (o .good .0) .delivered)
+
+mul-next-5 : tie.Need-mul-next-5 Inv-loop μ-loop
+mul-next-5 c =
+    let l = c .before .before .before .before .before .before .before .loop in
+    let o = c .before .before .before .before .before .before .before .before .before in
+    omega (arith, c .before .before .moved-place .ensures .1, ap length (l .inv .8), sized (o .args .t) (o .good .0) .lost)
+
+element-copy-out-next-3 : tie.Need-element-copy-out-next-3 Inv-loop μ-loop
+element-copy-out-next-3 c =
+    let l = c .before .before .before .before .before .before .before .loop in
+    let o = c .before .before .before .before .before .before .before .before .before in
+    omega (arith, c .before .before .moved-place .ensures .1, ap length (l .inv .8), sized (o .args .t) (o .good .0) .lost)
+
+add-next-3 : tie.Need-add-next-3 Inv-loop μ-loop
+add-next-3 c =
+    let l = c .before .before .before .before .before .before .before .before .before .loop in
+    let o = c .before .before .before .before .before .before .before .before .before .before .before in
+    let p = c .before .before .before .before .moved-place .result in
+    omega (arith, c .lost-by .ensures .1, ap (λ (x : List ℕ). getD x p 0) (l .inv .8), o .pre .1 .1 .2 p)
+
+mul-next-6 : tie.Need-mul-next-6 Inv-loop μ-loop
+mul-next-6 c =
+    let l = c .before .before .before .before .before .before .before .before .before .loop in
+    let o = c .before .before .before .before .before .before .before .before .before .before .before in
+    omega (arith, c .before .before .before .before .moved-place .ensures .1, ap length (l .inv .8), sized (o .args .t) (o .good .0) .lost)
+
+element-write-next-3 : tie.Need-element-write-next-3 Inv-loop μ-loop
+element-write-next-3 c =
+    let l = c .before .before .before .before .before .before .before .before .before .loop in
+    let o = c .before .before .before .before .before .before .before .before .before .before .before in
+    omega (arith, c .before .before .before .before .moved-place .ensures .1, ap length (l .inv .8), sized (o .args .t) (o .good .0) .lost)
 
 mul-m-3 : tie.Need-mul-m-3 Inv-loop μ-loop
 mul-m-3 c =
-    let p = c .before .before .before .before .before .before .pre in
-    let r = rw (c .before .outgoing .given .1) at (p .1) in
+    let p = c .before .before .before .before .before .before .before .before .before .before .before .before .before .before .pre in
+    let r = rw (c .before .outgoing .given .1) at (p .1 .0) in
     omega arith
 
 element-set-from-m-2 : tie.Need-element-set-from-m-2 Inv-loop μ-loop
 element-set-from-m-2 c =
-    let p = c .before .before .before .before .before .before .pre in
-    let r = rw (c .before .outgoing .given .1) at (p .1) in
+    let p = c .before .before .before .before .before .before .before .before .before .before .before .before .before .before .pre in
+    let r = rw (c .before .outgoing .given .1) at (p .1 .0) in
     omega arith
 
-add-next : tie.Need-add-next Inv-loop μ-loop
-add-next c =
-    let p = c .before .before .before .before .before .before .pre in
-    let r = rw (c .before .outgoing .given .1) at (p .1) in
+add-next-4 : tie.Need-add-next-4 Inv-loop μ-loop
+add-next-4 c =
+    let p = c .before .before .before .before .before .before .before .before .before .before .before .before .before .before .pre in
+    let r = rw (c .before .outgoing .given .1) at (p .1 .0) in
     omega arith
 
 returns : tie.Need-returns Inv-loop μ-loop
 returns c =
-    let o = c .before .before .before .before .before in
-    let l = c .before .before .before .loop in
+    let y = c .before .before .lost-by in
+    let d = c .before .before .before .before .delivered-by in
+    let i = c .before .before .before .before .before .before .moved-place in
+    let s = c .before .before .before .before .before .before .before .sent-by in
+    let m = c .before .before .before .before .before .before .before .before .before .sent-place in
+    let l = c .before .before .before .before .before .before .before .before .before .before .before .loop in
+    let o = c .before .before .before .before .before .before .before .before .before .before .before .before .before in
     let t = o .args .t in
     let p = o .pre .0 in
-    let e : l .j ≡ o .args .left = omega arith in
-    rw (c .enum-told .given .1, l .inv .4, l .inv .5)
-    (stored-quiet t (sized t (o .good .0)) (p .4) (p .0) (o .args .k) (o .args .left) (o .args .at) (p .2) (p .3) (o .args .r .node) (l .next .messages) (l .inv .2) (rw (← e) (l .inv .3)))
+    let e : l .j ≡ o .args .left = omega (arith, l .inv .1, c .before .before .before .before .before .before .before .before .before .before .loop-test .left) in
+    rw (m .ensures .0, s .ensures .0, i .ensures .0, d .ensures .0, y .ensures .0, c .enum-told .given .1, l .inv .4, l .inv .5, l .inv .6, l .inv .7, l .inv .8)
+    (stored-quiet t (sized t (o .good .0)) (p .4) (p .0) (o .args .k) (o .args .left) (o .args .at) (p .2) (p .3) (o .args .r .node) (l .next .messages) (l .inv .2) (rw (← e) (l .inv .3)) _ _ _)
 
 returns-2 : tie.Need-returns-2 Inv-loop μ-loop
 returns-2 c =
-    let o = c .before .before .before .before .before .before in
-    let l = c .before .before .before .before .loop in
+    let y = c .before .before .before .lost-by in
+    let d = c .before .before .before .before .before .delivered-by in
+    let i = c .before .before .before .before .before .before .before .moved-place in
+    let s = c .before .before .before .before .before .before .before .before .sent-by in
+    let m = c .before .before .before .before .before .before .before .before .before .before .sent-place in
+    let l = c .before .before .before .before .before .before .before .before .before .before .before .before .loop in
+    let o = c .before .before .before .before .before .before .before .before .before .before .before .before .before .before in
     let t = o .args .t in
     let p = o .pre .0 in
-    let e : l .j ≡ o .args .left = omega arith in
-    let r = rw (c .before .outgoing .given .1) at (o .pre .1) in
-    rw (c .before .outgoing .given .1, l .inv .4, l .inv .5)
-    (stored-sent t (sized t (o .good .0)) (p .4) (p .0) (o .args .k) (o .args .left) (o .args .at) (p .2) (p .3) (o .args .r .node) (l .next .messages) (l .inv .2) (rw (← e) (l .inv .3)) r _)
+    let e : l .j ≡ o .args .left = omega (arith, l .inv .1, c .before .before .before .before .before .before .before .before .before .before .before .loop-test .left) in
+    let r = rw (c .before .outgoing .given .1) at (o .pre .1 .0) in
+    rw (m .ensures .0, s .ensures .0, i .ensures .0, d .ensures .0, y .ensures .0, c .before .outgoing .given .1, l .inv .4, l .inv .5, l .inv .6, l .inv .7, l .inv .8)
+    (stored-sent t (sized t (o .good .0)) (p .4) (p .0) (o .args .k) (o .args .left) (o .args .at) (p .2) (p .3) (o .args .r .node) (l .next .messages) (l .inv .2) (rw (← e) (l .inv .3)) _ _ _ r _)
 
 pub stored-spec : {M : Type 1} → statement M
 stored-spec =
@@ -144,10 +245,30 @@ stored-spec =
     loop-again
     mul-node
     element-set-from-node
-    enum-told
-    enum-known-outgoing
+    (λ c κs. search needs)
+    mul-next
+    element-copy-out-next
+    (λ c κs. search needs)
+    add-next
+    mul-next-2
+    element-write-next
+    (λ c κs. search needs)
+    mul-next-3
+    element-copy-out-next-2
+    (λ c κs. search needs)
+    add-next-2
+    mul-next-4
+    element-write-next-2
+    mul-next-5
+    element-copy-out-next-3
+    (λ c κs. search needs)
+    add-next-3
+    mul-next-6
+    element-write-next-3
+    (λ c. search needs)
+    (λ c. search needs)
     mul-m-3
     element-set-from-m-2
-    add-next
+    add-next-4
     returns
     returns-2)

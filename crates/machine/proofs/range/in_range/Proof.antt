@@ -26,12 +26,13 @@ returns-3 c =
 
 returns-4 : tie.Need-returns-4
 returns-4 c =
-    let f = c .before .before in
+    let m = c .before in
+    let f = m .before .before in
     let t = f .before .before .before .args .t in
-    ap₂ (λ (x y : Bool). x && y) (c .before .nodes-in-range .ensures) (c .messages-in-range .ensures)
+    ap₂ (λ (x y : Bool). x && y) (ap₂ (λ (x y : Bool). x && y) (m .before .nodes-in-range .ensures) (m .messages-in-range .ensures)) (c .traffic-in-range .ensures)
     ∙ sym (in-range-is t (sized t (f .before .before .before .good .0)) (omega arith) (omega arith) (omega arith))
 
 pub in-range-spec : {M : Type 1} → statement M
 in-range-spec =
     tie.close
-    (tie.spec returns returns-2 returns-3 (λ c κs. search needs) (λ c κs. search needs) returns-4)
+    (tie.spec returns returns-2 returns-3 (λ c κs. search needs) (λ c κs. search needs) (λ c κs. search needs) returns-4)

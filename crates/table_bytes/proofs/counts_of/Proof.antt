@@ -1,0 +1,48 @@
+-- The invariant: the first i counts are read.
+use borrow.Author.Needs.{needs}
+use Prim.Native.Nat.{_-_, _≤_}
+use mathlib.Core.Path.{_≡_, refl, _∙_, ap}
+use native.Mathlib.Omega.{arith}
+use lib.ListN.{length, take, length-set}
+use Rattle.table_bytes.specs.Bytes.{many, countOf}
+use Rattle.table_bytes.proofs.Records.{many-turn, many-end}
+use Rattle.table_bytes.proofs.counts_of.Statement.{statement}
+use Rattle.table_bytes.proofs.counts_of.Tie as tie
+
+abbrev Inv-loop : tie.InvT-loop
+Inv-loop s all₀ i₀ all i = (i ≤ 256) × (length all ≡ 256) × (take i all ≡ many countOf 4 i s)
+
+abbrev μ-loop : tie.MeasureT-loop
+μ-loop s all₀ i₀ all i = 256 - i
+
+loop-holds : tie.Need-loop-holds Inv-loop μ-loop
+unfolding many
+loop-holds c = (search needs, refl, refl)
+
+loop-again : tie.Need-loop-again Inv-loop μ-loop
+loop-again c =
+    let l = c .before .before .before in
+    let v = l .loop .inv in
+    (omega arith, simp length-set (v .1), many-turn countOf 4 _ (l .loop .all) (l .loop .i) (v .2) (omega arith) _ (c .four .ensures ∙ ap countOf (c .before .from .ensures)))
+
+returns : tie.Need-returns Inv-loop μ-loop
+returns c =
+    let l = c .before .loop in
+    many-end countOf 4 _ (l .all) (l .i) (l .inv .2) 256 (l .inv .1) (l .inv .0) (c .loop-test .left)
+
+pub counts-of-spec : {M : Type 1} → statement M
+counts-of-spec =
+    tie.close
+    (tie.spec
+    Inv-loop
+    μ-loop
+    loop-holds
+    (λ c. search needs)
+    (λ c κs. search needs)
+    (λ c κs. search needs)
+    (λ c. search needs)
+    (λ c. search needs)
+    (λ c. search needs)
+    (λ c. search needs)
+    loop-again
+    returns)
