@@ -15,7 +15,7 @@ fn list_space() -> [u8; LIST_SPACE]
 }
 
 fn text_space() -> [u8; TEXT_LIMIT]
-    ensures { λ r. ⌜ 279096 ≡ length r ⌝ }
+    ensures { λ r. ⌜ 279149 ≡ length r ⌝ }
 {
     [0; TEXT_LIMIT]
 }

@@ -63,7 +63,7 @@ below l Nothing h = refl
 below l (Send m) h = let p = pairPlace (m .sender) (m .receiver) in ne-eqb (getD l p 0) trafficEnd (λ q. omega (arith, q, h p))
 
 -- ── the step by the grounds between the first and the last ──
-abbrev between : State → Event → List Ground
+abbrev pub between : State → Event → List Ground
 between s e =
     ground 7 (wrongNumber (s .n) e)
     ∷ ground 8 (wrongTask e)
@@ -97,7 +97,7 @@ unfolding judged
 judged-last x r [] = pick-false _ _
 judged-last x r (g ∷ gs) = ap (pick (g .applies) (refused (g .number))) (judged-last x r gs)
 
-by-between : (s : State) (e : Event) → inRange s ≡ true → BelowEnd (s .sent) → step s e ≡ judged (accepted (effect s e) (reactionTo s e .mark)) (between s e)
+pub by-between : (s : State) (e : Event) → inRange s ≡ true → BelowEnd (s .sent) → step s e ≡ judged (accepted (effect s e) (reactionTo s e .mark)) (between s e)
 unfolding step grounds judged
 by-between s e r b =
     let x = accepted (effect s e) (reactionTo s e .mark) in
@@ -155,12 +155,12 @@ aside-kept s (refused r) = refl
 aside-kept s (accepted u k) = refl
 
 -- after an event there is room for one fewer
-room-after : (j : ℕ) (s : State) (e : Event) → Room (suc j) (s .sent) → Room j (after s e .sent)
+pub room-after : (j : ℕ) (s : State) (e : Event) → Room (suc j) (s .sent) → Room j (after s e .sent)
 unfolding effect
 room-after j s e h =
     by-step (λ x. Room j (kept s x .sent)) s e (λ _ k. omega (arith, h k)) (λ _ _. sent-room j (s .sent) (reactionTo s e .outgoing) h)
 
-room-below : (j : ℕ) (l : List ℕ) → Room j l → BelowEnd l
+pub room-below : (j : ℕ) (l : List ℕ) → Room j l → BelowEnd l
 room-below j l h k = omega (arith, h k)
 
 pub run-aside : (s : State) (es : List Event) → inRange s ≡ true → Room (length es) (s .sent) → countsAside (runFrom s es) ≡ quick (countsAside s) es

@@ -14,6 +14,7 @@ use Rattle.model.specs.declared.Node.{Node}
 use Rattle.model.specs.declared.Status.the-variants.{Normal}
 use Rattle.model.proofs.Whole.{run-fixes}
 use Rattle.model.proofs.Fixed.{task-from-list}
+use Rattle.model.proofs.Traffic.{traffic-agrees}
 use Rattle.model.proofs.Fields.{in-range-size}
 use Rattle.model.proofs.InRange.{stays-in-range}
 use Rattle.machine.proofs.Runs.{run-nodes}
@@ -21,7 +22,7 @@ use Rattle.event_list.specs.declared.First.{First}
 use Rattle.event_list.specs.declared.First.the-variants as First
 use Rattle.event_list.specs.Format.{firstOf, Reading, begun, listed, reading}
 use Rattle.event_list.proofs.Reading.{first-good}
-use Rattle.listing.specs.Lines.{cabinetsLine, nodeLine, messagesLine, nodeLines, tableLines}
+use Rattle.listing.specs.Lines.{cabinetsLine, nodeLine, messagesLine, nodeLines, tableLines, totalLines}
 use Rattle.run_list.specs.Text.{refusedLines, endingLines, runLines, linesOf}
 use Rattle.run_list.specs.Claims.{linesBefore, linesBehind, Behind}
 
@@ -62,7 +63,7 @@ line-of n r i low high l h =
     let y : suc (i - 1) ≡ i = omega arith in
     ap (λ (z : List (List ℕ)). cabinetsLine n ∷ z)
     (regrouped (refusedLines (start n) 1 (r .events)) (endingLines (r .ending)) (nodeLines 1 (take (i - 1) (s .nodes))) (nodeLines (i + 1) (drop i (s .nodes)))
-    (messagesLine (length (s .queue)) ∷ []) (nodeLine i (nodeAt s i)) (nodeLines 1 (s .nodes))
+    (messagesLine (length (s .queue)) ∷ totalLines s) (nodeLine i (nodeAt s i)) (nodeLines 1 (s .nodes))
     (line-at 1 (s .nodes) (i - 1) (omega (arith, l, h, k, g .2))
     ∙ ap (λ (z : ℕ). nodeLines 1 (take (i - 1) (s .nodes)) ++ (nodeLine z (nodeAt s i) ∷ nodeLines (z + 1) (drop (suc (i - 1)) (s .nodes)))) x
     ∙ ap (λ (z : ℕ). nodeLines 1 (take (i - 1) (s .nodes)) ++ (nodeLine i (nodeAt s i) ∷ nodeLines (i + 1) (drop z (s .nodes)))) y))
@@ -79,6 +80,7 @@ behind l n r e =
       node-line = λ i l h. rw e (line-of n r i (g .0) (g .1) l h);
       fixes = d;
       from-list = task-from-list n (g .1);
+      traffic = traffic-agrees n (g .0) (g .1);
       agree = λ i j h₁ h₂ k₁ k₂ p q s. (
         d .same-coordinator (r .events) i j h₁ h₂ k₁ k₂ (ap isActive p) (ap isActive q) s,
         same d (r .events) i j h₁ h₂ k₁ k₂ p q s,

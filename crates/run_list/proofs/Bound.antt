@@ -64,14 +64,14 @@ unfolding joined
 ending-long m complete h i = omega arith
 ending-long m (stopped b s) h i = let k = h b s refl in rw (joined-one (stoppedLine b (stopNumber s))) (stopped-long b (stopNumber s) (omega arith) (stop-small s))
 
-run-table-long : (n : ℕ) (vs : List Event) → 1 ≤ n → n ≤ 16 → length (joined (tableLines (run n vs))) ≤ 34 * 16 + 12
+run-table-long : (n : ℕ) (vs : List Event) → 1 ≤ n → n ≤ 16 → length (joined (tableLines (run n vs))) ≤ 34 * 16 + 12 + 53
 run-table-long n vs h i =
     let g = stays-in-range .runs n h i vs in
     let t = table-long (run n vs) g in
     let z = in-range-size (run n vs) g .1 in
     omega arith
 
-left-long : (l : List ℕ) (n : ℕ) → 1 ≤ n → n ≤ 16 → 4 ≤ length l → length l ≤ 65536 → length (joined (left l (start n) 4 1)) ≤ 17 * 16384 + (34 * 16 + 12)
+left-long : (l : List ℕ) (n : ℕ) → 1 ≤ n → n ≤ 16 → 4 ≤ length l → length l ≤ 65536 → length (joined (left l (start n) 4 1)) ≤ 17 * 16384 + (34 * 16 + 12 + 53)
 left-long l n h i j k =
     let r = rest l 4 in
     let f = reads-all .few l 4 j in

@@ -1,30 +1,73 @@
--- The named cases, computed over the definitions.
-use mathlib.Core.Path.{_≡_, refl}
+-- The named cases, computed over the definitions. In a run neither the range nor 17 is computed at each event: it is in range, and does not meet 17.
+use Prim.Native.Nat.{ℕ, _+_, _≤_, _<_}
+use native.Mathlib.Omega.{arith}
+use mathlib.Core.Bool.{true}
+use mathlib.Core.Path.{_≡_, refl, _∙_, ap, ap₂}
+use mathlib.Core.List.{List, [], _∷_, _++_}
 use lib.Count.{onesIn, ones, leadingZeros}
+use lib.ListN.{length}
 use Rattle.model.specs.Pick.{pick}
+use Rattle.model.specs.Limits.{trafficEnd}
+use Rattle.model.specs.Counts.{total}
 use Rattle.model.specs.Procedures.{inviteNext, merges, handNext, finishes, forwardNext, askedAll, askAt, askAfter}
 use Rattle.model.specs.React.{checked as isChecked, timedOut, ticked, expired, resumed, onAreYouCoordinator, onAreYouThere, onInvitation, onAccept, onReady, onReply, received, react}
-use Rattle.model.specs.Range.{activityInRange, nodeInRange, messageInRange}
-use Rattle.model.specs.State.{waits, oldest, withoutOldest, every, inRange}
-use Rattle.model.specs.Step.{reactionTo, remaining, effect, grounds, judged, step, runFrom}
+use Rattle.model.specs.State.{State, start, waits, oldest, withoutOldest, inRange}
+use Rattle.model.specs.Step.{reactionTo, remaining, effect, judged, Result, accepted, step, kept, after, runFrom}
+use Rattle.model.specs.Answers.{resultNumber}
+use Rattle.model.proofs.InRange.{stays-in-range, run-in}
+use Rattle.model.proofs.Aside.{Room, between, by-between, room-after, room-below, counting, run-counting, start-room}
 use Rattle.model.proofs.Cases.{named-cases}
-use Rattle.event_list.specs.Format.{lengthOf, cutShort, checked, eventOf, nextAt, nodesOf, firstOf, readFrom, rest, reading}
+use Rattle.model.specs.declared.Event.{Event}
+use Rattle.event_list.specs.declared.First.{First}
+use Rattle.event_list.specs.declared.First.the-variants as First
+use Rattle.event_list.specs.Format.{Reading, lengthOf, cutShort, checked, eventOf, nextAt, nodesOf, firstOf, readFrom, rest, reading}
 use Rattle.listing.specs.Decimal.{digits, decimal}
-use Rattle.listing.specs.Lines.{row, cabinetsLine, refusedLine, stoppedLine, nodeLine, messagesLine, nodeLines, tableLines}
+use Rattle.listing.specs.Lines.{row, cabinetsLine, refusedLine, stoppedLine, nodeLine, messagesLine, totalLine, totalLines, nodeLines, tableLines}
 use Rattle.listing.specs.Printing.{joined}
-use Rattle.run_list.specs.Text.{noteLines, refusedLines, linesOf}
-use Rattle.run_list.specs.Cases.{ListCases}
+use Rattle.run_list.specs.Text.{noteLines, refusedLines, endingLines, runLines, linesOf, textOf}
+use Rattle.event_list.specs.Cases.{nodes, recover, crash}
+use Rattle.run_list.specs.Cases.{k10-list, ListCases}
+use Rattle.run_list.proofs.Laws.{left, lines-begun}
+
+-- what an event comes to by the grounds 7 to 14
+abbrev known : State → Event → Result
+known s v = judged (accepted (effect s v) (reactionTo s v .mark)) (between s v)
+
+abbrev quickRefused : State → ℕ → List Event → List (List ℕ)
+quickRefused s e [] = []
+quickRefused s e (v ∷ vs) = noteLines e (resultNumber (known s v)) ++ quickRefused (kept s (known s v)) (e + 1) vs
+
+quick-refused : (s : State) (e : ℕ) (vs : List Event) → inRange s ≡ true → Room (length vs) (s .sent) → refusedLines s e vs ≡ quickRefused s e vs
+unfolding refusedLines runFrom
+quick-refused s e [] r h = refl
+quick-refused s e (v ∷ vs) r h =
+    ap (λ (x : List (List ℕ)). noteLines e (resultNumber (step s v)) ++ x) (quick-refused (after s v) (e + 1) vs (run-in s (v ∷ []) r) (room-after (length vs) s v (λ k. omega (arith, h k))))
+    ∙ ap (λ (x : Result). noteLines e (resultNumber x) ++ quickRefused (kept s x) (e + 1) vs) (by-between s v r (room-below _ (s .sent) h))
+
+-- the lines of a run from the starting table
+abbrev quickLines : ℕ → Reading → List (List ℕ)
+quickLines n r = quickRefused (start n) 1 (r .events) ++ (endingLines (r .ending) ++ tableLines (counting (start n) (r .events)))
+
+-- the text of a list of n nodes
+pub quick-text : (l : List ℕ) (n : ℕ) → First.Nodes n ≡ firstOf l → 1 ≤ n → n ≤ 16 → length (rest l 4 .events) < trafficEnd → textOf l ≡ joined (cabinetsLine n ∷ quickLines n (rest l 4))
+quick-text l n i low high k =
+    let g = stays-in-range .starts n low high in
+    let m = start-room (length (rest l 4 .events)) k in
+    ap joined
+    (lines-begun l i refl
+    ∙ ap (λ (x : List (List ℕ)). cabinetsLine n ∷ x)
+    (ap₂ (λ (x : List (List ℕ)) (s : State). x ++ (endingLines (rest l 4 .ending) ++ tableLines s)) (quick-refused (start n) 1 (rest l 4 .events) g m) (run-counting (start n) (rest l 4 .events) g m)))
 
 pub list-cases : ListCases
-unfolding pick onesIn ones leadingZeros inviteNext merges handNext finishes forwardNext askedAll askAt askAfter isChecked timedOut ticked expired resumed onAreYouCoordinator onAreYouThere onInvitation onAccept onReady onReply received react activityInRange nodeInRange messageInRange waits oldest withoutOldest every inRange reactionTo remaining effect grounds judged step runFrom lengthOf cutShort checked eventOf nextAt nodesOf firstOf readFrom rest reading digits decimal row cabinetsLine refusedLine stoppedLine nodeLine messagesLine nodeLines tableLines joined noteLines refusedLines linesOf
+unfolding pick onesIn ones leadingZeros inviteNext merges handNext finishes forwardNext askedAll askAt askAfter isChecked timedOut ticked expired resumed onAreYouCoordinator onAreYouThere onInvitation onAccept onReady onReply received react waits oldest withoutOldest reactionTo remaining effect judged lengthOf cutShort checked eventOf nextAt nodesOf firstOf readFrom rest reading digits decimal row cabinetsLine refusedLine stoppedLine nodeLine messagesLine totalLine totalLines total nodeLines tableLines joined noteLines linesOf
 list-cases =
     record {
       in-model = named-cases;
       k1-low = refl;
       k1-high = refl;
-      k1-first = refl;
-      k1-last = refl;
-      k10 = refl;
-      refused-stopped = refl;
+      k1-first = quick-text (nodes 1) 1 refl (omega arith) (omega arith) (omega arith);
+      k1-last = quick-text (nodes 16) 16 refl (omega arith) (omega arith) (omega arith);
+      k10 = quick-text k10-list 2 refl (omega arith) (omega arith) (omega arith);
+      refused-stopped = quick-text (nodes 2 ++ (recover 1 ++ (recover 1 ++ (crash 2 ++ (recover 2 ++ (0x17 ∷ 0 ∷ [])))))) 2 refl (omega arith) (omega arith) (omega arith);
       failed-alone = refl;
     }

@@ -27,16 +27,16 @@ use Rattle.event_list.specs.Format.{stopNumber, nextAt, firstOf, rest}
 use Rattle.event_list.proofs.Reading.{rest-done, rest-stopped, rest-got, reading-failed, reading-begun, first-good}
 use Rattle.listing.specs.declared.Put.{Put}
 use Rattle.listing.specs.declared.Put.the-variants as Put
-use Rattle.listing.specs.Lines.{cabinetsLine, stoppedLine, tableLines}
+use Rattle.listing.specs.Lines.{cabinetsLine, stoppedLine, totalLines, tableLines}
 use Rattle.listing.specs.Printing.{putNumber, shown, printed}
 use Rattle.listing.proofs.Printing.{then-next, then-refused}
 use Rattle.run_list.specs.Text.{noteLines, refusedLines, runLines, linesOf, Headed}
 use Rattle.run_list.specs.declared.Heading.the-variants as Heading
 
 -- the lines of a table do not depend on what its messages are
-pub same-lines : (t : Table) (ws : List ℕ) → tableLines (view t) ≡ tableLines (seen (t .n) (t .nodes) ws (t .waiting))
-unfolding tableLines
-same-lines t ws = rw (first-length (t .waiting) noMessage (t .messages), first-length (t .waiting) noMessage (held ws))
+pub same-lines : (t : Table) (ws : List ℕ) → tableLines (view t) ≡ tableLines (seen (t .n) (t .nodes) ws (t .waiting) (t .sent) (t .delivered) (t .lost))
+unfolding tableLines totalLines
+same-lines t ws = rw (first-length (t .waiting) noMessage (t .messages), first-length (t .waiting) noMessage (held ws)) refl
 
 -- the lines that are left at an offset, where the table is s and the next event is event e
 abbrev pub left : List ℕ → State → ℕ → ℕ → List (List ℕ)

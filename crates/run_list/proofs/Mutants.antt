@@ -17,7 +17,8 @@ use Rattle.model.specs.Answers.{statusNumber}
 use Rattle.model.specs.declared.Node.{Node}
 use Rattle.event_list.specs.Format.{lengthOf, cutShort, checked, eventOf, nextAt, nodesOf, firstOf, readFrom, rest, Reading, begun, reading}
 use Rattle.listing.specs.Decimal.{digits, decimal}
-use Rattle.listing.specs.Lines.{row, cabinetsLine, refusedLine, stoppedLine, nodeLine, messagesLine, nodeLines, tableLines}
+use Rattle.listing.specs.Lines.{row, cabinetsLine, refusedLine, stoppedLine, nodeLine, messagesLine, nodeLines, tableLines, totalLine, totalLines}
+use Rattle.model.specs.Counts.{total}
 use Rattle.listing.specs.Printing.{joined}
 use Rattle.listing.specs.declared.Put.the-variants.{Next, NoRoom}
 use Rattle.run_list.specs.Text.{noteLines, refusedLines, linesOf, textOf}
@@ -29,17 +30,17 @@ use Rattle.listing.proofs.Decimal.{decimal-each}
 use Rattle.listing.proofs.Parted.{each-at, parted}
 use Rattle.run_list.specs.Claims.{linesBefore, linesBehind}
 use Rattle.run_list.proofs.Behind.{behind}
-use Rattle.run_list.proofs.Cases.{list-cases}
+use Rattle.run_list.proofs.Cases.{quick-text, list-cases}
 
 -- ── the texts ──
 
 record Texts : Type 0 where
-  refused : textOf (nodes 2 ++ (recover 1 ++ recover 1)) ≡ bytes "cabinets 2\nrefused 2 9\n1 3 1 16 1 1 0\n2 0 0 0 0 0 0\nmessages 0\n"
-  stopped : textOf (nodes 2 ++ (0x11 ∷ [])) ≡ bytes "cabinets 2\nstopped 4 3\n1 0 0 0 0 0 0\n2 0 0 0 0 0 0\nmessages 0\n"
+  refused : textOf (nodes 2 ++ (recover 1 ++ recover 1)) ≡ bytes "cabinets 2\nrefused 2 9\n1 3 1 16 1 1 0\n2 0 0 0 0 0 0\nmessages 0\nsent 0\ndelivered 0\nlost 0\n"
+  stopped : textOf (nodes 2 ++ (0x11 ∷ [])) ≡ bytes "cabinets 2\nstopped 4 3\n1 0 0 0 0 0 0\n2 0 0 0 0 0 0\nmessages 0\nsent 0\ndelivered 0\nlost 0\n"
 
 texts : Texts
-unfolding pick onesIn ones leadingZeros activityInRange nodeInRange messageInRange react every inRange reactionTo remaining effect grounds judged step runFrom lengthOf cutShort checked eventOf nextAt nodesOf firstOf readFrom rest reading digits decimal row cabinetsLine refusedLine stoppedLine nodeLine messagesLine nodeLines tableLines joined noteLines refusedLines linesOf
-texts = record { refused = refl; stopped = refl }
+unfolding pick onesIn ones leadingZeros react reactionTo remaining effect judged lengthOf cutShort checked eventOf nextAt nodesOf firstOf readFrom rest reading digits decimal row cabinetsLine refusedLine stoppedLine nodeLine messagesLine totalLine totalLines total nodeLines tableLines joined noteLines
+texts = record { refused = quick-text (nodes 2 ++ (recover 1 ++ recover 1)) 2 refl (omega arith) (omega arith) (omega arith); stopped = quick-text (nodes 2 ++ (0x11 ∷ [])) 2 refl (omega arith) (omega arith) (omega arith) }
 
 -- the buffer begins with the text x
 record Begins (o x : List ℕ) : Type 0 where
@@ -86,8 +87,8 @@ unfolding decimal digits
 one-alone k y v =
     by-test (λ (l : List ℕ). Numeral (l ++ ((48 + k % 10) ∷ [])) → (l ++ ((48 + k % 10) ∷ [])) ++ (10 ∷ y) ≡ 49 ∷ 10 ∷ v → k ≡ 1)
     (λ t g e. let z : 48 + k % 10 ≡ 49 = cc in let s = ltb-true k 10 t in omega arith)
-    (λ t g e. absurd (second (digits 9 (k / 10)) y (48 + k % 10) 49 v (some-digits 8 (k / 10)) g e))
-    (all-digits 10 k)
+    (λ t g e. absurd (second (digits 19 (k / 10)) y (48 + k % 10) 49 v (some-digits 18 (k / 10)) g e))
+    (all-digits 20 k)
 
 -- ── the count of members, of any list and any node ──
 

@@ -19,7 +19,7 @@ use Rattle.event_list.specs.declared.First.{First}
 use Rattle.event_list.specs.declared.First.the-variants as First
 use Rattle.event_list.specs.Format.{stopNumber, firstOf, Ending, complete, stopped, Reading, failed, begun, reading, rest}
 use Rattle.event_list.proofs.Reading.{reading-failed, reading-begun, first-good, reads-all}
-use Rattle.listing.specs.Lines.{cabinetsLine, refusedLine, stoppedLine, messagesLine, nodeLines, tableLines}
+use Rattle.listing.specs.Lines.{cabinetsLine, refusedLine, stoppedLine, messagesLine, nodeLines, tableLines, totalLines}
 use Rattle.listing.specs.Printing.{joined}
 use Rattle.listing.proofs.Parted.{Each, Stops, each-map, each-append, parted, IsLine, joined-same}
 use Rattle.listing.proofs.Claims.{lines-determine, cabinets-line, refused-line, stopped-line, table-lines, table-same, table-small, node-low}
@@ -127,7 +127,7 @@ table-low : (s : State) → Stops High (tableLines s)
 unfolding tableLines nodeLines messagesLine
 table-low s = by (s .nodes)
   where
-    by : (cs : List Node) → Stops High (nodeLines 1 cs ++ (messagesLine (length (s .queue)) ∷ []))
+    by : (cs : List Node) → Stops High (nodeLines 1 cs ++ (messagesLine (length (s .queue)) ∷ totalLines s))
     by [] = λ e. omega arith
     by (c ∷ cs) = λ e. let h = node-low 1 c in omega arith
 

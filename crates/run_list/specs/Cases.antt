@@ -21,17 +21,17 @@ pub record ListCases : Type 0 where
   -- "K1 n = 0 and 17: 6; 1 and 16 pass."
   pub k1-low : textOf (nodes 0) ≡ bytes "stopped 0 6\n"
   pub k1-high : textOf (nodes 17) ≡ bytes "stopped 0 6\n"
-  pub k1-first : textOf (nodes 1) ≡ bytes "cabinets 1\n1 0 0 0 0 0 0\nmessages 0\n"
+  pub k1-first : textOf (nodes 1) ≡ bytes "cabinets 1\n1 0 0 0 0 0 0\nmessages 0\nsent 0\ndelivered 0\nlost 0\n"
   pub k1-last : textOf (nodes 16) ≡
       bytes "cabinets 16\n1 0 0 0 0 0 0\n2 0 0 0 0 0 0\n3 0 0 0 0 0 0\n4 0 0 0 0 0 0\n"
       ++ (bytes "5 0 0 0 0 0 0\n6 0 0 0 0 0 0\n7 0 0 0 0 0 0\n8 0 0 0 0 0 0\n"
       ++ (bytes "9 0 0 0 0 0 0\n10 0 0 0 0 0 0\n11 0 0 0 0 0 0\n12 0 0 0 0 0 0\n"
-      ++ bytes "13 0 0 0 0 0 0\n14 0 0 0 0 0 0\n15 0 0 0 0 0 0\n16 0 0 0 0 0 0\nmessages 0\n"))
-  -- K10's lines
-  pub k10 : textOf k10-list ≡ bytes "cabinets 2\n1 3 2 33 100 1 0\n2 3 2 33 100 2 1\nmessages 0\n"
+      ++ bytes "13 0 0 0 0 0 0\n14 0 0 0 0 0 0\n15 0 0 0 0 0 0\n16 0 0 0 0 0 0\nmessages 0\nsent 0\ndelivered 0\nlost 0\n"))
+  -- K10's lines; 02, T-05: "K10 gains the lines `sent 8`, `delivered 8`, `lost 0`."
+  pub k10 : textOf k10-list ≡ bytes "cabinets 2\n1 3 2 33 100 1 0\n2 3 2 33 100 2 1\nmessages 0\nsent 8\ndelivered 8\nlost 0\n"
   -- refused events are counted with the others, and a stop comes behind them and before the table so far: a second recovery, a crash of a node that is Down, and
   -- a field cut short behind a good event
   pub refused-stopped : textOf (nodes 2 ++ (recover 1 ++ (recover 1 ++ (crash 2 ++ (recover 2 ++ (0x17 ∷ 0 ∷ []))))))
-      ≡ bytes "cabinets 2\nrefused 2 9\nrefused 3 9\nstopped 20 3\n1 3 1 16 1 1 0\n2 3 2 17 2 1 0\nmessages 0\n"
+      ≡ bytes "cabinets 2\nrefused 2 9\nrefused 3 9\nstopped 20 3\n1 3 1 16 1 1 0\n2 3 2 17 2 1 0\nmessages 0\nsent 0\ndelivered 0\nlost 0\n"
   -- "if the whole list or the first field failed, that line is all that is printed"
   pub failed-alone : textOf (0x01 ∷ 0 ∷ 2 ∷ 2 ∷ 2 ∷ []) ≡ bytes "stopped 0 5\n"

@@ -6,10 +6,10 @@ use lib.ListN.{length, take, drop}
 use Rattle.model.specs.Limits.{nodeLimit}
 use Rattle.model.specs.State.{start, nodeAt}
 use Rattle.model.specs.Step.{run}
-use Rattle.model.specs.Claims.{RunFixes, TaskFromList}
+use Rattle.model.specs.Claims.{RunFixes, TaskFromList, TrafficAgrees}
 use Rattle.model.specs.declared.Status.the-variants.{Normal}
 use Rattle.event_list.specs.Format.{Reading}
-use Rattle.listing.specs.Lines.{cabinetsLine, nodeLine, messagesLine, nodeLines}
+use Rattle.listing.specs.Lines.{cabinetsLine, nodeLine, messagesLine, nodeLines, totalLines}
 use Rattle.listing.specs.Printing.{joined}
 use Rattle.run_list.specs.Text.{refusedLines, endingLines, runLines, linesOf, textOf}
 
@@ -21,7 +21,7 @@ linesBefore n r i =
 
 -- and those behind it
 abbrev pub linesBehind : ℕ → Reading → ℕ → List (List ℕ)
-linesBehind n r i = nodeLines (i + 1) (drop i (run n (r .events) .nodes)) ++ (messagesLine (length (run n (r .events) .queue)) ∷ [])
+linesBehind n r i = nodeLines (i + 1) (drop i (run n (r .events) .nodes)) ++ (messagesLine (length (run n (r .events) .queue)) ∷ totalLines (run n (r .events)))
 
 -- Of any bytes l whose first field is good with n, and which say r behind it: the text is that of a run of r's events, and demand 3 holds of that run.
 pub record Behind (l : List ℕ) (n : ℕ) (r : Reading) : Type 0 where
@@ -35,6 +35,8 @@ pub record Behind (l : List ℕ) (n : ℕ) (r : Reading) : Type 0 where
   pub fixes : RunFixes n
   -- and where in the list each task comes from
   pub from-list : TaskFromList n
+  -- T-05: the records behind the totals printed are the counts of the list's accepted events, and no event meets 17
+  pub traffic : TrafficAgrees n
   -- so in the table printed, nodes that are Normal with the same group have the same coordinator and the same task
   pub agree : (i j : ℕ) → 1 ≤ i → i ≤ n → 1 ≤ j → j ≤ n
       → nodeAt (run n (r .events)) i .status ≡ Normal → nodeAt (run n (r .events)) j .status ≡ Normal

@@ -63,7 +63,7 @@ pub record Printed (l b o : List ℕ) (a : Put) : Type 0 where
 
 -- A bound: `cabinets n`, a line for each of at most 16,383 events (of four bytes or more) and for a stop, and the table of 16 nodes.
 abbrev pub textLimit : ℕ
-textLimit = 12 + 17 * 16384 + (34 * 16 + 12)
+textLimit = 12 + 17 * 16384 + (34 * 16 + 12 + 53)
 
 -- No text is longer.
 abbrev pub TextFits : Type 0

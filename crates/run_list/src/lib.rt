@@ -13,6 +13,7 @@ ghost use Prim.Native.Nat.{_≤_};
 ghost use lib.ListN.{length};
 ghost use Rattle.model.specs.Answers.{answerNumber};
 ghost use Rattle.model.specs.State.{view, inRange};
+ghost use Rattle.model.specs.State as state;
 ghost use Rattle.event_list.specs.Format.{stopNumber, rest};
 ghost use Rattle.listing.specs.Lines.{stoppedLine, tableLines};
 ghost use Rattle.listing.specs.Printing.{shown, printed};
@@ -64,10 +65,10 @@ pub fn stop(out: &mut [u8], at: usize, b: u32, s: Stop, t: Table) -> Put
     }
 }
 
-// The events of list behind its first field, run from the table start, in which no message waits, and all that is printed of them.
-// The table stands in this function's own local and its messages in q; the functions that it calls take a node, a message and numbers, so no table is copied.
+// The events of list behind its first field, run from the starting table start, and all that is printed of them. The table stands in this function's own local and its
+// messages in q; the functions that it calls take a node, a message and numbers, so no table is copied. No event of a run meets 17, so it is not tested.
 fn run(list: &[u8], out: &mut [u8], from: usize, start: Table) -> Put
-    requires { ⌜ (4 ≤ length (now list)) × (length (now list) ≤ 65536) × (inRange (view start) ≡ true) × (start .waiting ≡ 0) ⌝ }
+    requires { ⌜ (4 ≤ length (now list)) × (length (now list) ≤ 65536) × (inRange (view start) ≡ true) × (view start ≡ state.start (start .n)) ⌝ }
     ensures { λ a. ⌜ shown a (now (out .exit)) ≡ printed (now (out .entry)) from (runLines (view start) 1 (rest (now (list .entry)) 4)) ⌝ }
 {
     let mut t = start;
@@ -92,6 +93,11 @@ fn run(list: &[u8], out: &mut [u8], from: usize, start: Table) -> Put
                     let outgoing = reaction.outgoing;
                     t.nodes[i] = node;
                     t.waiting = packed::exchange(&mut q, ruling.place, waiting, outgoing);
+                    let s = machine::sent_place(outgoing);
+                    t.sent[s] = t.sent[s] + machine::sent_by(outgoing);
+                    let m = machine::moved_place(event);
+                    t.delivered[m] = t.delivered[m] + machine::delivered_by(event);
+                    t.lost[m] = t.lost[m] + machine::lost_by(event);
                     at = next;
                     e += 1;
                     continue;
@@ -131,7 +137,7 @@ pub fn print(list: &[u8], out: &mut [u8]) -> Put
 }
 
 // No text is longer.
-pub const TEXT_LIMIT: usize = 279096;
+pub const TEXT_LIMIT: usize = 279149;
 
 // The text of list at the start of out, and its length: there is always room.
 pub fn print_whole(list: &[u8], out: &mut [u8; TEXT_LIMIT]) -> usize

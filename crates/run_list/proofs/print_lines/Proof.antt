@@ -1,8 +1,8 @@
 -- `run_list::print_lines` meets its contract: by the heading, that alone, or the run behind it.
 use borrow.Author.Needs.{needs}
 use denote.Ref.{now}
-use mathlib.Core.Path.{refl, _∙_}
-use Rattle.packed.proofs.Turns.{start-empty}
+use mathlib.Core.Path.{refl, sym, _∙_, ap}
+use Rattle.model.specs.State.{State, start}
 use Rattle.event_list.proofs.Reading.{first-good}
 use Rattle.run_list.proofs.Laws.{start-in-range, headed-ended, headed-nodes}
 use Rattle.run_list.proofs.print_lines.Statement.{statement}
@@ -16,7 +16,7 @@ run-requires c κs =
     let f = headed-nodes l _ _ _ _ (rw (m .n .given .1) at (h .put-heading .ensures)) in
     let g = first-good l refl (f .first) in
     let b = c .before .before .starting .ensures .table in
-    (g .0, g .1, rw b (start-in-range l refl (f .first)), start-empty _ _ b)
+    (g .0, g .1, rw b (start-in-range l refl (f .first)), b ∙ ap start (sym (ap (λ (s : State). s .n) b)))
 
 returns : tie.Need-returns
 returns c = headed-ended _ _ _ _ (rw (c .before .a .given .1) at (c .before .before .before .before .before .put-heading .ensures))
