@@ -7,10 +7,12 @@ use mathlib.Core.List.{List, [], _∷_, _++_}
 use lib.Dec.{eqb, ltb}
 use lib.ListN.{length, take, drop, length-append}
 use lib.Seq.{take-append-le, drop-at}
-use borrow.Author.Tests.{lt-leb, lt-ltb, le-ltb, ltb-true, ltb-false, ne-eqb}
+use borrow.Author.Tests.{lt-leb, lt-ltb, le-ltb, ltb-true, ltb-false, eqb-true, ne-eqb}
 use Rattle.model.specs.Pick.{pick, pick-true, pick-false, by-test}
 use Rattle.model.specs.State.{State, noMessage, startingNode, inRange, tableOf}
-use Rattle.model.proofs.Refusals.{result-small}
+use Rattle.model.proofs.Refusals.{refuses-by-ground, result-small}
+use Rattle.model.proofs.InRange.{stays-in-range}
+use Rattle.model.proofs.Fields.{in-range-places}
 use Rattle.machine.proofs.Laws.{first-length}
 use Rattle.event_list.specs.Format.{twoBytes, stopNumber, lengthOf, cutShort, checked, nextAt}
 use Rattle.event_list.specs.declared.Stop.{Stop}
@@ -18,13 +20,13 @@ use Rattle.event_list.specs.declared.Stop.the-variants.{TooLong, CutShort, Wron
 use Rattle.event_list.specs.declared.Next.{Next}
 use Rattle.event_list.specs.declared.Next.the-variants.{Done, Stopped, Got}
 use Rattle.table_bytes.specs.Bytes.{size, encoded}
-use Rattle.table_bytes.proofs.RoundTrip.{encoded-size}
+use Rattle.table_bytes.proofs.Records.{encoded-size}
 use Rattle.exports.specs.Boundary.{stateOf, stateBytes, fieldNumber, fieldAfter, stepNumber, stepBytes}
 use Rattle.exports.specs.Claims.{StepClaims}
 
 -- ── no number of a refusal is 255 ──
 
-field-small : (s : State) (x : Next) → fieldNumber s x ≤ 14
+field-small : (s : State) (x : Next) → fieldNumber s x ≤ 17
 field-small s Done = omega arith
 field-small s (Stopped TooLong) = omega arith
 field-small s (Stopped CutShort) = omega arith
@@ -45,6 +47,21 @@ unfolding nextAt checked
 bad-at l at =
     by-test Bad (λ m. tt)
     (λ m. by-test Bad (λ u. omega arith) (λ u. by-test Bad (λ t. omega arith) (λ t. by-test Bad (λ w. omega arith) (λ w. tt))))
+
+-- ── what an accepted event leaves is in range, so each of its lists of counts is whole ──
+
+after-in-range : (s : State) (x : Next) → Bad x → fieldNumber s x ≡ 0 → inRange (fieldAfter s x) ≡ true
+after-in-range s Done h z = absurd (omega (arith, z))
+after-in-range s (Stopped y) h z = absurd (omega arith)
+after-in-range s (Got e next) h z =
+    let m = refuses-by-ground .zero-accepts s e z in
+    rw (m .is) (stays-in-range .keeps s e (m .state) (m .mark) (m .is))
+
+state-long : (s : State) → inRange s ≡ true → length (stateBytes s) ≡ size
+state-long s h =
+    let p = in-range-places s h in
+    encoded-size (tableOf s)
+    (record { nodes = first-length 16 startingNode (s .nodes); messages = first-length 64 noMessage (s .queue); sent = p .0; delivered = p .1; lost = p .2 })
 
 -- ── bytes behind a field ──
 
@@ -96,15 +113,18 @@ module _ (t f b : List ℕ) where
   unfolding stepBytes
   keeps h = rw (ne-eqb (stepNumber t f b) 0 h, pick-false)
 
+  -- accepted: the number is the field's
+  accepts : stepNumber t f b ≡ 0 → fieldNumber (stateOf t) (nextAt f 0) ≡ 0
+  unfolding stepNumber
+  accepts =
+      by-test (λ (n : ℕ). n ≡ 0 → fieldNumber (stateOf t) (nextAt f 0) ≡ 0) (λ _ z. absurd (omega (arith, z))) (λ _. by-test (λ (n : ℕ). n ≡ 0 → fieldNumber (stateOf t) (nextAt f 0) ≡ 0) (λ _ z. absurd (omega (arith, z))) (λ _ z. z))
+
   behind : drop size (stepBytes t f b) ≡ drop size b
   unfolding stepBytes
   behind =
       by-test (λ (l : List ℕ). drop size l ≡ drop size b)
-      (λ _. drop-at (stateBytes (fieldAfter (stateOf t) (nextAt f 0))) (drop size b) size (state-long _))
+      (λ q. drop-at (stateBytes (fieldAfter (stateOf t) (nextAt f 0))) (drop size b) size (state-long _ (after-in-range (stateOf t) (nextAt f 0) (bad-at f 0) (accepts (eqb-true _ 0 q)))))
       (λ _. refl)
-    where
-      state-long : (s : State) → length (stateBytes s) ≡ size
-      state-long s = encoded-size (tableOf s) (first-length 16 startingNode (s .nodes)) (first-length 64 noMessage (s .queue))
 
   no-event : (s : Stop) → size ≤ length b → inRange (stateOf t) ≡ true → nextAt f 0 ≡ Stopped s → (3 ≤ stepNumber t f b) × (stepNumber t f b ≤ 5)
   no-event s h g q = rw (long h g, q) (rw q at (bad-at f 0))

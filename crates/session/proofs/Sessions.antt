@@ -7,7 +7,7 @@ use Rattle.model.specs.declared.Event.{Event}
 use Rattle.machine.specs.Folded as Folded
 use Rattle.machine.specs.Folded.{Folded}
 use Rattle.machine.specs.Claims.{CodeRuns}
-use Rattle.machine.proofs.Runs.{chain-runs, chain-fixes}
+use Rattle.machine.proofs.Runs.{chain-runs, chain-fixes, chain-traffic}
 use Rattle.session.specs.Applied.{Applied, none, more, SessionFixes}
 
 applied-folds : (t : Table) (es : List Event) (u : Table) → Applied t es u → Folded t es u
@@ -19,4 +19,4 @@ pub session-runs : CodeRuns Applied
 session-runs = chain-runs Applied applied-folds
 
 pub session-fixes : (n : ℕ) → n ≤ nodeLimit → SessionFixes n
-session-fixes n h = record { folds = applied-folds; runs = session-runs; fixes = chain-fixes Applied applied-folds n h }
+session-fixes n h = record { folds = applied-folds; runs = session-runs; fixes = chain-fixes Applied applied-folds n h; traffic = λ l. chain-traffic Applied applied-folds n l h }

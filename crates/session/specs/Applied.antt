@@ -1,12 +1,12 @@
 -- "The rig keeps one table for a whole session and applies each event to it": calls of `apply` on one lent table, and demand 3 of them.
-use Prim.Native.Nat.{ℕ}
+use Prim.Native.Nat.{ℕ, _≤_}
 use mathlib.Core.List.{List, [], _∷_}
 use Rattle.model.specs.declared.Table.{Table}
 use Rattle.model.specs.declared.Event.{Event}
 use Rattle.model.specs.declared.Answer.{Answer}
 use Rattle.machine.specs.Stepped.{Stepped}
 use Rattle.machine.specs.Folded.{Folded}
-use Rattle.machine.specs.Claims.{CodeRuns, CodeFixes}
+use Rattle.machine.specs.Claims.{CodeRuns, CodeFixes, CodeTraffic}
 
 -- From what the table held first, t, by a call for each event, to what it holds then, u. "Each event gets the table that the one before returned or left, and
 -- nobody else writes it."
@@ -23,3 +23,5 @@ pub record SessionFixes (n : ℕ) : Type 0 where
   pub runs : CodeRuns Applied
   -- and demand 3, whole, holds of it
   pub fixes : CodeFixes Applied n
+  -- and so does T-05
+  pub traffic : 1 ≤ n → CodeTraffic Applied n

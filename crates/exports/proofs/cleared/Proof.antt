@@ -8,8 +8,9 @@ use Rattle.exports.proofs.cleared.Tie as tie
 
 returns : tie.Need-returns
 returns c =
-    let t = c .before .before .args .t in
-    rw (c .cleared-messages .ensures, c .before .cleared-nodes .ensures, first-length (t .waiting) noMessage (t .messages))
+    let m = c .before .before .before in
+    let t = m .before .before .args .t in
+    rw (m .cleared-messages .ensures, m .before .cleared-nodes .ensures, first-length (t .waiting) noMessage (t .messages))
 
 pub cleared-spec : {M : Type 1} → statement M
 cleared-spec = tie.close (tie.spec (λ c κs. search needs) (λ c κs. search needs) returns)
