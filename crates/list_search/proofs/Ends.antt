@@ -10,7 +10,7 @@ use lib.ListN.{length, take, getD, length-append}
 use lib.Seq.{length-take-le}
 use borrow.Author.Tests.{ne-eqb, leb-true, eqb-true}
 use Rattle.model.specs.Pick.{pick, pick-true, pick-false}
-use Rattle.model.specs.State.{start, inRange, view}
+use Rattle.model.specs.State.{start, countsOf, inRange, firstOf, view}
 use Rattle.model.specs.declared.Table.{Table}
 use Rattle.machine.specs.Stepped.{startingTable}
 use Rattle.packed.proofs.Turns.{same-start}
@@ -20,7 +20,7 @@ use Rattle.listing.specs.Ascii.{bytes}
 use Rattle.listing.specs.Decimal.{digits, decimal}
 use Rattle.listing.specs.Lines.{row, stoppedLine}
 use Rattle.listing.specs.Printing.{Appended}
-use Rattle.packed.specs.Seen.{seen}
+use Rattle.packed.specs.Seen.{seenWaiting}
 use Rattle.short_lists_text.specs.Text.{countLine, fits, textOf}
 use Rattle.short_lists_text.proofs.Few.{few-lists}
 use Rattle.list_search.specs.declared.Search.{Search}
@@ -51,8 +51,9 @@ fits-are l q =
       leb-true (getD l 1 0) 7 (both-right (eqb (length l) 2 && leb 1 (getD l 0 0) && leb (getD l 0 0) 3) (leb (getD l 1 0) 7) q),
     )
 
-pub lowest-state : (n : ℕ) (t : Table) (ws : List ℕ) → t ≡ startingTable n → view t ≡ start n → seen n (t .nodes) ws 0 ≡ start n
-lowest-state n t ws e v = ap (λ (u : Table). seen n (u .nodes) ws 0) e ∙ same-start (startingTable n) ws refl ∙ ap view (sym e) ∙ v
+pub lowest-state : (n : ℕ) (t : Table) (ws : List ℕ) → t ≡ startingTable n → view t ≡ start n → seenWaiting n (t .nodes) ws 0 ≡ start n
+unfolding firstOf countsOf
+lowest-state n t ws e v = ap (λ (u : Table). seenWaiting n (u .nodes) ws 0) e ∙ same-start (startingTable n) ws refl ∙ ap view (sym e) ∙ v
 
 module _ (n k : ℕ) (s : Search) (f : First n k s) where
   stack-is : stackOf s ≡ frame (start n) 0 ∷ []

@@ -10,22 +10,26 @@ use lib.ListN.{length, take, getD, set, length-set, length-append}
 use lib.Seq.{getD-set-same, getD-set-other}
 use borrow.Author.Tests.{le-leb, lt-leb, ne-eqb}
 use Rattle.model.specs.Pick.{pick-true, pick-false}
-use Rattle.model.specs.State.{State}
-use Rattle.model.specs.Claims.{Accepts}
+use Rattle.model.specs.Counts.{noCounts}
+use Rattle.model.specs.State.{State, countsOf, countsAside}
 use Rattle.model.specs.Answers.{answerNumber}
-use Rattle.model.specs.Step.{Result, refused, accepted, step, actor, sent}
+use Rattle.model.specs.Step.{Result, refused, accepted, step, actor, sent, pairAtEnd, effect, reactionTo}
 use Rattle.model.specs.declared.Mark.{Mark}
 use Rattle.model.specs.declared.Node.{Node}
 use Rattle.model.specs.declared.Event.{Event}
+use Rattle.model.proofs.Waiting.{waiting-in}
+use Rattle.model.proofs.Aside.{waiting-small, waiting-below, in-range-base}
 use Rattle.listing.specs.Ascii.{bytes}
 use Rattle.listing.specs.Decimal.{decimal}
 use Rattle.listing.specs.Lines.{row}
 use Rattle.listing.specs.Printing.{Appended}
-use Rattle.packed.specs.Seen.{seen}
+use Rattle.packed.specs.Seen.{seenWaiting}
 use Rattle.machine.specs.Parts.{isAccepted, without, Room, leftOf}
 use Rattle.packed.specs.declared.Ruling.{Ruling}
 use Rattle.packed.specs.Packed.{queue, Ruled}
-use Rattle.packed.proofs.Turns.{Ready, refused-step, has-room, step-accepts, accepted-step, ready-again}
+use Rattle.packed.proofs.Turns.{Ready, refused-step, has-room, end-below, step-accepts, next-is, ready-again}
+use Rattle.short_lists_text.specs.Lists.{listsFrom}
+use Rattle.short_lists_text.proofs.Aside.{keeps-room, lists-aside}
 use Rattle.short_lists_text.specs.Text.{eventText, listLine, countLine}
 use Rattle.list_search.specs.declared.Level.{Level}
 use Rattle.list_search.specs.declared.Search.{Search}
@@ -75,7 +79,11 @@ pub record Kept (x o : List ℕ) (n len : ℕ) (ls : List Level) (h : ℕ) (t : 
 abbrev pub turnsOf : ℕ → ℕ → List Level → ℕ → Level → ℕ
 turnsOf n len ls h t = turnsLeft (len - h) (frameOf n t ∷ framesOf n ls h)
 
-pub ready : (n : ℕ) (p : List Event) (t : Level) → SoundLevel n p t → Ready n (t .nodes) (t .words) (t .waiting)
+-- the level's table, with the counts of what waits, is ready for a turn
+abbrev pub ReadyLevel : ℕ → Level → Type 0
+ReadyLevel n t = Ready n (t .nodes) (t .words) (t .waiting) (countsOf (queue (t .words) (t .waiting))) noCounts noCounts
+
+pub ready : (n : ℕ) (p : List Event) (t : Level) → SoundLevel n p t → ReadyLevel n t
 ready n p t s = record { words = s .words; nodes = s .nodes; range = s .range }
 
 -- the levels stand at the same text with one level less
@@ -131,7 +139,7 @@ module _ {x o : List ℕ} {n len : ℕ} {ls : List Level} {g at : ℕ} where
     e = eventAt n (t .tried)
 
     abbrev s : State
-    s = seen n (t .nodes) (t .words) (t .waiting)
+    s = seenWaiting n (t .nodes) (t .words) (t .waiting)
 
     abbrev fs : List Frame
     fs = framesOf n ls h
@@ -210,7 +218,7 @@ module _ {x o : List ℕ} {n len : ℕ} {ls : List Level} {g at : ℕ} where
           }
 
       -- as one of others: its table, with the pieces v, is put on top, and the one below it is stored
-      module _ (more : suc h < len) (v : Level) (i : v .tried ≡ 0) (a : seen n (v .nodes) (v .words) (v .waiting) ≡ u) (rd : Ready n (v .nodes) (v .words) (v .waiting))
+      module _ (more : suc h < len) (v : Level) (i : v .tried ≡ 0) (a : seenWaiting n (v .nodes) (v .words) (v .waiting) ≡ countsAside u) (rd : ReadyLevel n v)
           (w : Appended (t .line) (t .end) (eventText e ++ bytes ", ") (v .line) (v .end)) where
         abbrev below : List Level
         below = set ls h (onward t)
@@ -224,14 +232,21 @@ module _ {x o : List ℕ} {n len : ℕ} {ls : List Level} {g at : ℕ} where
         path-up : path (framesOf n below (suc h)) ≡ path fs ++ (e ∷ [])
         path-up = ap path frames-up ∙ path-passed (frameOf n t) fs
 
-        frame-up : frameOf n v ≡ frame u 0
+        frame-up : frameOf n v ≡ frame (countsAside u) 0
         frame-up = rw (a, i)
 
+        -- no count comes to its end: in s each is at most 64, and at most 7 events follow
+        counts-aside : listsFrom (len - suc h) u ≡ listsFrom (len - suc h) (countsAside u)
+        counts-aside =
+            let b = waiting-small (s .n) (s .nodes) (s .queue) (in-range-base s (k .top .range)) in
+            lists-aside (len - suc h) u (omega (arith, k .long))
+            (keeps-room (len - suc h) s e u m (record { range = k .top .range; room = λ j. omega (arith, k .long, b j) }) z)
+
         up : listsLeft (len - h) (frameOf n t ∷ fs) ≡ listsLeft (len - suc h) (frameOf n v ∷ framesOf n below (suc h))
-        up = rw (frames-up, frame-up, missing-one) (gone-up (len - suc h) (frameOf n t) fs (lt-leb _ _ q) u m z .0)
+        up = rw (frames-up, frame-up, missing-one) (gone-up (len - suc h) (frameOf n t) fs (lt-leb _ _ q) u m z counts-aside .0)
 
         suc-less : turnsOf n len below (suc h) v < turnsOf n len ls h t
-        suc-less = rw (frames-up, frame-up, missing-one) (gone-up (len - suc h) (frameOf n t) fs (lt-leb _ _ q) u m z .1)
+        suc-less = rw (frames-up, frame-up, missing-one) (gone-up (len - suc h) (frameOf n t) fs (lt-leb _ _ q) u m z counts-aside .1)
 
         top-sound : v .end ≤ t .end + 18 → SoundLevel n (path (framesOf n below (suc h))) v
         top-sound y = record {
@@ -323,7 +338,7 @@ gave-last s h o g at o′ r x w l = record {
 
 -- a piece behind which more comes: the topmost level is stored, and the search goes on with it
 module _ {x o : List ℕ} {n len : ℕ} {ls : List Level} {g at h : ℕ} {t : Level} (k : Kept x o n len ls h t g at) (q : t .tried < sizeOf n) (u : State) (m : Mark)
-    (z : step (seen n (t .nodes) (t .words) (t .waiting)) (eventAt n (t .tried)) ≡ accepted u m) (last : suc h ≡ len) where
+    (z : step (seenWaiting n (t .nodes) (t .words) (t .waiting)) (eventAt n (t .tried)) ≡ accepted u m) (last : suc h ≡ len) where
   abbrev goes-on : Search
   goes-on = record { n = n; length = len; given = g + 1; height = h + 1; levels = set ls h (onward t) }
 
@@ -402,12 +417,15 @@ module _ {x o : List ℕ} {n len : ℕ} {ls : List Level} {g at h : ℕ} {t : Le
     under : t .tried < sizeOf n
     under = let w = k .top .within in omega (arith, w, hc, d)
 
-    rd : Ready n (t .nodes) (t .words) (t .waiting)
+    abbrev before : State
+    before = seenWaiting n (t .nodes) (t .words) (t .waiting)
+
+    rd : ReadyLevel n t
     rd = ready n (path (framesOf n ls h)) t (k .top)
 
     module _ (no : isAccepted (r .verdict .answer) ≡ false) where
-      refusal : step (seen n (t .nodes) (t .words) (t .waiting)) (eventAt n (t .tried)) ≡ refused (answerNumber (r .verdict .answer))
-      refusal = same-step _ _ _ _ (he under) (refused-step _ _ _ _ rd e i hi b r j no)
+      refusal : step before (eventAt n (t .tried)) ≡ refused (answerNumber (r .verdict .answer))
+      refusal = same-step _ _ _ _ (he under) (refused-step _ _ _ _ _ _ _ rd e i hi b r j no)
 
       pub turned-down : Kept x o n len ls h (onward t) g at
       turned-down = refused-kept k under _ refusal
@@ -417,18 +435,19 @@ module _ {x o : List ℕ} {n len : ℕ} {ls : List Level} {g at h : ℕ} {t : Le
 
     module _ (yes : isAccepted (r .verdict .answer) ≡ true) where
       pub room-for : Room (r .verdict .reaction .outgoing) (leftOf (t .waiting) (r .place))
-      room-for = has-room _ _ _ _ rd e i hi b r j yes
+      room-for = has-room _ _ _ _ _ _ _ rd e i hi b r j yes
+
+      -- 17 is not met
+      not-at-end : pairAtEnd (before .sent) (r .verdict .reaction .outgoing) ≡ false
+      not-at-end = end-below _ _ _ _ _ _ _ rd e i hi b r j yes (waiting-below n (before .nodes) (before .queue) (in-range-base before (k .top .range)))
+
+      taken : step before (eventAt n (t .tried)) ≡ accepted (effect before e) (reactionTo before e .mark)
+      taken = same-step _ _ _ _ (he under) (step-accepts _ _ _ _ _ _ _ rd e i hi b r j yes not-at-end)
 
       -- as the last of a list
       module _ (l : h + 1 ≡ len) where
         last : suc h ≡ len
         last = omega (arith, l)
-
-        abbrev got : Accepts (seen n (t .nodes) (t .words) (t .waiting)) e
-        got = step-accepts _ _ _ _ rd e i hi b r j yes
-
-        taken : step (seen n (t .nodes) (t .words) (t .waiting)) (eventAt n (t .tried)) ≡ accepted (got .state) (got .mark)
-        taken = same-step _ _ _ _ (he under) (got .is)
 
         pub count-one : g + 1 + length (listsLeft (len - h) (frameOf n (onward t) ∷ framesOf n ls h)) < 2 ^ 32
         count-one = count-more k under _ _ taken last
@@ -455,14 +474,20 @@ module _ {x o : List ℕ} {n len : ℕ} {ls : List Level} {g at h : ℕ} {t : Le
         more : suc h < len
         more = omega (arith, l, k .below)
 
-        abbrev went : (m : Mark) × (step (seen n (t .nodes) (t .words) (t .waiting)) e ≡ accepted (seen n (v .nodes) us w) m)
-        went = accepted-step _ _ _ _ rd e i hi b r j yes us w q
+        -- the state after it, with its counts set aside
+        state-above : seenWaiting n (v .nodes) us w ≡ countsAside (effect before e)
+        state-above = ap countsAside (next-is _ _ _ _ _ _ _ rd e i hi b r j yes not-at-end us w q)
+
+        ready-above : ReadyLevel n v
+        ready-above =
+            let y = ready-again _ _ _ _ _ _ _ rd e i hi b r j yes not-at-end us w q z in
+            record { words = y .words; nodes = y .nodes; range = waiting-in n _ (queue us w) (in-range-base _ (y .range)) }
 
         longer : Appended (t .line) (t .end) (eventText (eventAt n (t .tried)) ++ bytes ", ") line end
         longer = rw (he under) at a
 
         pub raised : end ≤ t .end + 18 → Kept x o n len (set ls h (onward t)) (h + 1) v g at
-        raised y = pushed k under _ _ (same-step _ _ _ _ (he under) (went .1)) more v refl refl (ready-again _ _ _ _ rd e i hi b r j yes us w q z) longer y
+        raised y = pushed k under _ _ taken more v refl state-above ready-above longer y
 
         pub raised-less : turnsOf n len (set ls h (onward t)) (h + 1) v < turnsOf n len ls h t
-        raised-less = pushed-less k under _ _ (same-step _ _ _ _ (he under) (went .1)) more v refl refl (ready-again _ _ _ _ rd e i hi b r j yes us w q z) longer
+        raised-less = pushed-less k under _ _ taken more v refl state-above ready-above longer

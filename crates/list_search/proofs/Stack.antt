@@ -9,7 +9,7 @@ use lib.ListN.{length, getD, drop, drop-of-length-le}
 use lib.Seq.{drop-cons}
 use borrow.Author.Tests.{leb-true, leb-false}
 use Rattle.model.specs.Pick.{pick-true}
-use Rattle.model.specs.State.{State, start}
+use Rattle.model.specs.State.{State, start, countsAside}
 use Rattle.model.specs.Step.{effect, refused, accepted, step}
 use Rattle.model.specs.declared.Mark.{Mark}
 use Rattle.model.specs.declared.Event.{Event}
@@ -103,10 +103,11 @@ module _ (r : ℕ) (f : Frame) (fs : List Frame) (e : Event) (q : untried f ≡ 
   parted ls rest more =
       rw (map-append (λ l. path fs ++ l) (map (λ l. e ∷ l) ls) rest, map-behind (path fs) e ls) (append-assoc (map (λ l. (path fs ++ (e ∷ [])) ++ l) ls) (map (λ l. path fs ++ l) rest) more)
 
-  left-accepted : (u : State) (m : Mark) → step (f .state) e ≡ accepted u m → path (passed f ∷ fs) ≡ path fs ++ (e ∷ []) → listsLeft (suc r) (f ∷ fs) ≡ listsLeft r (frame u 0 ∷ passed f ∷ fs)
+  left-accepted : (u : State) (m : Mark) → step (f .state) e ≡ accepted u m → listsFrom r u ≡ listsFrom r (countsAside u) → path (passed f ∷ fs) ≡ path fs ++ (e ∷ [])
+      → listsLeft (suc r) (f ∷ fs) ≡ listsLeft r (frame (countsAside u) 0 ∷ passed f ∷ fs)
   unfolding listsLeft
-  left-accepted u m h p =
-      rw (fresh-frame r u, p)
+  left-accepted u m h a p =
+      rw (fresh-frame r (countsAside u), ← a, p)
       (ap (λ x. map (λ l. path fs ++ l) x ++ listsLeft (suc (suc r)) fs) (split u m h) ∙ parted (listsFrom r u) (onFrame (suc r) (passed f)) (listsLeft (suc (suc r)) fs))
 
 pub left-none : (r : ℕ) → listsLeft r [] ≡ []
@@ -180,18 +181,18 @@ module _ (r : ℕ) (f : Frame) (fs : List Frame) where
     unfolding turnsLeft
     passed-by x h = (left-refused r f fs e (one-tried f q) x h, omega (arith, turns-tried r f e (one-tried f q)))
 
-    -- it is accepted: its table is put on top
-    pub gone-up : (u : State) (m : Mark) → step (f .state) e ≡ accepted u m
-        → (listsLeft (suc r) (f ∷ fs) ≡ listsLeft r (frame u 0 ∷ passed f ∷ fs)) × (turnsLeft r (frame u 0 ∷ passed f ∷ fs) < turnsLeft (suc r) (f ∷ fs))
+    -- it is accepted: its table is put on top with the counts set aside, on which the lists from it do not depend
+    pub gone-up : (u : State) (m : Mark) → step (f .state) e ≡ accepted u m → listsFrom r u ≡ listsFrom r (countsAside u)
+        → (listsLeft (suc r) (f ∷ fs) ≡ listsLeft r (frame (countsAside u) 0 ∷ passed f ∷ fs)) × (turnsLeft r (frame (countsAside u) 0 ∷ passed f ∷ fs) < turnsLeft (suc r) (f ∷ fs))
     unfolding turnsLeft
-    gone-up u m h =
-        let z : turnsOn r (frame u 0) ≡ turnsFrom (f .state .n) r = fresh-turns r u ∙ ap (λ i. turnsFrom i r) (same-n (f .state) e u m h) in
-        (left-accepted r f fs e (one-tried f q) u m h (path-passed f fs), omega (arith, z, turns-tried r f e (one-tried f q)))
+    gone-up u m h a =
+        let z : turnsOn r (frame (countsAside u) 0) ≡ turnsFrom (f .state .n) r = fresh-turns r (countsAside u) ∙ ap (λ i. turnsFrom i r) (same-n (f .state) e u m h) in
+        (left-accepted r f fs e (one-tried f q) u m h a (path-passed f fs), omega (arith, z, turns-tried r f e (one-tried f q)))
 
 -- the next is accepted, and the last of a list: that list is given
 pub gave-one : (f : Frame) (fs : List Frame) → leb (sizeOf (f .state .n)) (f .tried) ≡ false → (u : State) (m : Mark) → step (f .state) (eventAt (f .state .n) (f .tried)) ≡ accepted u m
     → (listsLeft 1 (f ∷ fs) ≡ (path fs ++ (eventAt (f .state .n) (f .tried) ∷ [])) ∷ listsLeft 1 (passed f ∷ fs)) × (turnsLeft 1 (passed f ∷ fs) < turnsLeft 1 (f ∷ fs))
-unfolding turnsLeft
+unfolding turnsLeft listsFrom
 gave-one f fs q u m h =
     let e = eventAt (f .state .n) (f .tried) in
-    (gone-up 0 f fs q u m h .0 ∙ left-given (frame u 0) (passed f ∷ fs) ∙ ap (λ p. p ∷ listsLeft 1 (passed f ∷ fs)) (path-passed f fs), omega (arith, turns-tried 0 f e (one-tried f q)))
+    (gone-up 0 f fs q u m h refl .0 ∙ left-given (frame (countsAside u) 0) (passed f ∷ fs) ∙ ap (λ p. p ∷ listsLeft 1 (passed f ∷ fs)) (path-passed f fs), omega (arith, turns-tried 0 f e (one-tried f q)))

@@ -9,7 +9,7 @@ use lib.ListN.{length, take, getD}
 use Rattle.model.specs.Pick.{pick}
 use Rattle.model.specs.State.{start, inRange}
 use Rattle.model.specs.declared.Event.{Event}
-use Rattle.packed.specs.Seen.{seen}
+use Rattle.packed.specs.Seen.{seenWaiting}
 use Rattle.listing.specs.Ascii.{bytes}
 use Rattle.short_lists_text.specs.Text.{refusalText, textOf}
 use Rattle.list_search.specs.declared.Level.{Level}
@@ -24,9 +24,10 @@ use Rattle.list_search.specs.Line.{beginning}
 abbrev pub noLevel : Level
 noLevel = record { nodes = []; words = []; waiting = 0; tried = 0; line = []; end = 0 }
 
--- the frame of a level, in a search of n nodes
+-- The frame of a level, in a search of n nodes. A level has no counts: its state is the one where all that was sent still waits. The lists from a state do not depend on
+-- its counts as long as none comes to its end.
 abbrev pub frameOf : ℕ → Level → Frame
-frameOf n l = frame (seen n (l .nodes) (l .words) (l .waiting)) (l .tried)
+frameOf n l = frame (seenWaiting n (l .nodes) (l .words) (l .waiting)) (l .tried)
 
 -- those of the first h levels, the topmost first
 unfoldable pub framesOf : ℕ → List Level → ℕ → List Frame
@@ -50,7 +51,7 @@ textLeft s = pick (eqb (s .n) 0) refusalText (stackText (s .given) (missing s) (
 pub record SoundLevel (n : ℕ) (p : List Event) (l : Level) : Type 0 where
   pub nodes : length (l .nodes) ≡ 16
   pub words : length (l .words) ≡ 256
-  pub range : inRange (seen n (l .nodes) (l .words) (l .waiting)) ≡ true
+  pub range : inRange (seenWaiting n (l .nodes) (l .words) (l .waiting)) ≡ true
   pub within : l .tried ≤ sizeOf n
   -- the beginning of the line of every list through it; an event, with a comma and a space, has at most 18 bytes, as in `finish 255 65535, `
   pub space : length (l .line) ≡ 128
@@ -84,7 +85,7 @@ Sound s = (s .n ≡ 0) ⊎ Going s (s .height - 1)
 
 -- the level of the starting table of n nodes, on which no event was tried
 pub record Lowest (n : ℕ) (l : Level) : Type 0 where
-  pub state : seen n (l .nodes) (l .words) (l .waiting) ≡ start n
+  pub state : seenWaiting n (l .nodes) (l .words) (l .waiting) ≡ start n
   pub nodes : length (l .nodes) ≡ 16
   pub words : length (l .words) ≡ 256
   pub tried : l .tried ≡ 0

@@ -18,8 +18,8 @@ const LEVELS: usize = 7;
 // The room for a piece.
 pub const PIECE: usize = 65536;
 
-// A table on the way to lists, its messages as words; how many events of the alphabet were tried on it; and the beginning of the line of every list through it, which is
-// the first end bytes of line.
+// A table on the way to lists, its messages as words and without its counts, on which no short list depends; how many events of the alphabet were tried on it; and the
+// beginning of the line of every list through it, which is the first end bytes of line.
 struct Level {
     nodes: [Node; 16],
     words: [u32; WORDS],

@@ -48,9 +48,9 @@ abbrev pub handingTable : State
 handingTable =
     allWaiting 3
     (node Reorganization 1 50 3 1 none 2 Idle
-      ∷ node Reorganization 1 50 3 2 none 2 Idle
-      ∷ node Reorganization 3 50 3 100 (setOf (1 ∷ 2 ∷ [])) 5 (Handing (setOf (1 ∷ [])) 2)
-      ∷ [])
+    ∷ node Reorganization 1 50 3 2 none 2 Idle
+    ∷ node Reorganization 3 50 3 100 (setOf (1 ∷ 2 ∷ [])) 5 (Handing (setOf (1 ∷ [])) 2)
+    ∷ [])
     []
 
 -- an invitation to node 2, into node 1's group 32, that says the task 200 too

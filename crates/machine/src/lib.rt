@@ -144,7 +144,14 @@ pub fn advance(t: Table, e: Event) -> Outcome
             table: t,
         };
     }
-    let next = queue::stored(t, e, k, grounds::left_of(waiting, k < waiting as usize), at, r);
+    let next = queue::stored(
+        t,
+        e,
+        k,
+        grounds::left_of(waiting, k < waiting as usize),
+        at,
+        r,
+    );
     Outcome {
         answer: Answer::Accepted,
         table: next,

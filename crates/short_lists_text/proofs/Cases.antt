@@ -4,8 +4,8 @@ use lib.Count.{onesIn, ones, leadingZeros}
 use Rattle.model.specs.Pick.{pick}
 use Rattle.model.specs.Procedures.{inviteNext, merges, handNext, finishes, forwardNext, askedAll, askAt, askAfter}
 use Rattle.model.specs.React.{checked, timedOut, ticked, expired, resumed, onAreYouCoordinator, onAreYouThere, onInvitation, onAccept, onReady, onReply, received, react}
-use Rattle.model.specs.Range.{activityInRange, nodeInRange, messageInRange}
-use Rattle.model.specs.State.{waits, oldest, withoutOldest, every, inRange}
+use Rattle.model.specs.Range.{activityInRange, nodeInRange, messageInRange, countInRange}
+use Rattle.model.specs.State.{waits, oldest, withoutOldest, howMany, every, upTo, countsInRange, trafficInRange, inRange}
 use Rattle.model.specs.Step.{reactionTo, remaining, effect, grounds, judged, step, runFrom}
 use Rattle.listing.specs.Decimal.{digits, decimal}
 use Rattle.listing.specs.Lines.{row, stoppedLine}
@@ -15,7 +15,7 @@ use Rattle.short_lists_text.specs.Text.{nameOf, spaced, eventText, moreT
 use Rattle.short_lists_text.specs.Cases.{TextCases}
 
 pub text-cases : TextCases
-unfolding pick onesIn ones leadingZeros inviteNext merges handNext finishes forwardNext askedAll askAt askAfter checked timedOut ticked expired resumed onAreYouCoordinator onAreYouThere onInvitation onAccept onReady onReply received react activityInRange nodeInRange messageInRange waits oldest withoutOldest every inRange reactionTo remaining effect grounds judged step runFrom digits decimal row stoppedLine joined upFrom without pairsOf alphabet listsFrom nameOf spaced eventText moreText eventsText listLine countLine fits textOf
+unfolding pick onesIn ones leadingZeros inviteNext merges handNext finishes forwardNext askedAll askAt askAfter checked timedOut ticked expired resumed onAreYouCoordinator onAreYouThere onInvitation onAccept onReady onReply received react activityInRange nodeInRange messageInRange countInRange waits oldest withoutOldest howMany every upTo countsInRange trafficInRange inRange reactionTo remaining effect grounds judged step runFrom digits decimal row stoppedLine joined upFrom without pairsOf alphabet listsFrom nameOf spaced eventText moreText eventsText listLine countLine fits textOf
 text-cases =
     record {
       empty-list = refl;

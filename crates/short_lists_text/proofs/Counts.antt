@@ -1,5 +1,6 @@
 -- The last line is the count of the lists.
 use Prim.Native.Nat.{ℕ, _^_, _≤_, _<_}
+use native.Mathlib.Omega.{arith}
 use mathlib.Core.Path.{_≡_, refl, sym, _∙_, ap}
 use mathlib.Core.List.{List, [], _∷_, _++_, append-nil, append-assoc, map}
 use lib.ListN.{length}
@@ -17,7 +18,7 @@ use Rattle.short_lists_text.proofs.Few.{few-lists}
 
 is-count : (k : ℕ) → k < 2 ^ 32 → IsCount k (countLine k)
 unfolding countLine row
-is-count k h = record { number = decimal k; denotes = decimal-denotes k h; whole = refl }
+is-count k h = record { number = decimal k; denotes = decimal-denotes k (omega arith); whole = refl }
 
 joined-last : (xs : List (List ℕ)) (x : List ℕ) → joined (xs ++ (x ∷ [])) ≡ joined xs ++ x
 unfolding joined

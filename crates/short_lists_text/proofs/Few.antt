@@ -9,8 +9,8 @@ use lib.ListN.{length, length-append, length-map}
 use Rattle.model.specs.Pick.{pick}
 use Rattle.model.specs.Procedures.{inviteNext, merges, handNext, finishes, forwardNext, askedAll, askAt, askAfter}
 use Rattle.model.specs.React.{checked, timedOut, ticked, expired, resumed, onAreYouCoordinator, onAreYouThere, onInvitation, onAccept, onReady, onReply, received, react}
-use Rattle.model.specs.Range.{activityInRange, nodeInRange, messageInRange}
-use Rattle.model.specs.State.{State, start, waits, oldest, withoutOldest, every, inRange}
+use Rattle.model.specs.Range.{activityInRange, nodeInRange, messageInRange, countInRange}
+use Rattle.model.specs.State.{State, start, waits, oldest, withoutOldest, howMany, every, upTo, countsInRange, trafficInRange, inRange}
 use Rattle.model.specs.Step.{reactionTo, remaining, effect, grounds, judged, Result, refused, accepted, step}
 use Rattle.model.specs.declared.Mark.{Mark}
 use Rattle.model.specs.declared.Event.{Event}
@@ -61,7 +61,7 @@ module _ (later : State → List (List Event)) where
   recovered n i = map (λ l. Recover i ∷ l) (later (effect (start n) (Recover i)))
 
   first-events : (n : ℕ) → 1 ≤ n → n ≤ 3 → concatMap (λ e. continued e (step (start n) e) later) (alphabet n) ≡ concatMap (recovered n) (nodesOf n)
-  unfolding pick onesIn ones leadingZeros inviteNext merges handNext finishes forwardNext askedAll askAt askAfter checked timedOut ticked expired resumed onAreYouCoordinator onAreYouThere onInvitation onAccept onReady onReply received react activityInRange nodeInRange messageInRange waits oldest withoutOldest every inRange reactionTo remaining effect grounds judged step upFrom without pairsOf alphabet
+  unfolding pick onesIn ones leadingZeros inviteNext merges handNext finishes forwardNext askedAll askAt askAfter checked timedOut ticked expired resumed onAreYouCoordinator onAreYouThere onInvitation onAccept onReady onReply received react activityInRange nodeInRange messageInRange countInRange waits oldest withoutOldest howMany every upTo countsInRange trafficInRange inRange reactionTo remaining effect grounds judged step upFrom without pairsOf alphabet
   first-events zero p q = absurd (omega arith)
   first-events (suc zero) p q = refl
   first-events (suc (suc zero)) p q = refl

@@ -2,6 +2,7 @@ pub mod Rows
 pub mod Order
 pub mod Members
 pub mod Whole
+pub mod Aside
 pub mod Few
 pub mod Counts
 pub mod Bytes

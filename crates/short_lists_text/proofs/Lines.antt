@@ -69,7 +69,9 @@ spaced-same (x ∷ xs) [] f g e = let z = ap length e in absurd (omega arith)
 spaced-same (x ∷ xs) (y ∷ ys) f g e =
     let no : (Digit 32 → ⊥) = λ d. omega arith in
     let r = parted Digit (decimal x) (decimal y) (decimal-digits x) (decimal-digits y) (spaced-stops Digit no xs) (spaced-stops Digit no ys) (tail-eq-of-cons-eq e) in
-    let h = decimal-same x y (f .0) (g .0) (r .0) in
+    let i = f .0 in
+    let j = g .0 in
+    let h = decimal-same x y (omega (arith, i)) (omega (arith, j)) (r .0) in
     let t = spaced-same xs ys (f .1) (g .1) (r .1) in
     rw (h, t)
 

@@ -65,7 +65,7 @@ rule-requires : tie.Need-rule-requires Inv-loop μ-loop
 rule-requires c κs =
     let l = c .before .before .before .before .before .loop in
     let h = ready _ _ _ (l .inv .0 .top) in
-    (h .words, few _ _ _ _ h (Crash 0), rulable _ _ _ _ h _ _ (c .before .before .seat .ensures .0) _)
+    (h .words, few _ _ _ _ _ _ _ h (Crash 0), rulable _ _ _ _ _ _ _ h _ _ (c .before .before .seat .ensures .0) _)
 
 -- it is refused
 loop-less-2 : tie.Need-loop-less-2 Inv-loop μ-loop
@@ -135,7 +135,7 @@ exchange-requires c κs =
     let l = v .before .before .before .before .before .before .before .before .loop in
     let h = ready _ _ _ (l .inv .0 .top) in (
       h .words,
-      few _ _ _ _ h (Crash 0),
+      few _ _ _ _ _ _ _ h (Crash 0),
       v .before .before .rule .ensures .reach,
       room-for (l .inv .0) _ (l .inv .1) (v .before .before .before .before .before .before .before .if1 .left) (l .inv .2 .each _) (v .before .before .before .before .before .seat .ensures .0) _ (v .before .before .rule .ensures)
           (sym (v .is-accepted .ensures) ∙ not-false _ (c .before .before .before .before .if3 .left)),
