@@ -808,7 +808,7 @@ pub record TrafficCases : Type 0 where
   pub other-pair : step (past 1 2 33554430 0 (pair Normal none Idle [])) (Check 2)
       ≡ accepted (past 1 2 33554430 0 (beside (node Normal 2 33 2 100 none 3 (Asking 1 none)) (asks 2 1 (callNo 3) ∷ []))) Plain
   pub nothing-sent : step (past 2 1 33554430 0 (pair Normal none Idle [])) (Crash 2) ≡ accepted (past 2 1 33554430 0 (pair Down none Idle [])) Plain
-  pub delivered-at-end : step (past 2 1 33554429 0 (pair Down none Idle (queued 1))) (Lose 2 1) ≡ accepted (losing 2 1 (past 2 1 33554429 0 (pair Down none Idle []))) Plain
+  pub lose-at-end : step (past 2 1 33554429 0 (pair Down none Idle (queued 1))) (Lose 2 1) ≡ accepted (losing 2 1 (past 2 1 33554429 0 (pair Down none Idle []))) Plain
   -- "after 14": 12 before 13 before 14 before 17
   pub ends-twelve : step (endingAfter 33554366 1048575 16777215 64) (Tick 2) ≡ refused 12
   pub ends-thirteen : step (endingAfter 33554366 1048574 16777215 64) (Tick 2) ≡ refused 13
