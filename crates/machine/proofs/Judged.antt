@@ -27,7 +27,7 @@ use Rattle.model.specs.declared.Event.{Event}
 use Rattle.model.specs.declared.Event.the-variants.{Crash, Recover, Check, Timeout, Tick, Expire, Finish, Deliver, Lose}
 use Rattle.node_step.specs.Fits.{FitsInput}
 use Rattle.machine.specs.declared.Verdict.{Verdict}
-use Rattle.machine.specs.Parts.{placeFor, sentPlace, withLast, stored, Left, Room, first, numberGrounds, stateGrounds, endGrounds, isAccepted, reactsTo, inputOf, loses, FitsMessage, leftOf, allGrounds, Judging, Judged}
+use Rattle.machine.specs.Parts.{placeFor, sentPlace, withLast, stored, Left, Room, first, numberGrounds, stateGrounds, endGrounds, isAccepted, reactsTo, inputOf, loses, FitsMessage, leftOf, judgedGrounds, Judging, Judged}
 use Rattle.machine.specs.Stepped.{Stepped}
 use Rattle.machine.proofs.Laws.{Sized}
 use Rattle.machine.proofs.Parts.{Numbered, first-clear, first-met, accepted-zero, refused-some, numbers-refuse, state-refuses, ends-refuse, last-refuses, step-accepts, all-clear}
@@ -95,7 +95,7 @@ module _ (n waiting k : ℕ) (c : Node) (m : Message) (e : Event) where
       }
 
   module _ (clear : first (numberGrounds n e) ≡ 0) where
-    past-numbers : first (allGrounds n waiting k c m e) ≡ first (stateGrounds c e (ltb k waiting) ++ endGrounds c (reactsTo n c m e) (leftOf waiting k))
+    past-numbers : first (judgedGrounds n waiting k c m e) ≡ first (stateGrounds c e (ltb k waiting) ++ endGrounds c (reactsTo n c m e) (leftOf waiting k))
     past-numbers = first-clear (numberGrounds n e) _ (omega arith, (omega arith, tt)) clear
 
     pub by-state : (a : Answer) (r : Reaction) → isAccepted a ≡ false → answerNumber a ≡ first (stateGrounds c e (ltb k waiting)) → Judged n waiting k c m e (record { answer = a; reaction = r })
@@ -105,7 +105,7 @@ module _ (n waiting k : ℕ) (c : Node) (m : Message) (e : Event) where
           reaction = λ z. absurd (some-not-none (answerNumber a) (refused-some a q) z);
         }
 
-    pub past-state : first (stateGrounds c e (ltb k waiting)) ≡ 0 → first (allGrounds n waiting k c m e) ≡ first (endGrounds c (reactsTo n c m e) (leftOf waiting k))
+    pub past-state : first (stateGrounds c e (ltb k waiting)) ≡ 0 → first (judgedGrounds n waiting k c m e) ≡ first (endGrounds c (reactsTo n c m e) (leftOf waiting k))
     past-state going = past-numbers ∙ first-clear (stateGrounds c e (ltb k waiting)) _ (omega arith, (omega arith, (omega arith, tt))) going
 
     pub by-ends : first (stateGrounds c e (ltb k waiting)) ≡ 0 → (a : Answer) (r : Reaction) (left : ℕ) → r ≡ reactsTo n c m e → left ≡ leftOf waiting k → answerNumber a ≡ first (endGrounds c r left) → Judged n waiting k c m e (record { answer = a; reaction = r })
@@ -148,7 +148,7 @@ module _ (t : Table) (z : Sized t) (ok : inRange (view t) ≡ true) (e : Event) 
         by-first (suc x) y = numbers-refuse t e ok _ refl _ refl a q (hn ∙ j .answer ∙ first-met (numberGrounds (t .n) e) _ (omega arith))
 
     module _ (q : isAccepted (v .answer) ≡ true) where
-      none : first (allGrounds (t .n) (t .waiting) k c m e) ≡ 0
+      none : first (judgedGrounds (t .n) (t .waiting) k c m e) ≡ 0
       none = sym (j .answer) ∙ accepted-zero (v .answer) q
 
       clear : first (numberGrounds (t .n) e) ≡ 0

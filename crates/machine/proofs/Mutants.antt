@@ -21,13 +21,14 @@ use Rattle.model.specs.Procedures.{recovers, inviteNext, merges, handNext, fini
 use Rattle.model.specs.React.{checked, timedOut, ticked, expired, resumed, onAreYouCoordinator, onAreYouThere, onInvitation, onAccept, onReady, onReply, received, react}
 use Rattle.model.specs.Range.{activityInRange, nodeInRange, messageInRange}
 use Rattle.model.specs.State.{State, startingNode, start, nodeAt, waits, oldest, withoutOldest, allWaiting, countsAside, every, baseInRange, trafficInRange, inRange, firstOf, view, tableOf}
-use Rattle.model.specs.Step.{actor, reactionTo, remaining, sent, withSent, effect, forms, isCalling, isSending, pairAtEnd, grounds, judged, Result, refused, accepted, step, kept, aside, after, runFrom}
+use Rattle.model.specs.Step.{actor, reactionTo, remaining, sent, withSent, withDelivered, withLost, effect, forms, isCalling, isSending, pairAtEnd, grounds, judged, Result, refused, accepted, step, kept, aside, after, runFrom}
 use Rattle.model.specs.Answers.{answerNumber, resultNumber}
 use Rattle.model.specs.Claims.{isActive, Lacks, Sends, whomNow, whomStill, Below, Picked, InvitationReaches, Holds, recoversAtExpire, recordAfter}
 use Rattle.model.proofs.Judged.{Clear, by-step, clear-accepts, accepted-is}
 use Rattle.model.proofs.Local.{both-right}
 use Rattle.model.proofs.Fields.{in-range-size, own-record}
 use Rattle.model.proofs.InRange.{end, past, not-refused, delivery-never-full, stays-in-range}
+use Rattle.model.proofs.Refusals.{refuses-by-ground}
 use Rattle.model.proofs.Aside.{resultAside, waiting-aside, aside-result, quick, aside-kept, run-aside, start-room, run-below}
 use Rattle.model.proofs.Cases.{invited-twice}
 use Rattle.model.proofs.CallOrder.{call-order}
@@ -52,6 +53,7 @@ use Rattle.model.specs.declared.Outcome.{Outcome}
 use Rattle.model.specs.declared.Answer.the-variants.{Accepted, NotInRange, SentAtEnd}
 use Rattle.machine.specs.declared.RecoveryAnswer.{RecoveryAnswer}
 use Rattle.machine.specs.Stepped.{Stepped, startingTable, RecoveryAnswered}
+use Rattle.machine.specs.Parts.{takes}
 use Rattle.machine.specs.Mutants.{mergingTable, handingTable, invitedTable, askingTable, collectingTable, invites, Moves, NoMutant, NoWrongTurning, NoLowerFirst, NoJoiningAgain, NoOtherRecovery, NoOtherCounts}
 use Rattle.machine.proofs.Laws.{start-is}
 use Rattle.machine.proofs.Runs.{run-nodes, start-node, answer-known, by-number, accepted-alike, code-runs, code-fixes, folded-reached}
@@ -270,26 +272,26 @@ module _ (s : State) (i : ℕ) (g : inRange s ≡ true) (low : 1 ≤ i) (high : 
   unfolding step grounds judged pick reactionTo react
   crash-accepted h = rw (g, le-leb 1 i low, le-leb i (s .n) high, h)
 
-  crash-differs : isDown (nodeAt s i .status) ≡ false → effect s (Crash i) ≡ s → ⊥
+  crash-differs : isDown (nodeAt s i .status) ≡ false → effect s (Crash i) .nodes ≡ s .nodes → ⊥
   unfolding effect reactionTo react
-  crash-differs h e = true≢false (sym (ap (λ (c : Node). isDown (c .status)) (own _)) ∙ ap (λ (v : State). isDown (nodeAt v i .status)) e ∙ h)
+  crash-differs h e = true≢false (sym (ap (λ (c : Node). isDown (c .status)) (own _)) ∙ ap (λ (l : List Node). isDown (getD l (i - 1) startingNode .status)) e ∙ h)
 
   recovery-accepted : isDown (nodeAt s i .status) ≡ true → (nodeAt s i .counter ≡ counterEnd → ⊥) → step s (Recover i) ≡ accepted (effect s (Recover i)) (reactionTo s (Recover i) .mark)
   unfolding step grounds judged pick reactionTo react
   recovery-accepted h k = rw (g, le-leb 1 i low, le-leb i (s .n) high, h, ne-eqb _ _ k)
 
-  recovery-differs : effect s (Recover i) ≡ s → ⊥
+  recovery-differs : effect s (Recover i) .nodes ≡ s .nodes → ⊥
   unfolding effect reactionTo react
   recovery-differs e =
-      let z : nodeAt s i .counter + 1 ≡ nodeAt s i .counter = sym (ap (λ (c : Node). c .counter) (own _)) ∙ ap (λ (v : State). nodeAt v i .counter) e in
+      let z : nodeAt s i .counter + 1 ≡ nodeAt s i .counter = sym (ap (λ (c : Node). c .counter) (own _)) ∙ ap (λ (l : List Node). getD l (i - 1) startingNode .counter) e in
       omega arith
 
--- an event that the model accepts, with an effect that is not the same state
-moves : (t : Table) (e : Event) → step (view t) e ≡ accepted (effect (view t) e) (reactionTo (view t) e .mark) → (effect (view t) e ≡ view t → ⊥) → Moves t e
+-- an event that the model accepts, with an effect that changes a node
+moves : (t : Table) (e : Event) → step (view t) e ≡ accepted (effect (view t) e) (reactionTo (view t) e .mark) → (effect (view t) e .nodes ≡ view t .nodes → ⊥) → Moves t e
 moves t e a d =
     record {
       not-away = λ {r} x h. h (accepted-alike .code-accepts x _ _ a);
-      not-same = λ {r} x h. d (sym (ap (kept (view t)) a) ∙ sym (x .table) ∙ h);
+      not-same = λ {r} x h g. d (sym (ap (λ (s : State). s .nodes) (x .table ∙ ap (kept (view t)) a)) ∙ h);
     }
 
 crashing : (t : Table) (i : ℕ) → inRange (view t) ≡ true → 1 ≤ i → i ≤ t .n → isDown (nodeAt (view t) i .status) ≡ false → Moves t (Crash i)
@@ -351,7 +353,7 @@ no-mutant =
           recovering (startingTable n) i (ap inRange (start-is n) ∙ stays-in-range .starts n (omega arith) h) low high
           (ap (λ (s : State). isDown (nodeAt s i .status)) (start-is n) ∙ ap (λ (c : Node). isDown (c .status)) (start-node n (i - 1)))
           (λ e. let z : _≡_ {A = ℕ} 0 counterEnd = sym (ap (λ (s : State). nodeAt s i .counter) (start-is n) ∙ ap (λ (c : Node). c .counter) (start-node n (i - 1))) ∙ e in omega arith);
-      accepted-still = λ t e {r} m x a h. accepted-differs (view t) e _ _ (accepted-alike .model-accepts x a) m h;
+      accepted-still = λ t e {r} m x a h g. accepted-differs (view t) e _ _ (accepted-alike .model-accepts x a) m h g;
       crash-moves = crashing;
       recovery-moves = recovering;
       second-moves = λ {r} x.
@@ -419,7 +421,7 @@ records-kept s a b k g =
     let w : InvitationReaches s a b = record { in-range = c .in-range; not-down = c .status; kind = k } in
     ap (λ (q : Result). kept s q .nodes)
     (sym (clear-accepts s (Deliver a b) c d)
-    ∙ invitation-rules .held s a b w (λ m. accepted-not-refused (sym (clear-accepts s (Deliver a b) c d) ∙ invitation-rules .reply-end s a b w g m)) g))
+    ∙ invitation-rules .held s a b w (λ m. accepted-not-refused (sym (clear-accepts s (Deliver a b) c d) ∙ invitation-rules .held-end s a b w g m)) g))
 
 pub no-joining-again : NoJoiningAgain
 no-joining-again =
@@ -479,6 +481,32 @@ effect-counts {t} {e} x a = accepted-is (view t) e _ _ (accepted-alike .model-ac
 by-counts : (f : State → List ℕ) (l : List ℕ) {t : Table} {e : Event} {r : Outcome} → Stepped t e r → f (view t) ≡ l → f (effect (view t) e) ≡ l → f (view (r .table)) ≡ l
 by-counts f l {t} {e} x p q = ap f (x .table) ∙ by-step (λ (y : Result). f (kept (view t) y) ≡ l) (view t) e (λ _. p) (λ _ _. q)
 
+refused-same : {a b : ℕ} → refused a ≡ refused b → a ≡ b
+refused-same q = cc
+
+-- only deliver and lose are counted as such
+no-delivery : (l : List ℕ) (e : Event) → takes e ≡ false → withDelivered l e ≡ l
+no-delivery l (Crash i) q = refl
+no-delivery l (Recover i) q = refl
+no-delivery l (Check i) q = refl
+no-delivery l (Timeout i) q = refl
+no-delivery l (Tick i) q = refl
+no-delivery l (Expire i) q = refl
+no-delivery l (Finish i t) q = refl
+no-delivery l (Deliver a b) q = absurd (true≢false q)
+no-delivery l (Lose a b) q = refl
+
+no-loss : (l : List ℕ) (e : Event) → takes e ≡ false → withLost l e ≡ l
+no-loss l (Crash i) q = refl
+no-loss l (Recover i) q = refl
+no-loss l (Check i) q = refl
+no-loss l (Timeout i) q = refl
+no-loss l (Tick i) q = refl
+no-loss l (Expire i) q = refl
+no-loss l (Finish i t) q = refl
+no-loss l (Deliver a b) q = refl
+no-loss l (Lose a b) q = absurd (true≢false q)
+
 -- a table whose counts are not in range is refused
 not-in-range : (s : State) (e : Event) → trafficInRange s ≡ false → step s e ≡ refused 1
 unfolding step grounds judged inRange pick
@@ -515,7 +543,9 @@ pub no-other-counts : NoOtherCounts
 unfolding effect reactionTo
 no-other-counts =
     record {
-      counts-refused = λ {t} {e} {r} x n h. h (ap (λ (u : Table). u .sent) (x .same n));
+      counts-refused = λ {t} {e} {r} x n h. let z = x .same n in h (ap (λ (u : Table). u .sent) z, ap (λ (u : Table). u .delivered) z, ap (λ (u : Table). u .lost) z);
+      other-as-delivered = λ {t} {e} {r} q x h.
+          h (by-counts (λ (s : State). s .delivered) (t .delivered) x refl (no-delivery (t .delivered) e q), by-counts (λ (s : State). s .lost) (t .lost) x refl (no-loss (t .lost) e q));
       lost-as-delivered = λ {t} {a} {b} {r} x h. h (by-counts (λ (s : State). s .delivered) (t .delivered) x refl refl);
       delivered-as-lost = λ {t} {a} {b} {r} x h. h (by-counts (λ (s : State). s .lost) (t .lost) x refl refl);
       lost-as-sent = λ {t} {a} {b} {r} x h. h (by-counts (λ (s : State). s .sent) (t .sent) x refl refl);
@@ -528,7 +558,9 @@ no-other-counts =
           (sym (ap (pairAtEnd (t .sent)) o ∙ eq-eqb _ _ k) ∙ accepted-is (view t) e _ _ (accepted-alike .model-accepts x y) .not-at-end);
       seventeen-unsent = λ {t} {e} {r} x o y. true≢false (sym (at-end x y) ∙ ap (pairAtEnd (t .sent)) o);
       seventeen-early = λ {t} {e} {r} m x o k y. k (eqb-true _ _ (sym (ap (pairAtEnd (t .sent)) o) ∙ at-end x y));
-      takes-wrong-sums = λ {t} {e} {r} f x h. h (answer-known (r .answer) NotInRange (x .answer ∙ ap resultNumber (not-in-range (view t) e f)));
+      seventeen-first = λ {t} {e} {r} k f d x y.
+          d (refused-same (sym (refuses-by-ground .first-given (view t) e k f) ∙ by-number (step (view t) e) 17 (omega arith) (sym (ap answerNumber y) ∙ x .answer)));
+      takes-wrong-counts = λ {t} {e} {r} f x h. h (answer-known (r .answer) NotInRange (x .answer ∙ ap resultNumber (not-in-range (view t) e f)));
     }
   where
     at-end : {t : Table} {e : Event} {r : Outcome} → Stepped t e r → r .answer ≡ SentAtEnd → pairAtEnd (t .sent) (reactionTo (view t) e .outgoing) ≡ true

@@ -6,14 +6,14 @@ use mathlib.Core.Path.{_≡_, refl, sym, _∙_, ap}
 use mathlib.Core.Logic.{_⊎_, inl, inr}
 use mathlib.Core.List.{List, [], _∷_, _++_, append-assoc, append-cancel-left}
 use lib.Dec.{eqb, ltb}
-use lib.ListN.{length, length-append}
+use lib.ListN.{length, getD, length-append}
 use borrow.Author.Tests.{not-false, not-true, eqb-true, eqb-false, eq-eqb, le-leb, ltb-true}
 use Rattle.model.specs.Pick.{pick, by-test}
 use Rattle.model.specs.Node.{isDown, isWaiting, isCollecting, hasOpenCall, merged, invited}
 use Rattle.model.specs.Procedures.{inviteNext, merges, handNext, finishes, forwardNext, askedAll, askAt, askAfter}
 use Rattle.model.specs.React.{leads, checked, timedOut, ticked, expired, resumed, onAreYouCoordinator, onAreYouThere, onInvitation, onAccept, onReady, onReply, received, react}
 use Rattle.model.specs.Range.{isNode, isOther}
-use Rattle.model.specs.State.{State, nodeAt, oldest, withoutOldest}
+use Rattle.model.specs.State.{State, startingNode, nodeAt, oldest, withoutOldest}
 use Rattle.model.specs.Step.{actor, reactionTo, remaining, sent, effect, accepted, step}
 use Rattle.model.specs.Claims.{WithoutOldest}
 use Rattle.model.proofs.Judged.{Clear, accepted-is}
@@ -220,33 +220,35 @@ queue-differs a b q r o w d h e = by o h (append-cancel-left (w .before) _ _ (sy
 -- ── the claim ──
 
 module _ (s : State) where
-  own : (e : Event) → Clear s e → effect s e ≡ s → reactionTo s e .node ≡ nodeAt s (actor e)
-  own e c h = sym (own-record s e c) ∙ ap (λ (u : State). nodeAt u (actor e)) h
+  own : (e : Event) → Clear s e → effect s e .nodes ≡ s .nodes → reactionTo s e .node ≡ nodeAt s (actor e)
+  own e c h = sym (own-record s e c) ∙ ap (λ (l : List Node). getD l (actor e - 1) startingNode) h
 
   others : (a b : ℕ) → not (isNode (s .n) a && isOther (s .n) a b) ≡ false → b ≡ a → ⊥
   others a b q =
       let x : isOther (s .n) a b ≡ true = both-right (isNode (s .n) a) _ (not-false _ q) in
       eqb-false b a (not-true _ (both-right (isNode (s .n) b) _ x))
 
-  differs : (e : Event) → Clear s e → mayRest s e ≡ false → effect s e ≡ s → ⊥
+  differs : (e : Event) → Clear s e → mayRest s e ≡ false → effect s e .nodes ≡ s .nodes → effect s e .queue ≡ s .queue → ⊥
   unfolding effect reactionTo react remaining
-  differs (Crash i) c m h = true≢false (ap (λ (d : Node). isDown (d .status)) (own (Crash i) c h) ∙ c .status)
-  differs (Recover i) c m h = omega (arith, ap (λ (d : Node). d .counter) (own (Recover i) c h))
-  differs (Check i) c m h = check-differs (s .n) i (nodeAt s i) m (own (Check i) c h)
-  differs (Timeout i) c m h = timeout-differs i (nodeAt s i) m (own (Timeout i) c h)
-  differs (Tick i) c m h =
+  differs (Crash i) c m h g = true≢false (ap (λ (d : Node). isDown (d .status)) (own (Crash i) c h) ∙ c .status)
+  differs (Recover i) c m h g = omega (arith, ap (λ (d : Node). d .counter) (own (Recover i) c h))
+  differs (Check i) c m h g = check-differs (s .n) i (nodeAt s i) m (own (Check i) c h)
+  differs (Timeout i) c m h g = timeout-differs i (nodeAt s i) m (own (Timeout i) c h)
+  differs (Tick i) c m h g =
       let k = actor-in (s .n) (Tick i) (c .number) in
       tick-differs (s .n) i (nodeAt s i .group .number) (nodeAt s i .task .number) (nodeAt s i) (nodeAt s i .activity) refl (not-false _ (c .activity)) (node-facts (s .n) i (nodeAt s i) (in-range-node s i (c .in-range) (k .0) (k .1)) .activity) (own (Tick i) c h)
-  differs (Expire i) c m h = expire-differs (nodeAt s i) (expired (s .n) i (nodeAt s i) (nodeAt s i .activity)) (expire-goes (s .n) i (nodeAt s i) (nodeAt s i .activity) (not-false _ (c .activity))) (not-false _ (c .activity)) (own (Expire i) c h)
-  differs (Finish i t) c m h =
+  differs (Expire i) c m h g = expire-differs (nodeAt s i) (expired (s .n) i (nodeAt s i) (nodeAt s i .activity)) (expire-goes (s .n) i (nodeAt s i) (nodeAt s i .activity) (not-false _ (c .activity))) (not-false _ (c .activity)) (own (Expire i) c h)
+  differs (Finish i t) c m h g =
       true≢false (sym (not-false _ (c .activity)) ∙ sym (ap (λ (d : Node). isCollecting (d .activity)) (own (Finish i t) c h)) ∙ finish-ends i (nodeAt s i) t)
-  differs (Deliver a b) c m h =
-      queue-differs a b (s .queue) (withoutOldest a b (s .queue)) (received (s .n) b (nodeAt s b) (oldest a b (s .queue)) .outgoing) (taken-out a b (s .queue) (not-false _ (c .waiting))) (others a b (c .number)) (received-by (s .n) b (nodeAt s b) (oldest a b (s .queue))) (ap (λ (u : State). u .queue) h)
-  differs (Lose a b) c m h =
-      queue-differs a b (s .queue) (withoutOldest a b (s .queue)) Nothing (taken-out a b (s .queue) (not-false _ (c .waiting))) (others a b (c .number)) tt (ap (λ (u : State). u .queue) h)
+  differs (Deliver a b) c m h g =
+      queue-differs a b (s .queue) (withoutOldest a b (s .queue)) (received (s .n) b (nodeAt s b) (oldest a b (s .queue)) .outgoing) (taken-out a b (s .queue) (not-false _ (c .waiting))) (others a b (c .number)) (received-by (s .n) b (nodeAt s b) (oldest a b (s .queue))) g
+  differs (Lose a b) c m h g =
+      queue-differs a b (s .queue) (withoutOldest a b (s .queue)) Nothing (taken-out a b (s .queue) (not-false _ (c .waiting))) (others a b (c .number)) tt g
 
-pub accepted-differs : (s : State) (e : Event) (u : State) (k : Mark) → step s e ≡ accepted u k → mayRest s e ≡ false → u ≡ s → ⊥
-accepted-differs s e u k q m h = let a = accepted-is s e u k q in differs s e (a .clear) m (sym (a .state) ∙ h)
+pub accepted-differs : (s : State) (e : Event) (u : State) (k : Mark) → step s e ≡ accepted u k → mayRest s e ≡ false → u .nodes ≡ s .nodes → u .queue ≡ s .queue → ⊥
+accepted-differs s e u k q m h g =
+    let a = accepted-is s e u k q in
+    differs s e (a .clear) m (sym (ap (λ (v : State). v .nodes) (a .state)) ∙ h) (sym (ap (λ (v : State). v .queue) (a .state)) ∙ g)
 
 -- a reply to the open call changes the node
 pub reply-taken : (n i : ℕ) (c : Node) (m : Message) → m .kind ≡ 6 → m .call .number ≡ c .last .number → hasOpenCall (c .activity) ≡ true → received n i c m .node ≡ c → ⊥

@@ -105,7 +105,7 @@ pub record CodeFixes (chain : Chain) (n : ℕ) : Type 0 where
   pub from-list : {es : List Event} {t : Table} → Reached chain n es t → (i : ℕ) → 1 ≤ i → i ≤ n → nodeAt (view t) i .status ≡ Normal
       → Fixes n es (nodeAt (view t) i .group .number) (nodeAt (view t) i .task .number)
 
--- ── 02, T-04: recovery as the paper prints it ──
+-- ── 02, T-05: traffic totals ──
 
 -- T-05 of the tables that the code returned: each field is that of `TrafficAgrees` (model/specs/Claims), of them. t is any table that events led to; u is the one on
 -- which e is answered with r.
@@ -120,6 +120,8 @@ pub record CodeTraffic (chain : Chain) (n : ℕ) : Type 0 where
       → countAt (t .sent) a b ≡ countAt (t .delivered) a b + countAt (t .lost) a b + waiting (view t .queue) a b
   -- "From the starting table no event ever meets the new ground"
   pub never-seventeen : {es : List Event} {u : Table} {e : Event} {r : Outcome} → Reached chain n es u → Stepped u e r → r .answer ≡ SentAtEnd → ⊥
+
+-- ── 02, T-04: recovery as the paper prints it ──
 
 -- Of any answer q that meets `RecoveryAnswered`, what `recovery` promises for the table t and node i: it agrees with any outcome r that meets `Stepped` for recover i on the
 -- same table, and nothing of it is free.

@@ -14,9 +14,9 @@ use Rattle.model.specs.Node.{isDown, isNormal, hasOpenCall, groupOf, replies}
 use Rattle.model.specs.React.{leads}
 use Rattle.model.specs.Range.{isNode}
 use Rattle.model.specs.State.{State, nodeAt, waits, oldest, allWaiting, trafficInRange, inRange, view, tableOf}
-use Rattle.model.specs.Step.{actor, reactionTo, remaining}
+use Rattle.model.specs.Step.{actor, reactionTo, remaining, grounds}
 use Rattle.model.specs.Answers.{answerNumber}
-use Rattle.model.specs.Claims.{isActive, Lacks, whomNow, whomStill, whomAside, InvitationReaches, Owns, Holds, withPlainReply, MaySend, recoversAtExpire, recordAfter}
+use Rattle.model.specs.Claims.{isActive, Lacks, FirstApplies, whomNow, whomStill, whomAside, InvitationReaches, Owns, Holds, withPlainReply, MaySend, recoversAtExpire, recordAfter}
 use Rattle.model.specs.Cases.{setOf, none, node, invitedOnce}
 use Rattle.model.specs.declared.Mark.the-variants.{Merges}
 use Rattle.model.specs.declared.Status.the-variants.{Election, Reorganization, Normal}
@@ -32,6 +32,7 @@ use Rattle.model.specs.declared.Answer.the-variants.{Accepted, NotInRange, Queu
 use Rattle.machine.specs.declared.RecoveryAnswer.{RecoveryAnswer}
 use Rattle.machine.specs.Stepped.{Stepped, startingTable, RecoveryAnswered}
 use Rattle.machine.specs.Folded.{Folded}
+use Rattle.machine.specs.Parts.{takes}
 use Rattle.machine.specs.Claims.{isForming, Reached}
 
 -- ── tables to try them on ──
@@ -108,16 +109,17 @@ mayRest s (Lose a b) = false
 
 -- ── the impostors ──
 
--- on the table t, no machine turns e away, and none leaves the table as it is, whatever it answers
+-- on the table t, no machine turns e away, and none leaves nodes and messages as they are, whatever it answers and counts
 pub record Moves (t : Table) (e : Event) : Type 0 where
   pub not-away : {r : Outcome} → Stepped t e r → (r .answer ≡ Accepted → ⊥) → ⊥
-  pub not-same : {r : Outcome} → Stepped t e r → view (r .table) ≡ view t → ⊥
+  pub not-same : {r : Outcome} → Stepped t e r → view (r .table) .nodes ≡ view t .nodes → view (r .table) .queue ≡ view t .queue → ⊥
 
 pub record NoMutant : Type 0 where
   -- "a machine that turns every event away", "one that returns the same table always": not at the first event, where it is a recovery
   pub first-moves : (n i : ℕ) → n ≤ nodeLimit → 1 ≤ i → i ≤ n → Moves (startingTable n) (Recover i)
   -- "one that answers 'accepted' and moves nothing": not at any event on any table, but where 01 says that nothing changes
-  pub accepted-still : (t : Table) (e : Event) {r : Outcome} → mayRest (view t) e ≡ false → Stepped t e r → r .answer ≡ Accepted → view (r .table) ≡ view t → ⊥
+  pub accepted-still : (t : Table) (e : Event) {r : Outcome} → mayRest (view t) e ≡ false → Stepped t e r → r .answer ≡ Accepted
+      → view (r .table) .nodes ≡ view t .nodes → view (r .table) .queue ≡ view t .queue → ⊥
   -- "one that works on the first event and then idles": in every table in range, whatever came before it, a node that is up can crash, and one that is Down can
   -- recover until its counter is at its end
   pub crash-moves : (t : Table) (i : ℕ) → inRange (view t) ≡ true → 1 ≤ i → i ≤ t .n → isDown (nodeAt (view t) i .status) ≡ false → Moves t (Crash i)
@@ -291,11 +293,14 @@ pub record NoOtherRecovery : Type 0 where
 -- A machine is here whatever makes the outcome r of an event on a table t, by the contract of the step.
 pub record NoOtherCounts : Type 0 where
   -- one that counts a refused event
-  pub counts-refused : {t : Table} {e : Event} {r : Outcome} → Stepped t e r → (r .answer ≡ Accepted → ⊥) → (r .table .sent ≡ t .sent → ⊥) → ⊥
-  -- a loss as a delivery, a delivery as a loss, or either as something sent
+  pub counts-refused : {t : Table} {e : Event} {r : Outcome} → Stepped t e r → (r .answer ≡ Accepted → ⊥)
+      → ((r .table .sent ≡ t .sent) × (r .table .delivered ≡ t .delivered) × (r .table .lost ≡ t .lost) → ⊥) → ⊥
+  -- a loss as a delivery, a delivery as a loss, or a loss as something sent
   pub lost-as-delivered : {t : Table} {a b : ℕ} {r : Outcome} → Stepped t (Lose a b) r → (r .table .delivered ≡ t .delivered → ⊥) → ⊥
   pub delivered-as-lost : {t : Table} {a b : ℕ} {r : Outcome} → Stepped t (Deliver a b) r → (r .table .lost ≡ t .lost → ⊥) → ⊥
   pub lost-as-sent : {t : Table} {a b : ℕ} {r : Outcome} → Stepped t (Lose a b) r → (r .table .sent ≡ t .sent → ⊥) → ⊥
+  -- another event as a delivery or a loss
+  pub other-as-delivered : {t : Table} {e : Event} {r : Outcome} → takes e ≡ false → Stepped t e r → ((r .table .delivered ≡ t .delivered) × (r .table .lost ≡ t .lost) → ⊥) → ⊥
   -- an accepted deliver or lose not at all, or in another pair than its own
   pub delivery-uncounted : {t : Table} {a b : ℕ} {r : Outcome} → Stepped t (Deliver a b) r → r .answer ≡ Accepted
       → (r .table .delivered ≡ oneMore (t .delivered) a b → ⊥) → ⊥
@@ -312,5 +317,7 @@ pub record NoOtherCounts : Type 0 where
   pub seventeen-unsent : {t : Table} {e : Event} {r : Outcome} → Stepped t e r → reactionTo (view t) e .outgoing ≡ Nothing → r .answer ≡ SentAtEnd → ⊥
   pub seventeen-early : {t : Table} {e : Event} {r : Outcome} (m : Message) → Stepped t e r → reactionTo (view t) e .outgoing ≡ Send m
       → (countAt (t .sent) (m .sender) (m .receiver) ≡ trafficEnd → ⊥) → r .answer ≡ SentAtEnd → ⊥
-  -- one that takes a table whose counts do not add up
-  pub takes-wrong-sums : {t : Table} {e : Event} {r : Outcome} → trafficInRange (view t) ≡ false → Stepped t e r → (r .answer ≡ NotInRange → ⊥) → ⊥
+  -- or where another ground applies first
+  pub seventeen-first : {t : Table} {e : Event} {r : Outcome} (k : ℕ) → FirstApplies (grounds (view t) e) k → (k ≡ 17 → ⊥) → Stepped t e r → r .answer ≡ SentAtEnd → ⊥
+  -- one that takes a table whose counts are not in range
+  pub takes-wrong-counts : {t : Table} {e : Event} {r : Outcome} → trafficInRange (view t) ≡ false → Stepped t e r → (r .answer ≡ NotInRange → ⊥) → ⊥

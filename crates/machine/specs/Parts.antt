@@ -240,9 +240,9 @@ FitsMessage m (Lose a b) = Unit {0}
 abbrev pub leftOf : ℕ → ℕ → ℕ
 leftOf waiting k = pick (ltb k waiting) (waiting - 1) waiting
 
--- 7 to 14
-abbrev pub allGrounds : ℕ → ℕ → ℕ → Node → Message → Event → List Ground
-allGrounds n waiting k c m e = numberGrounds n e ++ (stateGrounds c e (ltb k waiting) ++ endGrounds c (reactsTo n c m e) (leftOf waiting k))
+-- those that `judge` goes by: 7 to 14
+abbrev pub judgedGrounds : ℕ → ℕ → ℕ → Node → Message → Event → List Ground
+judgedGrounds n waiting k c m e = numberGrounds n e ++ (stateGrounds c e (ltb k waiting) ++ endGrounds c (reactsTo n c m e) (leftOf waiting k))
 
 -- what the judgement needs where the grounds before it are clear
 pub record Judging (n waiting k : ℕ) (c : Node) (m : Message) (e : Event) : Type 0 where
@@ -251,6 +251,6 @@ pub record Judging (n waiting k : ℕ) (c : Node) (m : Message) (e : Event) : Ty
 
 pub record Judged (n waiting k : ℕ) (c : Node) (m : Message) (e : Event) (v : Verdict) : Type 0 where
   -- the number of the first ground from 7 to 14, or 0
-  pub answer : answerNumber (v .answer) ≡ first (allGrounds n waiting k c m e)
+  pub answer : answerNumber (v .answer) ≡ first (judgedGrounds n waiting k c m e)
   -- what the node does, where none applies
   pub reaction : answerNumber (v .answer) ≡ 0 → v .reaction ≡ reactsTo n c m e

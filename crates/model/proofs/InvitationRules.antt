@@ -12,7 +12,7 @@ use Rattle.node_set.specs.NodeSet.{without}
 use Rattle.model.specs.Pick.{pick, pick-true, by-test}
 use Rattle.model.specs.Limits.{queueLimit, counterEnd, callEnd, trafficEnd}
 use Rattle.model.specs.Counts.{countAt, oneMore}
-use Rattle.model.specs.Node.{isNormal, ownerOf, nextCall, invited, calls, replies}
+use Rattle.model.specs.Node.{isNormal, ownerOf, nextCall, calling, invited, calls, replies}
 use Rattle.model.specs.Procedures.{next, reaction, forwardNext}
 use Rattle.model.specs.React.{onlyReplies, onInvitation, react}
 use Rattle.model.specs.State.{State, start, startingNode, nodeAt, goes, waits, oldest, withoutOldest, inRange}
@@ -183,6 +183,25 @@ module _ (s : State) (a b : ℕ) (x : InvitationReaches s a b) where
         ∙ ap (λ (j : ℕ). forwardNext b (invited (nodeAt s b) (oldest a b (s .queue) .group)) (rest s a b (x .kind)) j (oldest a b (s .queue) .call)) from
         ∙ ap joins e
 
+    -- what b sends meets 17, where the count of its pair is at its end
+    call-end : nodeAt s b .last .number < callEnd → (d : Node) (m : Message) → reactionTo s (Deliver a b) ≡ reaction d (Send m) Plain
+        → countAt (s .sent) (m .sender) (m .receiver) ≡ trafficEnd → step s (Deliver a b) ≡ refused 17
+    call-end l d m e w = clear-ends s (Deliver a b) (calling-clear l) (ap (λ (r : Reaction). pairAtEnd (s .sent) (r .outgoing)) e ∙ eq-eqb _ _ w)
+
+    accepts-end : nodeAt s b .last .number < callEnd → rest s a b (x .kind) ≡ 0 → countAt (s .sent) b (ownerOf (oldest a b (s .queue) .group .number)) ≡ trafficEnd
+        → step s (Deliver a b) ≡ refused 17
+    unfolding forwardNext
+    accepts-end l e w = call-end l _ _ (acting 0 e ∙ pick-true _ _) w
+
+    forwards-end : nodeAt s b .last .number < callEnd → rest s a b (x .kind) ≡ nodeAt s b .members → 0 < nodeAt s b .members
+        → countAt (s .sent) b (next (nodeAt s b .members)) ≡ trafficEnd → step s (Deliver a b) ≡ refused 17
+    unfolding forwardNext pick
+    forwards-end l e p w =
+        let c = invited (nodeAt s b) (oldest a b (s .queue) .group) in
+        let m = nodeAt s b .members in
+        call-end l (calling c (Forwarding (without m (next m)) (next m) a (oldest a b (s .queue) .call))) (calls b 3 (next m) (nextCall c) (c .group))
+        (acting m e ∙ rw (ne-eqb m 0 (λ q. omega arith))) w
+
     accepts : MaySend s b (ownerOf (oldest a b (s .queue) .group .number)) → nodeAt s b .last .number < callEnd → rest s a b (x .kind) ≡ 0
         → step s (Deliver a b)
         ≡ accepted (withCall s a b (Accepting a (oldest a b (s .queue) .call))
@@ -231,7 +250,11 @@ invitation-rules =
       forwards = λ s a b x w y l o p. forwards s a b x y w l (own s b o) p;
       accepts = λ s a b x w y l o. accepts s a b x y w l (none s b o);
       calls-end = calls-end;
-      reply-end = λ s a b x e. plain-end s a b x (where-held b (nodeAt s b) _ e);
+      not-normal-end = λ s a b x e. plain-end s a b x (where-not-normal b (nodeAt s b) _ e);
+      owned-end = λ s a b x e. plain-end s a b x (where-owned b (nodeAt s b) _ e);
+      held-end = λ s a b x e. plain-end s a b x (where-held b (nodeAt s b) _ e);
+      forwards-end = λ s a b x y l o p w. forwards-end s a b x y l (own s b o) p w;
+      accepts-end = λ s a b x y l o w. accepts-end s a b x y l (none s b o) w;
       runs = λ n es a b u k g.
           let r = kind-in-range n es a b k in
           let x : InvitationReaches (run n es) a b = record { in-range = r; not-down = u; kind = k } in

@@ -1,26 +1,27 @@
 -- T-05: the records are the counts of the accepted events, each pair's sum holds in every table of a run, and no event of a run meets 17.
-use Prim.Native.Nat.{ℕ, _+_, _-_, _≤_}
+use Prim.Native.Nat.{ℕ, zero, suc, _+_, _-_, _≤_, _<_}
 use native.Mathlib.Omega.{arith}
 use native.Mathlib.Nat.{le-refl}
 use mathlib.Core.Bool.{Bool, true, false, not, _&&_, true≢false}
-use mathlib.Core.Path.{_≡_, refl, sym, _∙_, subst}
+use mathlib.Core.Path.{_≡_, refl, sym, _∙_, ap, subst}
 use mathlib.Core.List.{List, [], _∷_}
 use lib.Dec.{eqb, ltb}
-use lib.ListN.{getD-replicate}
+use lib.ListN.{length, getD, set, replicate, getD-replicate}
 use lib.Seq.{getD-set-same, getD-set-other}
 use borrow.Author.Tests.{eqb-true, eqb-false, eq-eqb, ne-eqb, not-false}
 use Rattle.model.specs.Limits.{callEnd, trafficEnd}
-use Rattle.model.specs.Counts.{countAt, one}
+use Rattle.model.specs.Counts.{pairPlace, senderAt, receiverAt, countAt, oneMore, total, one}
 use Rattle.model.specs.React.{react}
-use Rattle.model.specs.State.{State, startingNode, start, nodeAt, goes, waits, oldest, howMany}
-use Rattle.model.specs.Step.{actor, reactionTo, remaining, sent, effect, noneWaits, isCalling, pairAtEnd, grounds, refused, accepted, step, kept, after, runFrom, run}
-use Rattle.model.specs.Traffic.{sends, delivers, loses, ofAccepted, tally}
-use Rattle.model.specs.Claims.{TrafficAgrees}
-use Rattle.model.proofs.Judged.{Clear, by-step}
+use Rattle.model.specs.Range.{isPair, countInRange}
+use Rattle.model.specs.State.{State, startingNode, start, nodeAt, goes, waits, oldest, howMany, every, inRange}
+use Rattle.model.specs.Step.{actor, reactionTo, remaining, sent, withSent, withDelivered, withLost, effect, wrongNumber, noneWaits, isCalling, pairAtEnd, grounds, refused, accepted, step, kept, after, runFrom, run}
+use Rattle.model.specs.Traffic.{sends, delivers, loses, ofAccepted, tally, sendsAny, deliversAny, losesAny}
+use Rattle.model.specs.Claims.{TrafficAgrees, TrafficRules}
+use Rattle.model.proofs.Judged.{Clear, by-step, accepted-is}
 use Rattle.model.proofs.Local.{both-right}
-use Rattle.model.proofs.Fields.{node-facts, message-facts, Counting, oldest-goes, in-range-size, in-range-node, in-range-sum}
+use Rattle.model.proofs.Fields.{node-facts, message-facts, Counting, CountFacts, count-facts, every-at, oldest-goes, in-range-size, in-range-places, in-range-each, in-range-node, in-range-sum}
 use Rattle.model.proofs.Range.{OutgoingIn}
-use Rattle.model.proofs.Counts.{none-counted, many-append, many-without}
+use Rattle.model.proofs.Counts.{none-counted, many-append, many-without, pair-counting}
 use Rattle.model.proofs.InRange.{EventIn, event-in, event-counted, end, past, not-refused, start-in, run-in}
 use Rattle.model.proofs.Due.{due, callTo, replyTo, From, callFrom, WithinDue, react-within}
 use Rattle.model.specs.declared.Message.{Message}
@@ -42,6 +43,80 @@ tally-is get f a b h s (e ∷ es) =
       arith,
       tally-is get f a b h (after s e) es,
       by-step (λ r. countAt (get (kept s r)) a b ≡ countAt (get s) a b + ofAccepted (f s e) r) s e (λ x. omega arith) (λ c _. h s e c),
+    )
+
+-- ── totals ──
+
+total-set : (l : List ℕ) (p x : ℕ) → p < length l → total (set l p x) + getD l p 0 ≡ total l + x
+unfolding total
+total-set [] p x h = absurd (omega arith)
+total-set (y ∷ l) zero x h = omega arith
+total-set (y ∷ l) (suc p) x h = omega (arith, total-set l p x (omega arith))
+
+total-more : (l : List ℕ) (a b : ℕ) → length l ≡ 256 → Counting a b → total (oneMore l a b) ≡ total l + 1
+total-more l a b h p = omega (arith, total-set l (pairPlace a b) (countAt l a b + 1) (omega (arith, h, p .low, p .high, p .low-to, p .high-to)))
+
+sent-any : (n : ℕ) (l : List ℕ) (o : Outgoing) → n ≤ 16 → length l ≡ 256 → OutgoingIn n o → total (withSent l o) ≡ total l + length (sent o)
+sent-any n l Nothing h e x = omega arith
+sent-any n l (Send m) h e x =
+    let f = message-facts n m x in
+    total-more l (m .sender) (m .receiver) e
+    (record { low = f .sender .low; high = omega (arith, f .sender .high); low-to = f .receiver .low; high-to = omega (arith, f .receiver .high) })
+
+delivered-any : (n : ℕ) (l : List ℕ) (s : State) (e : Event) → n ≤ 16 → length l ≡ 256 → wrongNumber n e ≡ false → total (withDelivered l e) ≡ total l + deliversAny s e
+delivered-any n l s (Crash i) h k q = omega arith
+delivered-any n l s (Recover i) h k q = omega arith
+delivered-any n l s (Check i) h k q = omega arith
+delivered-any n l s (Timeout i) h k q = omega arith
+delivered-any n l s (Tick i) h k q = omega arith
+delivered-any n l s (Expire i) h k q = omega arith
+delivered-any n l s (Finish i t) h k q = omega arith
+delivered-any n l s (Deliver a b) h k q = total-more l a b k (pair-counting n a b h (not-false _ q))
+delivered-any n l s (Lose a b) h k q = omega arith
+
+lost-any : (n : ℕ) (l : List ℕ) (s : State) (e : Event) → n ≤ 16 → length l ≡ 256 → wrongNumber n e ≡ false → total (withLost l e) ≡ total l + losesAny s e
+lost-any n l s (Crash i) h k q = omega arith
+lost-any n l s (Recover i) h k q = omega arith
+lost-any n l s (Check i) h k q = omega arith
+lost-any n l s (Timeout i) h k q = omega arith
+lost-any n l s (Tick i) h k q = omega arith
+lost-any n l s (Expire i) h k q = omega arith
+lost-any n l s (Finish i t) h k q = omega arith
+lost-any n l s (Deliver a b) h k q = omega arith
+lost-any n l s (Lose a b) h k q = total-more l a b k (pair-counting n a b h (not-false _ q))
+
+-- the totals after an accepted event
+record Totalled (s : State) (e : Event) : Type 0 where
+  pub sent : total (effect s e .sent) ≡ total (s .sent) + sendsAny s e
+  pub delivered : total (effect s e .delivered) ≡ total (s .delivered) + deliversAny s e
+  pub lost : total (effect s e .lost) ≡ total (s .lost) + losesAny s e
+
+event-totalled : (s : State) (e : Event) → Clear s e → Totalled s e
+unfolding effect
+event-totalled s e c =
+    let n = in-range-size s (c .in-range) .1 in
+    let p = in-range-places s (c .in-range) in
+    record {
+      sent = sent-any (s .n) (s .sent) (reactionTo s e .outgoing) n (p .0) (event-in s e c .reaction .outgoing);
+      delivered = delivered-any (s .n) (s .delivered) s e n (p .1) (c .number);
+      lost = lost-any (s .n) (s .lost) s e n (p .2) (c .number);
+    }
+
+none-total : (k : ℕ) → total (replicate k 0) ≡ 0
+unfolding total
+none-total zero = refl
+none-total (suc k) = omega (arith, none-total k)
+
+-- the sum of a number over the accepted events of a list is what it grows by
+total-is : (get : State → List ℕ) (f : State → Event → ℕ) → ((s : State) (e : Event) → Clear s e → total (get (effect s e)) ≡ total (get s) + f s e)
+    → (s : State) (es : List Event) → total (get (runFrom s es)) ≡ total (get s) + tally f s es
+unfolding runFrom tally
+total-is get f h s [] = omega arith
+total-is get f h s (e ∷ es) =
+    omega (
+      arith,
+      total-is get f h (after s e) es,
+      by-step (λ r. total (get (kept s r)) ≡ total (get s) + ofAccepted (f s e) r) s e (λ x. omega arith) (λ c _. h s e c),
     )
 
 -- ── calls and answers of an event ──
@@ -288,10 +363,48 @@ traffic-agrees n low high =
           omega (arith, none-counted a b p, tally-is (λ s. s .delivered) (delivers a b) a b (λ s e c. event-counted s e c a b p .delivered) (start n) es);
       lost-counted = λ es a b l h m k. let p = at a b l h m k in
           omega (arith, none-counted a b p, tally-is (λ s. s .lost) (loses a b) a b (λ s e c. event-counted s e c a b p .lost) (start n) es);
+      sent-total = λ es. omega (arith, none-total 256, total-is (λ s. s .sent) sendsAny (λ s e c. event-totalled s e c .sent) (start n) es);
+      delivered-total = λ es. omega (arith, none-total 256, total-is (λ s. s .delivered) deliversAny (λ s e c. event-totalled s e c .delivered) (start n) es);
+      lost-total = λ es. omega (arith, none-total 256, total-is (λ s. s .lost) losesAny (λ s e c. event-totalled s e c .lost) (start n) es);
       adds-up = λ es a b l h m k.
           let q = run-n (start n) es in
           in-range-sum (run n es) a b (run-in (start n) es (start-in n low high)) l (omega (arith, h, q)) m (omega (arith, k, q));
       never-seventeen = λ es e. within-not-seventeen (run n es) e (run-within (start n) es (start-within n high));
+    }
+  where
+    at : (a b : ℕ) → 1 ≤ a → a ≤ 16 → 1 ≤ b → b ≤ 16 → Counting a b
+    at a b l h m k = record { low = l; high = h; low-to = m; high-to = k }
+
+-- ── every table in range, and every accepted event ──
+module _ (s : State) (r : inRange s ≡ true) (a b : ℕ) (p : Counting a b) where
+  facts : (l : List ℕ) → length l ≡ 256 → every (countInRange (s .n)) 0 l ≡ true → CountFacts (s .n) (0 + pairPlace a b) (countAt l a b)
+  facts l h e = count-facts (s .n) _ _ (every-at (countInRange (s .n)) 0 l (pairPlace a b) 0 e (omega (arith, h, p .low, p .high, p .low-to, p .high-to)))
+
+  no-pair : (l : List ℕ) → length l ≡ 256 → every (countInRange (s .n)) 0 l ≡ true → isPair (s .n) a b ≡ false → countAt l a b ≡ 0
+  no-pair l h e q =
+      let i : senderAt (0 + pairPlace a b) ≡ a = omega (arith, p .low, p .low-to, p .high-to) in
+      let j : receiverAt (0 + pairPlace a b) ≡ b = omega (arith, p .low, p .low-to, p .high-to) in
+      facts l h e .none (rw (i, j) q)
+
+pub traffic-rules : TrafficRules
+traffic-rules =
+    record {
+      place-row = λ a b l h m k. (omega arith, omega arith);
+      row-place = λ k. omega arith;
+      bounded = λ s r a b l h m k.
+          let p = at a b l h m k in
+          let z = in-range-places s r in
+          let e = in-range-each s r in
+          (facts s r a b p (s .sent) (z .0) (e .0) .bounded, facts s r a b p (s .delivered) (z .1) (e .1) .bounded, facts s r a b p (s .lost) (z .2) (e .2) .bounded);
+      no-pair = λ s r a b l h m k q.
+          let p = at a b l h m k in
+          let z = in-range-places s r in
+          let e = in-range-each s r in
+          (no-pair s r a b p (s .sent) (z .0) (e .0) q, no-pair s r a b p (s .delivered) (z .1) (e .1) q, no-pair s r a b p (s .lost) (z .2) (e .2) q);
+      sums = λ s r a b l h m k. in-range-sum s a b r l h m k;
+      sent-more = λ s e u c q a b l h m k. let x = accepted-is s e u c q in ap (λ (v : State). countAt (v .sent) a b) (x .state) ∙ event-counted s e (x .clear) a b (at a b l h m k) .sent;
+      delivered-more = λ s e u c q a b l h m k. let x = accepted-is s e u c q in ap (λ (v : State). countAt (v .delivered) a b) (x .state) ∙ event-counted s e (x .clear) a b (at a b l h m k) .delivered;
+      lost-more = λ s e u c q a b l h m k. let x = accepted-is s e u c q in ap (λ (v : State). countAt (v .lost) a b) (x .state) ∙ event-counted s e (x .clear) a b (at a b l h m k) .lost;
     }
   where
     at : (a b : ℕ) → 1 ≤ a → a ≤ 16 → 1 ≤ b → b ≤ 16 → Counting a b

@@ -174,6 +174,7 @@ traffic-cases =
       other-pair = after-many _ _ _ 1 2 33554430 0 _ refl refl refl;
       nothing-sent = after-many _ _ _ 2 1 33554430 0 _ refl refl refl;
       lose-at-end = after-many _ _ _ 2 1 33554429 0 _ refl refl refl;
+      deliver-at-end = after-many _ _ _ 2 1 33554429 0 _ refl refl refl;
       ends-twelve = after-many _ _ _ 2 1 33554366 0 _ refl refl refl;
       ends-thirteen = after-many _ _ _ 2 1 33554366 0 _ refl refl refl;
       ends-fourteen = after-many _ _ _ 2 1 33554366 0 _ refl refl refl;
@@ -185,6 +186,8 @@ traffic-cases =
       sum-delivered = among-same (λ (x : ℕ). inRange (withCounts (someWait 2) (only 1 2 9) (only 1 2 x) (only 1 2 4))) (λ (x : ℕ). onlyInRange (someWait 2) 1 2 9 1 2 x 1 2 4) (λ (x : ℕ). only-in-range (someWait 2) 1 2 9 1 2 x 1 2 4 refl) (2 ∷ 3 ∷ 4 ∷ []);
       sum-lost = among-same (λ (x : ℕ). inRange (withCounts (someWait 2) (only 1 2 9) (only 1 2 3) (only 1 2 x))) (λ (x : ℕ). onlyInRange (someWait 2) 1 2 9 1 2 3 1 2 x) (λ (x : ℕ). only-in-range (someWait 2) 1 2 9 1 2 3 1 2 x refl) (3 ∷ 4 ∷ 5 ∷ []);
       sum-waiting = among-same (λ (x : ℕ). inRange (withCounts (someWait x) (only 1 2 9) (only 1 2 3) (only 1 2 4))) (λ (x : ℕ). onlyInRange (someWait x) 1 2 9 1 2 3 1 2 4) (λ (x : ℕ). only-in-range (someWait x) 1 2 9 1 2 3 1 2 4 refl) (1 ∷ 2 ∷ 3 ∷ []);
+      sum-two = among-same (λ (x : ℕ). inRange (withCounts [] (only 2 3 x) (only 1 2 0) (only 1 2 0))) (λ (x : ℕ). onlyInRange [] 2 3 x 1 2 0 1 2 0) (λ (x : ℕ). only-in-range [] 2 3 x 1 2 0 1 2 0 refl) (0 ∷ 1 ∷ []);
+      sum-three = among-same (λ (x : ℕ). inRange (withCounts [] (only 3 2 x) (only 1 2 0) (only 1 2 0))) (λ (x : ℕ). onlyInRange [] 3 2 x 1 2 0 1 2 0) (λ (x : ℕ). only-in-range [] 3 2 x 1 2 0 1 2 0 refl) (0 ∷ 1 ∷ []);
       sum-sender = among-agree (λ (a : ℕ). inRange (withCounts (asks 1 3 (record { number = 1 }) ∷ []) (only a 3 1) (only 1 2 0) (only 1 2 0))) (λ (a : ℕ). onlyInRange (asks 1 3 (record { number = 1 }) ∷ []) a 3 1 1 2 0 1 2 0) (1 ∷ 2 ∷ []) (only-in-range (asks 1 3 (record { number = 1 }) ∷ []) 1 3 1 1 2 0 1 2 0 refl, (only-in-range (asks 1 3 (record { number = 1 }) ∷ []) 2 3 1 1 2 0 1 2 0 refl, tt));
       sum-receiver = among-agree (λ (b : ℕ). inRange (withCounts (asks 1 3 (record { number = 1 }) ∷ []) (only 1 b 1) (only 1 2 0) (only 1 2 0))) (λ (b : ℕ). onlyInRange (asks 1 3 (record { number = 1 }) ∷ []) 1 b 1 1 2 0 1 2 0) (2 ∷ 3 ∷ []) (only-in-range (asks 1 3 (record { number = 1 }) ∷ []) 1 2 1 1 2 0 1 2 0 refl, (only-in-range (asks 1 3 (record { number = 1 }) ∷ []) 1 3 1 1 2 0 1 2 0 refl, tt));
       pair-sender = among-agree (λ (a : ℕ). inRange (withCounts [] (only a 2 1) (only a 2 1) (only 1 2 0))) (λ (a : ℕ). onlyInRange [] a 2 1 a 2 1 1 2 0) (1 ∷ 2 ∷ 3 ∷ 4 ∷ 16 ∷ []) (only-in-range [] 1 2 1 1 2 1 1 2 0 refl, (only-in-range [] 2 2 1 2 2 1 1 2 0 refl, (only-in-range [] 3 2 1 3 2 1 1 2 0 refl, (only-in-range [] 4 2 1 4 2 1 1 2 0 refl, (only-in-range [] 16 2 1 16 2 1 1 2 0 refl, tt)))));
@@ -192,9 +195,13 @@ traffic-cases =
       pair-sent = only-in-range [] 4 5 1 1 2 0 1 2 0 refl;
       pair-delivered = only-in-range [] 1 2 0 4 5 1 1 2 0 refl;
       pair-lost = only-in-range [] 1 2 0 1 2 0 4 5 1 refl;
+      count-sent = among-same (λ (x : ℕ). inRange (withCounts (someWait x) (only 1 2 (33554429 + x)) (only 1 2 33554429) (only 1 2 0))) (λ (x : ℕ). onlyInRange (someWait x) 1 2 (33554429 + x) 1 2 33554429 1 2 0) (λ (x : ℕ). only-in-range (someWait x) 1 2 (33554429 + x) 1 2 33554429 1 2 0 refl) (1 ∷ 2 ∷ []);
       count-delivered = among-same (λ (x : ℕ). inRange (withCounts [] (only 1 2 x) (only 1 2 x) (only 1 2 0))) (λ (x : ℕ). onlyInRange [] 1 2 x 1 2 x 1 2 0) (λ (x : ℕ). only-in-range [] 1 2 x 1 2 x 1 2 0 refl) (33554430 ∷ 33554431 ∷ []);
       count-lost = among-same (λ (x : ℕ). inRange (withCounts [] (only 1 2 x) (only 1 2 0) (only 1 2 x))) (λ (x : ℕ). onlyInRange [] 1 2 x 1 2 0 1 2 x) (λ (x : ℕ). only-in-range [] 1 2 x 1 2 0 1 2 x refl) (33554430 ∷ 33554431 ∷ []);
       places = refl;
       range-first = by-range (withCounts [] (only 1 2 1) (only 1 2 0) (only 1 2 0)) (Crash 9) (only-in-range [] 1 2 1 1 2 0 1 2 0 refl);
+      range-pair = by-range (withCounts [] (only 2 2 1) (only 2 2 1) (only 1 2 0)) (Crash 9) (only-in-range [] 2 2 1 2 2 1 1 2 0 refl);
+      range-end = by-range (withCounts (someWait 2) (only 1 2 33554431) (only 1 2 33554429) (only 1 2 0)) (Crash 9) (only-in-range (someWait 2) 1 2 33554431 1 2 33554429 1 2 0 refl);
+      number = refl;
       rows = refl;
     }

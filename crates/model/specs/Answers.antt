@@ -1,4 +1,4 @@
--- Document 01's numbers for the cases of the enums that are answered or printed. Accepted, which has none there, is 0.
+-- Document 01's numbers, and 02's, for the cases of the enums that are answered or printed. Accepted, which has none there, is 0.
 use Prim.Native.Nat.{ℕ}
 use Rattle.model.specs.Step.{Result, refused, accepted}
 use Rattle.model.specs.declared.Status.{Status}

@@ -15,7 +15,7 @@ use Rattle.model.specs.Range.{nodeInRange, messageInRange}
 use Rattle.model.specs.State.{State, startingNode, start, wrongCount, nodeAt, allWaiting, countsAside, countsInRange, inRange}
 use Rattle.model.specs.Step.{Result, refused, accepted, aside, step, after, runFrom, run}
 use Rattle.model.specs.History.{Entry, NoTask, Task, history}
-use Rattle.model.specs.Answers.{statusNumber}
+use Rattle.model.specs.Answers.{statusNumber, answerNumber}
 use Rattle.model.specs.declared.Status.{Status}
 use Rattle.model.specs.declared.Status.the-variants.{Down, Election, Reorganization, Normal}
 use Rattle.model.specs.declared.Activity.{Activity}
@@ -26,6 +26,7 @@ use Rattle.model.specs.declared.CallNo.{CallNo}
 use Rattle.model.specs.declared.GroupNo.{GroupNo}
 use Rattle.model.specs.declared.Message.{Message}
 use Rattle.model.specs.declared.Mark.the-variants.{Plain, Recovers, Merges}
+use Rattle.model.specs.declared.Answer.the-variants.{SentAtEnd}
 use Rattle.model.specs.declared.Event.{Event}
 use Rattle.model.specs.declared.Event.the-variants.{Crash, Recover, Check, Timeout, Tick, Expire, Finish, Deliver, Lose}
 
@@ -70,13 +71,6 @@ past a b d l s = record {
   delivered = set (s .delivered) (pairPlace a b) (countAt (s .delivered) a b + d);
   lost = set (s .lost) (pairPlace a b) (countAt (s .lost) a b + l);
 }
-
--- one more that was delivered; one more that was lost
-abbrev pub delivering : ℕ → ℕ → State → State
-delivering a b s = past a b 1 0 s
-
-abbrev pub losing : ℕ → ℕ → State → State
-losing a b s = past a b 0 1 s
 
 -- K5: 16 nodes, of which node 16 has the counter k and the group formed with it, and the others are as at the start
 abbrev pub counted : Status → Activity → ℕ → State
@@ -775,7 +769,7 @@ abbrev pub among : (ℕ → Bool) → List ℕ → List ℕ
 among f [] = []
 among f (x ∷ xs) = pick (f x) (x ∷ among f xs) (among f xs)
 
--- 33,554,366 messages from 2 to 1 were delivered, so that with 64 more that count is at its end; node 2 merges at its last tick and calls 1
+-- d messages from 2 to 1 were delivered, and `waiting` more wait; node 2, with the counter k and the last call number l, merges at its last tick and calls 1
 abbrev pub endingAfter : ℕ → ℕ → ℕ → ℕ → State
 endingAfter d k l waiting = past 2 1 d 0 (ending k l (queued waiting))
 
@@ -808,13 +802,16 @@ pub record TrafficCases : Type 0 where
   pub other-pair : step (past 1 2 33554430 0 (pair Normal none Idle [])) (Check 2)
       ≡ accepted (past 1 2 33554430 0 (beside (node Normal 2 33 2 100 none 3 (Asking 1 none)) (asks 2 1 (callNo 3) ∷ []))) Plain
   pub nothing-sent : step (past 2 1 33554430 0 (pair Normal none Idle [])) (Crash 2) ≡ accepted (past 2 1 33554430 0 (pair Down none Idle [])) Plain
-  pub lose-at-end : step (past 2 1 33554429 0 (pair Down none Idle (queued 1))) (Lose 2 1) ≡ accepted (losing 2 1 (past 2 1 33554429 0 (pair Down none Idle []))) Plain
+  pub lose-at-end : step (past 2 1 33554429 0 (pair Down none Idle (queued 1))) (Lose 2 1) ≡ accepted (past 2 1 33554429 1 (pair Down none Idle [])) Plain
+  -- nor the count of what is delivered, whose reply goes the other way
+  pub deliver-at-end : step (past 2 1 33554429 0 (pair Normal none Idle (queued 1))) (Deliver 2 1)
+      ≡ accepted (past 2 1 33554430 0 (pair Normal none Idle (replies 1 2 (callNo 1) true ∷ []))) Plain
   -- "after 14": 12 before 13 before 14 before 17
   pub ends-twelve : step (endingAfter 33554366 1048575 16777215 64) (Tick 2) ≡ refused 12
   pub ends-thirteen : step (endingAfter 33554366 1048574 16777215 64) (Tick 2) ≡ refused 13
   pub ends-fourteen : step (endingAfter 33554366 1048574 16777214 64) (Tick 2) ≡ refused 14
   pub ends-seventeen : step (endingAfter 33554367 1048574 16777214 63) (Tick 2) ≡ refused 17
-  -- a delivery with a reply changes three counts, a loss one, and a refused event none
+  -- a delivery with a reply changes two counts, a loss one, and a refused event none
   pub delivery-counts : after (pair Normal none Idle question) (Deliver 1 2) ≡ past 1 2 1 0 (pair Normal none Idle plain)
   pub loss-counts : after (pair Normal none Idle question) (Lose 1 2) ≡ past 1 2 0 1 (pair Normal none Idle [])
   pub refused-counts : after (pair Down none Idle question) (Deliver 1 2) ≡ pair Down none Idle question
@@ -823,6 +820,9 @@ pub record TrafficCases : Type 0 where
   pub sum-delivered : among (λ x. inRange (withCounts (someWait 2) (only 1 2 9) (only 1 2 x) (only 1 2 4))) (2 ∷ 3 ∷ 4 ∷ []) ≡ 3 ∷ []
   pub sum-lost : among (λ x. inRange (withCounts (someWait 2) (only 1 2 9) (only 1 2 3) (only 1 2 x))) (3 ∷ 4 ∷ 5 ∷ []) ≡ 4 ∷ []
   pub sum-waiting : among (λ x. inRange (withCounts (someWait x) (only 1 2 9) (only 1 2 3) (only 1 2 4))) (1 ∷ 2 ∷ 3 ∷ []) ≡ 2 ∷ []
+  -- of every pair: none waits from 2 to 3, nor from 3 to 2
+  pub sum-two : among (λ x. inRange (withCounts [] (only 2 3 x) noCounts noCounts)) (0 ∷ 1 ∷ []) ≡ 0 ∷ []
+  pub sum-three : among (λ x. inRange (withCounts [] (only 3 2 x) noCounts noCounts)) (0 ∷ 1 ∷ []) ≡ 0 ∷ []
   -- by pair: a message from 1 to 3 counted as one from a to b
   pub sum-sender : among (λ a. inRange (withCounts (asks 1 3 (callNo 1) ∷ []) (only a 3 1) noCounts noCounts)) (1 ∷ 2 ∷ []) ≡ 1 ∷ []
   pub sum-receiver : among (λ b. inRange (withCounts (asks 1 3 (callNo 1) ∷ []) (only 1 b 1) noCounts noCounts)) (2 ∷ 3 ∷ []) ≡ 3 ∷ []
@@ -833,13 +833,18 @@ pub record TrafficCases : Type 0 where
   pub pair-sent : inRange (withCounts [] (only 4 5 1) noCounts noCounts) ≡ false
   pub pair-delivered : inRange (withCounts [] noCounts (only 4 5 1) noCounts) ≡ false
   pub pair-lost : inRange (withCounts [] noCounts noCounts (only 4 5 1)) ≡ false
-  -- "and no count is above 33,554,430"
+  -- "and no count is above 33,554,430": sent alone, with delivered, with lost
+  pub count-sent : among (λ x. inRange (withCounts (someWait x) (only 1 2 (33554429 + x)) (only 1 2 33554429) noCounts)) (1 ∷ 2 ∷ []) ≡ 1 ∷ []
   pub count-delivered : among (λ x. inRange (withCounts [] (only 1 2 x) (only 1 2 x) noCounts)) (33554430 ∷ 33554431 ∷ []) ≡ 33554430 ∷ []
   pub count-lost : among (λ x. inRange (withCounts [] (only 1 2 x) noCounts (only 1 2 x))) (33554430 ∷ 33554431 ∷ []) ≡ 33554430 ∷ []
   -- "16 rows of 16 counts for each"
   pub places : among (λ x. countsInRange 3 (replicate x 0)) (255 ∷ 256 ∷ 257 ∷ []) ≡ 256 ∷ []
-  -- such a table is refused before all else
+  -- each of the three rules broken by itself is refused with 1, before all else: the sum, a count of no pair, a count above the end
   pub range-first : step (withCounts [] (only 1 2 1) noCounts noCounts) (Crash 9) ≡ refused 1
+  pub range-pair : step (withCounts [] (only 2 2 1) (only 2 2 1) noCounts) (Crash 9) ≡ refused 1
+  pub range-end : step (withCounts (someWait 2) (only 1 2 33554431) (only 1 2 33554429) noCounts) (Crash 9) ≡ refused 1
+  -- its number
+  pub number : answerNumber SentAtEnd ≡ 17
   -- a row for each sender: from 1 to 2, 2 to 1, 16 to 15 and 16 to 16
   pub rows : pairPlace 1 2 ∷ pairPlace 2 1 ∷ pairPlace 16 15 ∷ pairPlace 16 16 ∷ [] ≡ 1 ∷ 16 ∷ 254 ∷ 255 ∷ []
 

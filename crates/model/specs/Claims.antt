@@ -8,15 +8,15 @@ use lib.Dec.{eqb}
 use lib.ListN.{length, getD, set}
 use Rattle.node_set.specs.NodeSet.{has, without}
 use Rattle.model.specs.Limits.{nodeLimit, counterEnd, callEnd, trafficEnd}
-use Rattle.model.specs.Counts.{countAt, oneMore}
+use Rattle.model.specs.Counts.{pairPlace, senderAt, receiverAt, countAt, oneMore, total}
 use Rattle.model.specs.Node.{isDown, isNormal, groupOf, ownerOf, nextCall, calls, replies}
 use Rattle.model.specs.Recovery.{withStatus, withCounter, withGroup, withCoordinator, withMembers, withTask, recoveryRecords, stopped, recovered}
 use Rattle.model.specs.Procedures.{next, inviteNext, handNext, forwardNext}
 use Rattle.model.specs.React.{leads, checked, expired, resumed}
-use Rattle.model.specs.Range.{isNode, carriesGroup}
+use Rattle.model.specs.Range.{isNode, isPair, carriesGroup}
 use Rattle.model.specs.State.{State, startingNode, start, nodeAt, goes, waits, oldest, withoutOldest, waiting, countsAside, inRange}
 use Rattle.model.specs.Step.{actor, reactionTo, remaining, sent, withSent, withDelivered, withLost, effect, forms, Ground, ground, grounds, Result, refused, accepted, judged, step, aside, after, run}
-use Rattle.model.specs.Traffic.{sentIn, deliveredIn, lostIn}
+use Rattle.model.specs.Traffic.{sends, delivers, loses, tally, sentIn, deliveredIn, lostIn, sendsAny, deliversAny, losesAny}
 use Rattle.model.specs.History.{Entry, NotFormed, NoTask, Task, History, newest, coming, history}
 use Rattle.model.specs.Answers.{resultNumber}
 use Rattle.model.specs.declared.Status.{Status}
@@ -149,17 +149,43 @@ pub record StaysInRange : Type 0 where
 
 -- ── the traffic (T-05) ──
 
--- of every list of events from the starting table of n nodes
+-- of every list of events from the starting table of n nodes, n from 1 to 16
 pub record TrafficAgrees (n : ℕ) : Type 0 where
   -- "The records equal the counts taken from the accepted events of the run", each of the 16 rows of 16
   pub sent-counted : (es : List Event) (a b : ℕ) → 1 ≤ a → a ≤ nodeLimit → 1 ≤ b → b ≤ nodeLimit → countAt (run n es .sent) a b ≡ sentIn n es a b
   pub delivered-counted : (es : List Event) (a b : ℕ) → 1 ≤ a → a ≤ nodeLimit → 1 ≤ b → b ≤ nodeLimit → countAt (run n es .delivered) a b ≡ deliveredIn n es a b
   pub lost-counted : (es : List Event) (a b : ℕ) → 1 ≤ a → a ≤ nodeLimit → 1 ≤ b → b ≤ nodeLimit → countAt (run n es .lost) a b ≡ lostIn n es a b
+  -- so a total is how many messages the accepted events sent, and how many accepted deliver and lose events there are
+  pub sent-total : (es : List Event) → total (run n es .sent) ≡ tally sendsAny (start n) es
+  pub delivered-total : (es : List Event) → total (run n es .delivered) ≡ tally deliversAny (start n) es
+  pub lost-total : (es : List Event) → total (run n es .lost) ≡ tally losesAny (start n) es
   -- "Sent is delivered plus lost plus those waiting, for each pair."
   pub adds-up : (es : List Event) (a b : ℕ) → 1 ≤ a → a ≤ n → 1 ≤ b → b ≤ n
       → countAt (run n es .sent) a b ≡ countAt (run n es .delivered) a b + countAt (run n es .lost) a b + waiting (run n es .queue) a b
   -- "From the starting table no event ever meets the new ground"
   pub never-seventeen : (es : List Event) (e : Event) → step (run n es) e ≡ refused 17 → ⊥
+
+-- of every table in range, and of every accepted event on any table; a and b are any of the 16 rows and columns
+pub record TrafficRules : Type 0 where
+  -- each place is that of one row and column
+  pub place-row : (a b : ℕ) → 1 ≤ a → a ≤ nodeLimit → 1 ≤ b → b ≤ nodeLimit → (senderAt (pairPlace a b) ≡ a) × (receiverAt (pairPlace a b) ≡ b)
+  pub row-place : (k : ℕ) → pairPlace (senderAt k) (receiverAt k) ≡ k
+  -- "no count is above 33,554,430"
+  pub bounded : (s : State) → inRange s ≡ true → (a b : ℕ) → 1 ≤ a → a ≤ nodeLimit → 1 ≤ b → b ≤ nodeLimit
+      → (countAt (s .sent) a b ≤ trafficEnd) × (countAt (s .delivered) a b ≤ trafficEnd) × (countAt (s .lost) a b ≤ trafficEnd)
+  -- "a count that stands for no pair of its n cabinets is 0"
+  pub no-pair : (s : State) → inRange s ≡ true → (a b : ℕ) → 1 ≤ a → a ≤ nodeLimit → 1 ≤ b → b ≤ nodeLimit → isPair (s .n) a b ≡ false
+      → (countAt (s .sent) a b ≡ 0) × (countAt (s .delivered) a b ≡ 0) × (countAt (s .lost) a b ≡ 0)
+  -- "Sent is delivered plus lost plus those waiting, for each pair. A table is in range only if that holds"
+  pub sums : (s : State) → inRange s ≡ true → (a b : ℕ) → 1 ≤ a → a ≤ s .n → 1 ≤ b → b ≤ s .n
+      → countAt (s .sent) a b ≡ countAt (s .delivered) a b + countAt (s .lost) a b + waiting (s .queue) a b
+  -- what an accepted event counts
+  pub sent-more : (s : State) (e : Event) (u : State) (k : Mark) → step s e ≡ accepted u k → (a b : ℕ) → 1 ≤ a → a ≤ nodeLimit → 1 ≤ b → b ≤ nodeLimit
+      → countAt (u .sent) a b ≡ countAt (s .sent) a b + sends a b s e
+  pub delivered-more : (s : State) (e : Event) (u : State) (k : Mark) → step s e ≡ accepted u k → (a b : ℕ) → 1 ≤ a → a ≤ nodeLimit → 1 ≤ b → b ≤ nodeLimit
+      → countAt (u .delivered) a b ≡ countAt (s .delivered) a b + delivers a b s e
+  pub lost-more : (s : State) (e : Event) (u : State) (k : Mark) → step s e ≡ accepted u k → (a b : ℕ) → 1 ≤ a → a ≤ nodeLimit → 1 ≤ b → b ≤ nodeLimit
+      → countAt (u .lost) a b ≡ countAt (s .lost) a b + loses a b s e
 
 -- no count of the list is at its end
 abbrev pub BelowEnd : List ℕ → Type 0
@@ -428,8 +454,15 @@ pub record InvitationRules : Type 0 where
       (calls b 4 (ownerOf (oldest a b (s .queue) .group .number)) (nextCall (nodeAt s b)) (oldest a b (s .queue) .group))) Plain
   -- 13: "a call is needed, last call number 16,777,215"
   pub calls-end : (s : State) (a b : ℕ) → InvitationReaches s a b → NoPlainReply s a b → nodeAt s b .last .number ≡ callEnd → step s (Deliver a b) ≡ refused 13
-  -- 17: "a message must be sent and its pair's sent count is 33,554,430", of the plain reply
-  pub reply-end : (s : State) (a b : ℕ) → InvitationReaches s a b → Holds s a b → countAt (s .sent) b a ≡ trafficEnd → step s (Deliver a b) ≡ refused 17
+  -- 17: "a message must be sent and its pair's sent count is 33,554,430", of the plain reply on each of the three conditions, and of the call
+  pub not-normal-end : (s : State) (a b : ℕ) → InvitationReaches s a b → isNormal (nodeAt s b .status) ≡ false → countAt (s .sent) b a ≡ trafficEnd → step s (Deliver a b) ≡ refused 17
+  pub owned-end : (s : State) (a b : ℕ) → InvitationReaches s a b → Owns s a b → countAt (s .sent) b a ≡ trafficEnd → step s (Deliver a b) ≡ refused 17
+  pub held-end : (s : State) (a b : ℕ) → InvitationReaches s a b → Holds s a b → countAt (s .sent) b a ≡ trafficEnd → step s (Deliver a b) ≡ refused 17
+  pub forwards-end : (s : State) (a b : ℕ) → InvitationReaches s a b → NoPlainReply s a b → nodeAt s b .last .number < callEnd
+      → nodeAt s b .coordinator ≡ b → 0 < nodeAt s b .members → countAt (s .sent) b (next (nodeAt s b .members)) ≡ trafficEnd → step s (Deliver a b) ≡ refused 17
+  pub accepts-end : (s : State) (a b : ℕ) → InvitationReaches s a b → NoPlainReply s a b → nodeAt s b .last .number < callEnd
+      → (nodeAt s b .coordinator ≡ b → nodeAt s b .members ≡ 0) → countAt (s .sent) b (ownerOf (oldest a b (s .queue) .group .number)) ≡ trafficEnd
+      → step s (Deliver a b) ≡ refused 17
   -- so in every run, where 17 is never met: an invitation to the group that a node holds, where the node is not Down
   pub runs : (n : ℕ) (es : List Event) (a b : ℕ)
       → isDown (nodeAt (run n es) b .status) ≡ false → oldest a b (run n es .queue) .kind ≡ 3 → Holds (run n es) a b

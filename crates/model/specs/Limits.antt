@@ -1,4 +1,4 @@
--- The ends of document 01's ranges, each named once.
+-- The ends of document 01's ranges, and of 02's, each named once.
 use Prim.Native.Nat.{ℕ}
 
 -- "n from 1 to 16"

@@ -91,12 +91,12 @@ howMany f (m ∷ ms) = one (f m) + howMany f ms
 abbrev pub waiting : List Message → ℕ → ℕ → ℕ
 waiting q a b = howMany (goes a b) q
 
--- its messages counted by pair
+-- its messages counted by pair, where their senders and receivers are 1 to 16
 unfoldable pub countsOf : List Message → List ℕ
 countsOf [] = noCounts
 countsOf (m ∷ ms) = oneMore (countsOf ms) (m .sender) (m .receiver)
 
--- a table of n nodes in which all that was sent still waits
+-- a table of n nodes, with messages among 1 to 16, in which all that was sent still waits
 abbrev pub allWaiting : ℕ → List Node → List Message → State
 allWaiting n cs q = record { n = n; nodes = cs; queue = q; sent = countsOf q; delivered = noCounts; lost = noCounts }
 
@@ -142,6 +142,7 @@ trafficInRange s =
     && countsInRange (s .n) (s .lost)
     && upTo (s .n) (λ a. upTo (s .n) (λ b. addsUp s a b))
 
+-- in range: by 01, and by T-05
 unfoldable pub inRange : State → Bool
 inRange s = baseInRange (s .n) (s .nodes) (s .queue) && trafficInRange s
 

@@ -198,7 +198,7 @@ pub record Ground : Type 0 where
 abbrev pub ground : ℕ → Bool → Ground
 ground r b = record { number = r; applies = b }
 
--- the table of grounds of an event, in 01's order; 2 to 6 are the list's and 15 is the listing's
+-- the table of grounds of an event, in 01's order, and 02's 17; 2 to 6 are the list's, 15 is the listing's and 16 that of T-01's program
 unfoldable pub grounds : State → Event → List Ground
 grounds s e =
     -- "table handed in": "not in range"

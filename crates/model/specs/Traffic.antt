@@ -1,9 +1,10 @@
--- T-05: "the counts taken from the accepted events of the run". The steps say which events of a list are accepted and what they send; the records of the counts
--- are not looked at.
+-- T-05: "the counts taken from the accepted events of the run". The steps say which events of a list are accepted and what they send. What is counted does not look at
+-- the table's own counts; whether an event is accepted does, by 1 and 17, neither of which a run meets (`StaysInRange.never-one`, `TrafficAgrees.never-seventeen`).
 use Prim.Native.Nat.{ℕ, _+_}
 use mathlib.Core.Bool.{_&&_}
 use mathlib.Core.List.{List, [], _∷_}
 use lib.Dec.{eqb}
+use lib.ListN.{length}
 use Rattle.model.specs.Counts.{one}
 use Rattle.model.specs.State.{State, start, waiting}
 use Rattle.model.specs.Step.{reactionTo, sent, Result, refused, accepted, step, after}
@@ -57,3 +58,33 @@ deliveredIn n es a b = tally (delivers a b) (start n) es
 
 abbrev pub lostIn : ℕ → List Event → ℕ → ℕ → ℕ
 lostIn n es a b = tally (loses a b) (start n) es
+
+-- ── of all pairs together ──
+
+-- how many messages the event sends
+abbrev pub sendsAny : State → Event → ℕ
+sendsAny s e = length (sent (reactionTo s e .outgoing))
+
+-- 1 for a deliver
+abbrev pub deliversAny : State → Event → ℕ
+deliversAny s (Crash i) = 0
+deliversAny s (Recover i) = 0
+deliversAny s (Check i) = 0
+deliversAny s (Timeout i) = 0
+deliversAny s (Tick i) = 0
+deliversAny s (Expire i) = 0
+deliversAny s (Finish i t) = 0
+deliversAny s (Deliver a b) = 1
+deliversAny s (Lose a b) = 0
+
+-- 1 for a lose
+abbrev pub losesAny : State → Event → ℕ
+losesAny s (Crash i) = 0
+losesAny s (Recover i) = 0
+losesAny s (Check i) = 0
+losesAny s (Timeout i) = 0
+losesAny s (Tick i) = 0
+losesAny s (Expire i) = 0
+losesAny s (Finish i t) = 0
+losesAny s (Deliver a b) = 0
+losesAny s (Lose a b) = 1

@@ -25,7 +25,7 @@ use Rattle.listing.specs.Decimal.{digits, decimal}
 use Rattle.listing.specs.Lines.{row, cabinetsLine, refusedLine, stoppedLine, nodeLine, messagesLine, totalLine, totalLines, nodeLines, tableLines}
 use Rattle.listing.specs.Printing.{joined}
 use Rattle.run_list.specs.Text.{noteLines, refusedLines, endingLines, runLines, linesOf, textOf}
-use Rattle.event_list.specs.Cases.{nodes, recover, crash}
+use Rattle.event_list.specs.Cases.{nodes, recover, crash, check, expire, deliver, lose}
 use Rattle.run_list.specs.Cases.{k10-list, ListCases}
 use Rattle.run_list.proofs.Laws.{left, lines-begun}
 
@@ -69,5 +69,6 @@ list-cases =
       k1-last = quick-text (nodes 16) 16 refl (omega arith) (omega arith) (omega arith);
       k10 = quick-text k10-list 2 refl (omega arith) (omega arith) (omega arith);
       refused-stopped = quick-text (nodes 2 ++ (recover 1 ++ (recover 1 ++ (crash 2 ++ (recover 2 ++ (0x17 ∷ 0 ∷ [])))))) 2 refl (omega arith) (omega arith) (omega arith);
+      totals-stopped = quick-text (nodes 2 ++ (recover 1 ++ (recover 2 ++ (check 2 ++ (deliver 2 1 ++ (lose 1 2 ++ (expire 2 ++ (check 2 ++ (deliver 2 1 ++ (0x17 ∷ 0 ∷ [])))))))))) 2 refl (omega arith) (omega arith) (omega arith);
       failed-alone = refl;
     }

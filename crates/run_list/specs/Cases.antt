@@ -3,7 +3,7 @@ use Prim.Native.Nat.{ℕ}
 use mathlib.Core.Path.{_≡_}
 use mathlib.Core.List.{List, [], _∷_, _++_}
 use Rattle.model.specs.Cases.{NamedCases}
-use Rattle.event_list.specs.Cases.{nodes, crash, recover, check, finish, deliver}
+use Rattle.event_list.specs.Cases.{nodes, crash, recover, check, expire, finish, deliver, lose}
 use Rattle.listing.specs.Ascii.{bytes}
 use Rattle.run_list.specs.Text.{textOf}
 
@@ -33,5 +33,8 @@ pub record ListCases : Type 0 where
   -- a field cut short behind a good event
   pub refused-stopped : textOf (nodes 2 ++ (recover 1 ++ (recover 1 ++ (crash 2 ++ (recover 2 ++ (0x17 ∷ 0 ∷ []))))))
       ≡ bytes "cabinets 2\nrefused 2 9\nrefused 3 9\nstopped 20 3\n1 3 1 16 1 1 0\n2 3 2 17 2 1 0\nmessages 0\nsent 0\ndelivered 0\nlost 0\n"
+  -- T-05: three totals that differ, of a table with a message that waits, behind a stop
+  pub totals-stopped : textOf (nodes 2 ++ (recover 1 ++ (recover 2 ++ (check 2 ++ (deliver 2 1 ++ (lose 1 2 ++ (expire 2 ++ (check 2 ++ (deliver 2 1 ++ (0x17 ∷ 0 ∷ []))))))))))
+      ≡ bytes "cabinets 2\nstopped 39 3\n1 3 1 16 1 1 0\n2 3 2 17 2 1 0\nmessages 1\nsent 4\ndelivered 2\nlost 1\n"
   -- "if the whole list or the first field failed, that line is all that is printed"
   pub failed-alone : textOf (0x01 ∷ 0 ∷ 2 ∷ 2 ∷ 2 ∷ []) ≡ bytes "stopped 0 5\n"

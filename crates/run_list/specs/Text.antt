@@ -61,7 +61,8 @@ pub record Printed (l b o : List ℕ) (a : Put) : Type 0 where
   -- in any case the lines are written one after the other, up to the first that does not fit
   pub lines : shown a o ≡ printed b 0 (linesOf l)
 
--- A bound: `cabinets n`, a line for each of at most 16,383 events (of four bytes or more) and for a stop, and the table of 16 nodes.
+-- A bound: `cabinets n`, a line for each of at most 16,383 events (of four bytes or more) and for a stop, and the table of 16 nodes with its three totals, 53 bytes:
+-- a total of a table in range, at most 240 × 33,554,430, has ten digits.
 abbrev pub textLimit : ℕ
 textLimit = 12 + 17 * 16384 + (34 * 16 + 12 + 53)
 

@@ -1,4 +1,4 @@
--- Demand 3 of a session: calls of `apply` on one table are steps of the machine.
+-- Demand 3 and T-05 of a session: calls of `apply` on one table are steps of the machine.
 use Prim.Native.Nat.{ℕ, _≤_}
 use mathlib.Core.List.{List}
 use Rattle.model.specs.Limits.{nodeLimit}

@@ -1,4 +1,4 @@
--- "The rig keeps one table for a whole session and applies each event to it": calls of `apply` on one lent table, and demand 3 of them.
+-- "The rig keeps one table for a whole session and applies each event to it": calls of `apply` on one lent table, and demand 3 and T-05 of them.
 use Prim.Native.Nat.{ℕ, _≤_}
 use mathlib.Core.List.{List, [], _∷_}
 use Rattle.model.specs.declared.Table.{Table}
