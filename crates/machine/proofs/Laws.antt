@@ -11,6 +11,7 @@ use lib.ListN.{length, getD, take, drop, set, length-map, length-set, length-tak
 use lib.Seq.{drop-cons, drop-set-lt, take-set-lt, take-suc-set, take-take, append-snoc, getD-take, length-take-le, take-all}
 use mir.Val.{Val}
 use denote.Laws.{Is}
+use denote.Array.{Array}
 use denote.Struct.Declared.{row}
 use borrow.Author.Tests.{le-leb, eq-eqb}
 use Rattle.model.specs.Counts.{noCounts}
@@ -20,6 +21,8 @@ use Rattle.model.specs.State.{State, startingNode, start, noMessage, every, tra
 use Rattle.model.specs.declared.Node.{Node}
 use Rattle.model.specs.declared.Message.{Message}
 use Rattle.model.specs.declared.Table.{Table}
+use Rattle.model.proofs.Node as node
+use Rattle.model.proofs.Message as message
 use Rattle.model.proofs.Table as T
 use Rattle.machine.specs.Stepped.{startingTable}
 use Rattle.machine.specs.Parts.{place, without, Left}
@@ -42,6 +45,13 @@ sized t g = record {
   lost = sym (length-map (t .lost) _) ∙ g .1 .1 .1 .1 .1 .1 .1 .1 .0 .1 .0 .1;
 }
 
+-- the same of an array by itself
+pub nodes-long : (cs : List Node) {vs : List Val} → Is (Array (row node.the-type) 16) cs vs → length cs ≡ 16
+nodes-long cs g = g .1 .0 .1
+
+pub messages-long : (ms : List Message) {vs : List Val} → Is (Array (row message.the-type) 64) ms vs → length ms ≡ 64
+messages-long ms g = g .1 .0 .1
+
 -- ── the first k of a list ──
 pub first-take : {A : Type 0} (k : ℕ) (d : A) (l : List A) → k ≤ length l → firstOf k d l ≡ take k l
 unfolding firstOf
@@ -55,12 +65,15 @@ first-length zero d l = refl
 first-length (suc k) d [] = ap suc (first-length k d [])
 first-length (suc k) d (x ∷ l) = ap suc (first-length k d l)
 
+pub queue-is : (w : ℕ) (ms : List Message) → length ms ≡ 64 → w ≤ 64 → firstOf w noMessage ms ≡ take w ms
+queue-is w ms long h = first-take w noMessage ms (omega arith)
+
 module _ (t : Table) (s : Sized t) where
   pub view-nodes : t .n ≤ 16 → view t .nodes ≡ take (t .n) (t .nodes)
   view-nodes h = first-take (t .n) startingNode (t .nodes) (omega arith)
 
   pub view-queue : t .waiting ≤ 64 → view t .queue ≡ take (t .waiting) (t .messages)
-  view-queue h = first-take (t .waiting) noMessage (t .messages) (omega arith)
+  view-queue h = queue-is (t .waiting) (t .messages) (s .messages) h
 
 -- ── the range, once n and the number waiting are good ──
 pub in-range-is : (t : Table) → Sized t → 1 ≤ t .n → t .n ≤ 16 → t .waiting ≤ 64
@@ -70,6 +83,13 @@ unfolding inRange
 in-range-is t s l h w =
     rw
     (le-leb 1 (t .n) l, le-leb (t .n) 16 h, first-length (t .n) startingNode (t .nodes), eq-eqb (t .n) (t .n) refl, first-length (t .waiting) noMessage (t .messages), le-leb (t .waiting) 64 w, view-nodes t s h, view-queue t s w)
+
+-- the traffic's range doesn't look at the nodes
+pub traffic-of : (t : Table)
+    → trafficInRange (record { n = t .n; nodes = []; queue = firstOf (t .waiting) noMessage (t .messages); sent = t .sent; delivered = t .delivered; lost = t .lost })
+    ≡ trafficInRange (view t)
+unfolding trafficInRange
+traffic-of t = refl
 
 -- ── loops over the first w elements of an array: what is left at k, by the element at k ──
 module _ {A : Type 0} (l : List A) (w : ℕ) (h : w ≤ length l) (k : ℕ) where

@@ -127,7 +127,8 @@ pub fn advance(t: Table, e: Event) -> Outcome
 {
     let n = t.n;
     let waiting = t.waiting;
-    let k = queue::place_for(t, e);
+    let messages = t.messages;
+    let k = queue::place_for(messages, waiting, e);
     let m = t.messages[k % 64];
     let at = (grounds::actor(e) as usize + 15) % 16;
     let c = t.nodes[at];

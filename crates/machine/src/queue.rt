@@ -2,7 +2,7 @@
 ghost use mathlib.Core.Path.{_≡_};
 ghost use Prim.Native.Nat.{ℕ, _+_, _-_, _≤_, _<_};
 ghost use lib.ListN.{length};
-ghost use Rattle.model.specs.State.{view};
+ghost use Rattle.model.specs.State.{noMessage, firstOf, view};
 ghost use Rattle.model.specs.State as spec;
 ghost use Rattle.machine.specs.Parts as parts;
 use crate::grounds;
@@ -19,14 +19,14 @@ fn goes(a: u8, b: u8, m: Message) -> bool
 }
 
 // Where the oldest message from a to b stands, or how many wait.
-fn find(t: Table, a: u8, b: u8) -> usize
-    requires { ⌜ t .waiting ≤ 64 ⌝ }
-    ensures { λ r. ⌜ (r ≡ parts.place a b (view t .queue)) × (r ≤ t .waiting) ⌝ }
+fn find(messages: [Message; 64], waiting: u8, a: u8, b: u8) -> usize
+    requires { ⌜ waiting ≤ 64 ⌝ }
+    ensures { λ r. ⌜ (r ≡ parts.place a b (firstOf waiting noMessage messages)) × (r ≤ waiting) ⌝ }
 {
-    let end = t.waiting as usize;
+    let end = waiting as usize;
     let mut i: usize = 0;
     while i < end {
-        let m = t.messages[i];
+        let m = messages[i];
         if goes(a, b, m) {
             return i;
         }
@@ -35,15 +35,15 @@ fn find(t: Table, a: u8, b: u8) -> usize
     end
 }
 
-// Where the event's message stands; how many wait for an event that takes none.
-pub fn place_for(t: Table, e: Event) -> usize
-    requires { ⌜ t .waiting ≤ 64 ⌝ }
-    ensures { λ r. ⌜ (r ≡ parts.placeFor (view t .queue) e) × (r ≤ t .waiting) ⌝ }
+// Where the event's message stands; how many wait for an event that takes none. By the table's messages alone, so that no whole table is copied.
+pub fn place_for(messages: [Message; 64], waiting: u8, e: Event) -> usize
+    requires { ⌜ waiting ≤ 64 ⌝ }
+    ensures { λ r. ⌜ (r ≡ parts.placeFor (firstOf waiting noMessage messages) e) × (r ≤ waiting) ⌝ }
 {
     if grounds::takes(e) {
-        return find(t, grounds::sender(e), grounds::actor(e));
+        return find(messages, waiting, grounds::sender(e), grounds::actor(e));
     }
-    t.waiting as usize
+    waiting as usize
 }
 
 // The table with r's record at `at`, the message at k out and r's message in, and both counted; left is how many wait between.

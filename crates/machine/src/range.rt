@@ -5,17 +5,19 @@ ghost use lib.ListN.{take};
 ghost use Rattle.model.specs.Range.{nodeInRange, messageInRange};
 ghost use Rattle.model.specs.State.{every, view};
 ghost use Rattle.model.specs.State as spec;
+use model::Message;
+use model::Node;
 use model::Table;
 
-fn nodes_in_range(t: Table) -> bool
-    requires { ⌜ t .n ≤ 16 ⌝ }
-    ensures { λ r. ⌜ r ≡ every (nodeInRange (t .n)) 1 (take (t .n) (t .nodes)) ⌝ }
+// A table's arrays and not the table, here and below, so that no whole table is copied.
+fn nodes_in_range(n: u8, nodes: [Node; 16]) -> bool
+    requires { ⌜ n ≤ 16 ⌝ }
+    ensures { λ r. ⌜ r ≡ every (nodeInRange n) 1 (take n nodes) ⌝ }
 {
-    let n = t.n;
     let end = n as usize;
     let mut k: usize = 0;
     while k < end {
-        let c = t.nodes[k];
+        let c = nodes[k];
         if !node_step::node_in_range(n, (k + 1) as u8, c) {
             return false;
         }
@@ -24,15 +26,14 @@ fn nodes_in_range(t: Table) -> bool
     true
 }
 
-fn messages_in_range(t: Table) -> bool
-    requires { ⌜ t .waiting ≤ 64 ⌝ }
-    ensures { λ r. ⌜ r ≡ every (λ k. messageInRange (t .n)) 1 (take (t .waiting) (t .messages)) ⌝ }
+fn messages_in_range(n: u8, messages: [Message; 64], waiting: u8) -> bool
+    requires { ⌜ waiting ≤ 64 ⌝ }
+    ensures { λ r. ⌜ r ≡ every (λ k. messageInRange n) 1 (take waiting messages) ⌝ }
 {
-    let n = t.n;
-    let end = t.waiting as usize;
+    let end = waiting as usize;
     let mut k: usize = 0;
     while k < end {
-        let m = t.messages[k];
+        let m = messages[k];
         if !node_step::message_in_range(n, m) {
             return false;
         }
@@ -55,5 +56,12 @@ pub fn in_range(t: Table) -> bool
     if 64 < waiting {
         return false;
     }
-    nodes_in_range(t) & messages_in_range(t) & traffic::traffic_in_range(t)
+    let nodes = t.nodes;
+    let messages = t.messages;
+    let sent = t.sent;
+    let delivered = t.delivered;
+    let lost = t.lost;
+    nodes_in_range(n, nodes)
+        & messages_in_range(n, messages, waiting)
+        & traffic::traffic_in_range(n, messages, waiting, &sent, &delivered, &lost)
 }

@@ -160,8 +160,8 @@ pub enum Answer {
     SentAtEnd,
 }
 
-// The answer of a step, and the table after it.
+// The answer of a step, and the table after it; the table stands first, because behind one byte it is copied from an odd place, in more pieces.
 pub struct Outcome {
-    pub answer: Answer,
     pub table: Table,
+    pub answer: Answer,
 }

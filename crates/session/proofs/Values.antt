@@ -110,10 +110,10 @@ abbrev pub both : Answer → Table → Outcome
 both a t = record { answer = a; table = t }
 
 pub answer-is : (r : Outcome) (vs : List Val) → Is O.the-row r vs → IsAnswer (r .answer)
-answer-is r vs is = LL.owed O.the-type O′.the-laws r vs is .0
+answer-is r vs is = LL.owed O.the-type O′.the-laws r vs is .1 .0
 
 pub table-is : (r : Outcome) (vs : List Val) → Is O.the-row r vs → IsTable (r .table)
-table-is r vs is = LL.owed O.the-type O′.the-laws r vs is .1 .0
+table-is r vs is = LL.owed O.the-type O′.the-laws r vs is .0
 
 pub both-is : (a : Answer) (t : Table) → IsAnswer a → IsTable t → IsOutcome (both a t)
-both-is a t a-is t-is = LL.owes O.the-type O′.the-laws (both a t) (a-is, (t-is, tt))
+both-is a t a-is t-is = LL.owes O.the-type O′.the-laws (both a t) (t-is, (a-is, tt))

@@ -3,13 +3,13 @@ ghost use mathlib.Core.Path.{_≡_};
 ghost use Prim.Native.Nat.{_+_, _≤_, _<_};
 ghost use lib.Dec.{eqb};
 ghost use lib.ListN.{length};
+ghost use mathlib.Core.List.{[]};
 ghost use Rattle.model.specs.Counts.{countAt, listed, rowsOf};
 ghost use Rattle.model.specs.Range as range;
-ghost use Rattle.model.specs.State.{noMessage, firstOf, upTo, view};
+ghost use Rattle.model.specs.State.{noMessage, firstOf, upTo};
 ghost use Rattle.model.specs.State as state;
 ghost use Rattle.traffic.specs.Rows.{entry, raised, oneMoreIn, usedOf, mostAt, allInRange, adding};
 use model::Message;
-use model::Table;
 
 // ── as rows ──
 
@@ -185,16 +185,19 @@ pub fn adds_up(
     good
 }
 
-// T-05: "A table is in range only if that holds, a count that stands for no pair of its n cabinets is 0, and no count is above 33,554,430."
-pub fn traffic_in_range(t: Table) -> bool
-    requires { ⌜ t .n ≤ 16 ⌝ }
-    ensures { λ r. ⌜ r ≡ state.trafficInRange (view t) ⌝ }
+// T-05: "A table is in range only if that holds, a count that stands for no pair of its n cabinets is 0, and no count is above 33,554,430." By the parts of a table, so
+// that no whole one is copied; its nodes don't matter.
+pub fn traffic_in_range(
+    n: u8,
+    messages: [Message; 64],
+    waiting: u8,
+    sent: &[u32; 256],
+    delivered: &[u32; 256],
+    lost: &[u32; 256],
+) -> bool
+    requires { ⌜ n ≤ 16 ⌝ }
+    ensures { λ r. ⌜ r ≡ state.trafficInRange (record { n = n; nodes = []; queue = firstOf waiting noMessage messages; sent = now (sent .entry); delivered = now (delivered .entry); lost = now (lost .entry) }) ⌝ }
 {
-    let n = t.n;
-    let sent = t.sent;
-    let delivered = t.delivered;
-    let lost = t.lost;
-    let messages = t.messages;
-    let waiting = waiting_rows(messages, t.waiting);
-    counts_in_range(n, &sent, &delivered, &lost) & adds_up(n, &sent, &delivered, &lost, &waiting)
+    let rows = waiting_rows(messages, waiting);
+    counts_in_range(n, sent, delivered, lost) & adds_up(n, sent, delivered, lost, &rows)
 }

@@ -12,13 +12,15 @@ use Rattle.machine.proofs.advance.Statement.{statement}
 use Rattle.machine.proofs.advance.Tie as tie
 
 place-for-requires : tie.Need-place-for-requires
-place-for-requires c κs = small (c .args .t1) (sized (c .args .t1) (c .good .0)) (c .pre) (c .args .e) .2
+place-for-requires c κs =
+    let o = c .before in
+    small (o .args .t1) (sized (o .args .t1) (o .good .0)) (o .pre) (o .args .e) .2
 
 judge-requires : tie.Need-judge-requires
 judge-requires c κs =
     let a = c .before in
     let p = a .before .before in
-    let o = p .before in
+    let o = p .before .before in
     let t = o .args .t1 in
     judging t (sized t (o .good .0)) (o .pre) (o .args .e) _ (p .place-for .ensures .0) (p .place-for .ensures .1) _ (ap (λ (i : ℕ). (i + 15) % 16) (a .actor .ensures)) _ _ refl _ _ refl
 
@@ -29,7 +31,7 @@ returns c =
     let j = n .before .before in
     let a = j .before .before in
     let p = a .before .before in
-    let o = p .before in
+    let o = p .before .before in
     let t = o .args .t1 in
     last-refused t (sized t (o .good .0)) (o .pre) (o .args .e) _ (p .place-for .ensures .0) (p .place-for .ensures .1) _ (ap (λ (i : ℕ). (i + 15) % 16) (a .actor .ensures)) _ _ refl _ _ refl _ (j .judge .ensures)
     _ (ap (λ (i : ℕ). getD (t .sent) i 0) (n .sent-place .ensures .0)) (w .with-last .result) (w .with-last .ensures) (halted (w .with-last .result) (c .before .is-accepted .ensures) (c .if1 .taken))
@@ -37,7 +39,7 @@ returns c =
 left-of-requires : tie.Need-left-of-requires
 left-of-requires c κs q =
     let p = c .before .before .before .before .before .before .before .before .before .before in
-    omega (arith, ltb-true (p .place-for .result) (p .before .args .t1 .waiting) q)
+    omega (arith, ltb-true (p .place-for .result) (p .before .before .args .t1 .waiting) q)
 
 stored-requires : tie.Need-stored-requires
 stored-requires c κs =
@@ -47,7 +49,7 @@ stored-requires c κs =
     let j = n .before .before in
     let a = j .before .before in
     let p = a .before .before in
-    let o = p .before in
+    let o = p .before .before in
     let t = o .args .t1 in
     let z = sized t (o .good .0) in
     let e = o .args .e in
@@ -75,7 +77,7 @@ returns-2 c =
     let j = n .before .before in
     let a = j .before .before in
     let p = a .before .before in
-    let o = p .before in
+    let o = p .before .before in
     let t = o .args .t1 in
     let z = sized t (o .good .0) in
     let e = o .args .e in
@@ -102,7 +104,7 @@ advance-spec =
     judge-requires
     (λ c κs. search needs)
     (λ c. search needs)
-    (λ c. omega (arith, c .sent-place .ensures .1, sized (c .before .before .before .before .before .before .before .args .t1) (c .before .before .before .before .before .before .before .good .0) .sent))
+    (λ c. omega (arith, c .sent-place .ensures .1, sized (c .before .before .before .before .before .before .before .before .args .t1) (c .before .before .before .before .before .before .before .before .good .0) .sent))
     (λ c κs. search needs)
     (λ c κs. search needs)
     returns

@@ -126,10 +126,10 @@ module _ {M : Type 1} (𝓤 : URA M) (H : Heap 𝓤) (A : Atoms 𝓤) (W : Given
         land ! (from ! (stop !)) (init ! 6 refl (outcome-fits W r _ is)) $ rewrite ! 6 (λ (u : Val). ‵ (fat fullShare O′.mir l₃ 0 u)) (ap only (outcome-tells r _ is)) refl $
         -- [the table's cell; the open borrow; obs; auth; _4; …; _3; …; _2; …; _1; …; room for _0; …]
         -- *_1 = _3.table
-        assigns ! (of-opd ! (load ! (from ! (fld ! refl (stop !))) (look-in ! 6 (sub ! 1 refl (whole !))))) (from ! (hop ! (look ! 10 refl) (stop !)))
+        assigns ! (of-opd ! (load ! (from ! (fld ! refl (stop !))) (look-in ! 6 (sub ! 0 refl (whole !))))) (from ! (hop ! (look ! 10 refl) (stop !)))
         (store-raw ! 0 refl (table-fits W (r .table) _ (table-is r _ is))) $
         -- _0 = _3.answer
-        assigns ! (of-opd ! (load ! (from ! (fld ! refl (stop !))) (look-in ! 6 (sub ! 0 refl (whole !))))) (from ! (stop !))
+        assigns ! (of-opd ! (load ! (from ! (fld ! refl (stop !))) (look-in ! 6 (sub ! 1 refl (whole !))))) (from ! (stop !))
         (init ! 12 refl (answer-fits W (r .answer) _ (answer-is r _ is))) $
         -- the borrow is closed at r's table
         owned ! T.the-row (Is T.the-row) (table-makes 𝓤 H A) (r .table) _ (table-is r _ is) $ move ! (1 ∷ 0 ∷ []) $ closes ! tt T.the-row (r .table) (table-val (r .table) ∷ []) b o $

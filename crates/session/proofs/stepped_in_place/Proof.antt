@@ -146,8 +146,8 @@ module _ {M : Type 1} (𝓤 : URA M) (H : Heap 𝓤) (A : Atoms 𝓤) (W : Given
         -- [_3; what it owns; true; …; _6; …; _5; …; _4; …; (_3's end); _2; …; _1; …; room for _0; …]
         -- _6 = _3
         assigns ! (of-opd ! (load ! (from ! (stop !)) (look ! 0 refl))) (from ! (stop !)) (init ! 4 refl (table-fits W (zs .0) _ g)) $
-        -- _0 = Outcome { answer: _4, table: _6 }
-        assigns ! (agg ! (and-then ! (load ! (from ! (stop !)) (look ! 8 refl)) (and-then ! (load ! (from ! (stop !)) (look ! 4 refl)) (no-more !)))) (from ! (stop !))
+        -- _0 = Outcome { table: _6, answer: _4 }
+        assigns ! (agg ! (and-then ! (load ! (from ! (stop !)) (look ! 4 refl)) (and-then ! (load ! (from ! (stop !)) (look ! 8 refl)) (no-more !)))) (from ! (stop !))
         (init ! 15 refl (outcome-fits W (both r (zs .0)) _ (both-is r (zs .0) (told r _ is) g))) $
         -- return: the locals are given up, from _0 to _6
         returns ! (look ! 15 refl) $ forget ! 0 refl $ forget ! 4 refl $ forget ! 6 refl $ forget ! 8 refl $ forget ! 11 refl $ forget ! 13 refl $ forget ! 15 refl $

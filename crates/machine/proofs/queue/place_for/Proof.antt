@@ -4,7 +4,7 @@ use native.Mathlib.Nat.{le-refl}
 use Prim.Native.Nat.{ℕ}
 use mathlib.Core.Bool.{true, false}
 use mathlib.Core.Path.{_≡_, sym, _∙_, ap₂}
-use Rattle.model.specs.State.{noMessage, view}
+use Rattle.model.specs.State.{noMessage, firstOf}
 use Rattle.machine.specs.Parts.{place, takes}
 use Rattle.machine.proofs.Laws.{first-length}
 use Rattle.machine.proofs.Parts.{place-taken, place-none}
@@ -13,24 +13,22 @@ use Rattle.machine.proofs.queue.place_for.Tie as tie
 
 returns : tie.Need-returns
 returns c =
-    let o = c .before .before .before .before .before in
-    let t = o .args .t in
-    let e = o .args .e in
-    let k : takes e ≡ true = sym (c .before .before .before .before .takes .ensures) ∙ c .before .before .before .if1 .taken in (
+    let o = c .before .before .before .before .before .args in
+    let q = firstOf (o .waiting) noMessage (o .messages) in
+    let k : takes (o .e) ≡ true = sym (c .before .before .before .before .takes .ensures) ∙ c .before .before .before .if1 .taken in (
       c .find .ensures .0
-          ∙ ap₂ (λ (a b : ℕ). place a b (view t .queue)) (c .before .before .sender .ensures) (c .before .actor .ensures)
-          ∙ sym (place-taken (view t .queue) e k),
+          ∙ ap₂ (λ (a b : ℕ). place a b q) (c .before .before .sender .ensures) (c .before .actor .ensures)
+          ∙ sym (place-taken q (o .e) k),
       c .find .ensures .1,
     )
 
 returns-2 : tie.Need-returns-2
 returns-2 c =
-    let o = c .before .before .before in
-    let t = o .args .t in
-    let k : takes (o .args .e) ≡ false = sym (c .before .before .takes .ensures) ∙ c .before .if1 .left in
-    (sym (place-none (view t .queue) (o .args .e) k ∙ first-length (t .waiting) noMessage (t .messages)), le-refl _)
+    let o = c .before .before .args in
+    let k : takes (o .e) ≡ false = sym (c .before .takes .ensures) ∙ c .if1 .left in
+    (sym (place-none (firstOf (o .waiting) noMessage (o .messages)) (o .e) k ∙ first-length (o .waiting) noMessage (o .messages)), le-refl _)
 
 pub place-for-spec : {M : Type 1} → statement M
 place-for-spec =
     tie.close
-    (tie.spec (λ c κs. search needs) (λ c κs. search needs) (λ c κs. search needs) (λ c κs. search needs) returns (λ c. search needs) returns-2)
+    (tie.spec (λ c κs. search needs) (λ c κs. search needs) (λ c κs. search needs) (λ c κs. search needs) returns returns-2)

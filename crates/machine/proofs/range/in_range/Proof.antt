@@ -5,7 +5,7 @@ use native.Mathlib.Omega.{arith}
 use mathlib.Core.Path.{refl, sym, _∙_, ap₂}
 use mathlib.Core.Bool.{Bool, _&&_}
 use Rattle.model.specs.State.{startingNode, noMessage, inRange}
-use Rattle.machine.proofs.Laws.{sized, first-length, in-range-is}
+use Rattle.machine.proofs.Laws.{sized, first-length, in-range-is, traffic-of}
 use Rattle.machine.proofs.range.in_range.Statement.{statement}
 use Rattle.machine.proofs.range.in_range.Tie as tie
 
@@ -26,11 +26,12 @@ returns-3 c =
 
 returns-4 : tie.Need-returns-4
 returns-4 c =
-    let m = c .before in
-    let f = m .before .before in
-    let t = f .before .before .before .args .t in
-    ap₂ (λ (x y : Bool). x && y) (ap₂ (λ (x y : Bool). x && y) (m .before .nodes-in-range .ensures) (m .messages-in-range .ensures)) (c .traffic-in-range .ensures)
-    ∙ sym (in-range-is t (sized t (f .before .before .before .good .0)) (omega arith) (omega arith) (omega arith))
+    let m = c .before .before .before .before in
+    let f = m .before .before .before .before .before .before in
+    let o = f .before .before .before .before in
+    let t = o .args .t in
+    ap₂ (λ (x y : Bool). x && y) (ap₂ (λ (x y : Bool). x && y) (m .before .nodes-in-range .ensures) (m .messages-in-range .ensures)) (c .traffic-in-range .ensures ∙ traffic-of t)
+    ∙ sym (in-range-is t (sized t (o .good .0)) (omega arith) (omega arith) (omega arith))
 
 pub in-range-spec : {M : Type 1} → statement M
 in-range-spec =

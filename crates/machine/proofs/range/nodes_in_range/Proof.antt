@@ -7,37 +7,37 @@ use native.Mathlib.Omega.{arith}
 use lib.ListN.{drop, take}
 use Rattle.model.specs.Range.{nodeInRange, messageInRange}
 use Rattle.model.specs.State.{every}
-use Rattle.machine.proofs.Laws.{sized, every-hit, every-miss, every-end}
+use Rattle.machine.proofs.Laws.{nodes-long, every-hit, every-miss, every-end}
 use Rattle.machine.proofs.range.nodes_in_range.Statement.{statement}
 use Rattle.machine.proofs.range.nodes_in_range.Tie as tie
 
 abbrev Inv-loop : tie.InvT-loop
-Inv-loop t n end k₀ k = (k ≤ end) × (every (nodeInRange (t .n)) 1 (take (t .n) (t .nodes)) ≡ every (nodeInRange (t .n)) (k + 1) (drop k (take (t .n) (t .nodes))))
+Inv-loop n nodes end k₀ k = (k ≤ end) × (every (nodeInRange n) 1 (take n nodes) ≡ every (nodeInRange n) (k + 1) (drop k (take n nodes)))
 
 abbrev μ-loop : tie.MeasureT-loop
-μ-loop t n end k₀ k = end - k
+μ-loop n nodes end k₀ k = end - k
 
 returns : tie.Need-returns Inv-loop μ-loop
 returns c =
     let l = c .before .before .before .before in
-    let t = l .before .args .t1 in
-    let s = sized t (l .before .good .0) in
-    sym (l .loop .inv .1 ∙ every-miss (t .nodes) (t .n) (omega arith) (l .loop .k) _ _ (omega arith) _ _ (c .before .node-in-range .ensures) (not-true _ (c .if1 .taken)))
+    let a = l .before .args in
+    let h = nodes-long (a .t2) (l .before .good .1 .0) in
+    sym (l .loop .inv .1 ∙ every-miss (a .t2) (a .n) (omega arith) (l .loop .k) _ _ (omega arith) _ _ (c .before .node-in-range .ensures) (not-true _ (c .if1 .taken)))
 
 loop-again : tie.Need-loop-again Inv-loop μ-loop
 loop-again c =
     let l = c .before .before .before .before in
-    let t = l .before .args .t1 in
-    let s = sized t (l .before .good .0) in (
+    let a = l .before .args in
+    let h = nodes-long (a .t2) (l .before .good .1 .0) in (
       omega arith,
-      l .loop .inv .1 ∙ every-hit (t .nodes) (t .n) (omega arith) (l .loop .k) _ _ (omega arith) _ _ (c .before .node-in-range .ensures) (not-false _ (c .if1 .left)),
+      l .loop .inv .1 ∙ every-hit (a .t2) (a .n) (omega arith) (l .loop .k) _ _ (omega arith) _ _ (c .before .node-in-range .ensures) (not-false _ (c .if1 .left)),
     )
 
 returns-2 : tie.Need-returns-2 Inv-loop μ-loop
 returns-2 c =
-    let t = c .before .before .args .t1 in
-    let s = sized t (c .before .before .good .0) in
-    sym (c .before .loop .inv .1 ∙ every-end (t .nodes) (t .n) (omega arith) (c .before .loop .k) _ _ (omega arith))
+    let a = c .before .before .args in
+    let h = nodes-long (a .t2) (c .before .before .good .1 .0) in
+    sym (c .before .loop .inv .1 ∙ every-end (a .t2) (a .n) (omega arith) (c .before .loop .k) _ _ (omega arith))
 
 pub nodes-in-range-spec : {M : Type 1} → statement M
 nodes-in-range-spec =
@@ -45,7 +45,6 @@ nodes-in-range-spec =
     (tie.spec
     Inv-loop
     μ-loop
-    (λ c. search needs)
     (λ c. (search needs, refl))
     (λ c. omega arith)
     (λ c. omega arith)
