@@ -6,7 +6,7 @@ ghost use Rattle.exports_print.specs.Boundary.{PrintExported};
 
 //   uint64_t nevraspu_print(const uint8_t *list, size_t list_len, uint8_t *out, size_t out_len);
 // The text of a list, any bytes at all, at the start of out. The answer:
-//   a length      of the text, which stands there whole. No text has more than 279,096 bytes, so an out of that size always has the room
+//   a length      of the text, which stands there whole. No text has more than 279,149 bytes, so an out of that size always has the room
 //   2^64 - 1      the text does not fit (refusal 15): its lines from the first on stand there, up to the one that has no room
 // What is behind the last line written is left as it was. A caller has only to hand in pointers that are good for their lengths, out apart from list.
 #[no_mangle]

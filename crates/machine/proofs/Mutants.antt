@@ -544,7 +544,7 @@ unfolding effect reactionTo
 no-other-counts =
     record {
       counts-refused = λ {t} {e} {r} x n h. let z = x .same n in h (ap (λ (u : Table). u .sent) z, ap (λ (u : Table). u .delivered) z, ap (λ (u : Table). u .lost) z);
-      other-as-delivered = λ {t} {e} {r} q x h.
+      others-counted = λ {t} {e} {r} q x h.
           h (by-counts (λ (s : State). s .delivered) (t .delivered) x refl (no-delivery (t .delivered) e q), by-counts (λ (s : State). s .lost) (t .lost) x refl (no-loss (t .lost) e q));
       lost-as-delivered = λ {t} {a} {b} {r} x h. h (by-counts (λ (s : State). s .delivered) (t .delivered) x refl refl);
       delivered-as-lost = λ {t} {a} {b} {r} x h. h (by-counts (λ (s : State). s .lost) (t .lost) x refl refl);

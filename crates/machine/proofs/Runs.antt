@@ -8,7 +8,7 @@ use lib.Dec.{eqb}
 use lib.ListN.{getD, replicate}
 use Rattle.model.specs.Limits.{nodeLimit}
 use Rattle.model.specs.Pick.{pick}
-use Rattle.model.specs.Counts.{countAt}
+use Rattle.model.specs.Counts.{countAt, total}
 use Rattle.model.specs.State.{State, startingNode, start, nodeAt, inRange, view, waiting}
 use Rattle.model.specs.Step.{actor, reactionTo, effect, Result, refused, accepted, step, kept, after, runFrom, run}
 use Rattle.model.specs.Answers.{answerNumber, resultNumber}
@@ -200,6 +200,9 @@ module _ (chain : Chain) (folds : (t : Table) (es : List Event) (u : Table) → 
         sent-counted = λ {es} {t} c a b p q i j. ap (λ (s : State). countAt (s .sent) a b) (runs c) ∙ traffic-agrees n l h .sent-counted es a b p q i j;
         delivered-counted = λ {es} {t} c a b p q i j. ap (λ (s : State). countAt (s .delivered) a b) (runs c) ∙ traffic-agrees n l h .delivered-counted es a b p q i j;
         lost-counted = λ {es} {t} c a b p q i j. ap (λ (s : State). countAt (s .lost) a b) (runs c) ∙ traffic-agrees n l h .lost-counted es a b p q i j;
+        sent-total = λ {es} {t} c. ap (λ (s : State). total (s .sent)) (runs c) ∙ traffic-agrees n l h .sent-total es;
+        delivered-total = λ {es} {t} c. ap (λ (s : State). total (s .delivered)) (runs c) ∙ traffic-agrees n l h .delivered-total es;
+        lost-total = λ {es} {t} c. ap (λ (s : State). total (s .lost)) (runs c) ∙ traffic-agrees n l h .lost-total es;
         adds-up = λ {es} {t} c a b p q i j.
             subst (λ (s : State). countAt (s .sent) a b ≡ countAt (s .delivered) a b + countAt (s .lost) a b + waiting (s .queue) a b) (sym (runs c))
             (traffic-agrees n l h .adds-up es a b p q i j);

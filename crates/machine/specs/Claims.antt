@@ -6,12 +6,12 @@ use mathlib.Core.Path.{_≡_}
 use mathlib.Core.List.{List, _++_}
 use lib.ListN.{replicate}
 use Rattle.model.specs.Limits.{nodeLimit}
-use Rattle.model.specs.Counts.{countAt}
+use Rattle.model.specs.Counts.{countAt, total}
 use Rattle.model.specs.Recovery.{recoveryRecords}
-use Rattle.model.specs.State.{State, startingNode, nodeAt, waiting, inRange, view}
+use Rattle.model.specs.State.{State, startingNode, start, nodeAt, waiting, inRange, view}
 use Rattle.model.specs.Step.{actor, reactionTo, forms, accepted, step, runFrom, run}
 use Rattle.model.specs.History.{NotFormed, NoTask, Task, newest, coming, history}
-use Rattle.model.specs.Traffic.{sentIn, deliveredIn, lostIn}
+use Rattle.model.specs.Traffic.{tally, sentIn, deliveredIn, lostIn, sendsAny, deliversAny, losesAny}
 use Rattle.model.specs.Claims.{isActive, Lacks, Fixes, EachGroup, recordAfter}
 use Rattle.model.specs.declared.Status.the-variants.{Normal}
 use Rattle.model.specs.declared.TaskNo.{TaskNo}
@@ -115,6 +115,10 @@ pub record CodeTraffic (chain : Chain) (n : ℕ) : Type 0 where
   pub delivered-counted : {es : List Event} {t : Table} → Reached chain n es t → (a b : ℕ) → 1 ≤ a → a ≤ nodeLimit → 1 ≤ b → b ≤ nodeLimit
       → countAt (t .delivered) a b ≡ deliveredIn n es a b
   pub lost-counted : {es : List Event} {t : Table} → Reached chain n es t → (a b : ℕ) → 1 ≤ a → a ≤ nodeLimit → 1 ≤ b → b ≤ nodeLimit → countAt (t .lost) a b ≡ lostIn n es a b
+  -- so the totals are those of the list
+  pub sent-total : {es : List Event} {t : Table} → Reached chain n es t → total (t .sent) ≡ tally sendsAny (start n) es
+  pub delivered-total : {es : List Event} {t : Table} → Reached chain n es t → total (t .delivered) ≡ tally deliversAny (start n) es
+  pub lost-total : {es : List Event} {t : Table} → Reached chain n es t → total (t .lost) ≡ tally losesAny (start n) es
   -- "Sent is delivered plus lost plus those waiting, for each pair."
   pub adds-up : {es : List Event} {t : Table} → Reached chain n es t → (a b : ℕ) → 1 ≤ a → a ≤ n → 1 ≤ b → b ≤ n
       → countAt (t .sent) a b ≡ countAt (t .delivered) a b + countAt (t .lost) a b + waiting (view t .queue) a b

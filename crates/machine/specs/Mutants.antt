@@ -233,7 +233,7 @@ pub record NoJoiningAgain : Type 0 where
   -- at its delivery no machine changes a record, of the receiver or of another, in any table
   pub changes-records : (t : Table) (a b : ℕ) → oldest a b (view t .queue) .kind ≡ 3 → Holds (view t) a b
       → {r : Outcome} → Stepped t (Deliver a b) r → (view (r .table) .nodes ≡ view t .nodes → ⊥) → ⊥
-  -- where the table is in range and the receiver not Down, no machine refuses it (T-05: unless its pair's count is at its end)
+  -- where the table is in range and the receiver not Down, no machine refuses it (T-05: where the count of the reply's pair is not at its end)
   pub refuses : (t : Table) (a b : ℕ) → InvitationReaches (view t) a b → MaySend (view t) b a → Holds (view t) a b
       → {r : Outcome} → Stepped t (Deliver a b) r → (r .answer ≡ Accepted → ⊥) → ⊥
   -- nor leaves other messages than `withPlainReply` has
@@ -290,7 +290,7 @@ pub record NoOtherRecovery : Type 0 where
 
 -- ── 02, T-05: traffic totals ──
 
--- A machine is here whatever makes the outcome r of an event on a table t, by the contract of the step.
+-- No machine that meets `Stepped` is:
 pub record NoOtherCounts : Type 0 where
   -- one that counts a refused event
   pub counts-refused : {t : Table} {e : Event} {r : Outcome} → Stepped t e r → (r .answer ≡ Accepted → ⊥)
@@ -300,7 +300,7 @@ pub record NoOtherCounts : Type 0 where
   pub delivered-as-lost : {t : Table} {a b : ℕ} {r : Outcome} → Stepped t (Deliver a b) r → (r .table .lost ≡ t .lost → ⊥) → ⊥
   pub lost-as-sent : {t : Table} {a b : ℕ} {r : Outcome} → Stepped t (Lose a b) r → (r .table .sent ≡ t .sent → ⊥) → ⊥
   -- another event as a delivery or a loss
-  pub other-as-delivered : {t : Table} {e : Event} {r : Outcome} → takes e ≡ false → Stepped t e r → ((r .table .delivered ≡ t .delivered) × (r .table .lost ≡ t .lost) → ⊥) → ⊥
+  pub others-counted : {t : Table} {e : Event} {r : Outcome} → takes e ≡ false → Stepped t e r → ((r .table .delivered ≡ t .delivered) × (r .table .lost ≡ t .lost) → ⊥) → ⊥
   -- an accepted deliver or lose not at all, or in another pair than its own
   pub delivery-uncounted : {t : Table} {a b : ℕ} {r : Outcome} → Stepped t (Deliver a b) r → r .answer ≡ Accepted
       → (r .table .delivered ≡ oneMore (t .delivered) a b → ⊥) → ⊥

@@ -289,7 +289,7 @@ pub fn left_of(waiting: u8, found: bool) -> u8
     waiting
 }
 
-// The place of the count from a to b.
+// The place of the count from a to b, where both are 1 to 16; for other numbers one of the 256 all the same.
 fn place(a: u8, b: u8) -> usize
     ensures { λ r. ⌜ (r ≡ parts.placeOf a b) × (r < 256) ⌝ }
 {

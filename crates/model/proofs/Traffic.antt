@@ -215,7 +215,7 @@ no-call-from i (Send m) j b f d = rw (ne-eqb (m .sender) j (λ e. d (sym e ∙ f
 
 -- ── the invariant ──
 
--- What was sent from a to b, the answer that a due b and the calls from b that wait for it are together no more than the two last call numbers: a message from a to
+-- What was sent from a to b, the answer that a owes b and the calls from b that wait for it are together no more than the two last call numbers: a message from a to
 -- b is a call of a's or the answer to a call of b's, and no call is answered twice.
 abbrev pub PairWithin : State → ℕ → ℕ → Type 0
 PairWithin s a b = countAt (s .sent) a b + due b (nodeAt s a .activity) + howMany (isCallTo b a) (s .queue) ≤ nodeAt s a .last .number + nodeAt s b .last .number

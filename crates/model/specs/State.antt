@@ -134,7 +134,7 @@ baseInRange n cs q =
 unfoldable pub countsInRange : ℕ → List ℕ → Bool
 countsInRange n l = eqb (length l) countPlaces && every (countInRange n) 0 l
 
--- T-05: "A table is in range only if that holds" for each pair, "a count that stands for no pair of its n cabinets is 0, and no count is above 33,554,430."
+-- T-05: "A table is in range only if that holds", for a and b from 1 to n (of a and a it says 0 = 0, as no message in range goes there), "a count that stands for no pair of its n cabinets is 0, and no count is above 33,554,430."
 unfoldable pub trafficInRange : State → Bool
 trafficInRange s =
     countsInRange (s .n) (s .sent)
