@@ -1,4 +1,4 @@
--- Two calls after `starting` are a chain, so the table is the model's, and demand 3 holds of it.
+-- Two calls after `starting` are a chain, so the table is the model's, and demand 3 holds of it; of three, T-05.
 use Prim.Native.Nat.{ℕ, _-_, _≤_}
 use mathlib.Core.Bool.{Bool, true, false, true≢false}
 use mathlib.Core.Path.{_≡_, refl, sym, _∙_, ap}
@@ -8,14 +8,18 @@ use borrow.Author.Tests.{le-leb, leb-true}
 use Rattle.model.specs.Limits.{nodeLimit}
 use Rattle.model.specs.Node.{isNormal}
 use Rattle.model.specs.State.{State, start, nodeAt, view}
-use Rattle.model.specs.Step.{Result, step, kept, runFrom, run}
+use Rattle.model.specs.Counts.{countAt, rowsOf}
+use Rattle.model.specs.Step.{Result, step, kept, after, runFrom, run}
+use Rattle.model.specs.Traffic.{lostIn}
 use Rattle.model.specs.Answers.{resultNumber}
 use Rattle.model.proofs.Judged.{by-step}
 use Rattle.model.proofs.Fields.{in-range-size}
+use Rattle.model.proofs.Traffic.{lost-in}
 use Rattle.model.specs.declared.Status.the-variants.{Normal}
 use Rattle.model.specs.declared.Node.{Node}
 use Rattle.model.specs.declared.Event.{Event}
 use Rattle.model.specs.declared.Outcome.{Outcome}
+use Rattle.traffic.proofs.Laws.{rows-same}
 use Rattle.machine.specs.declared.Start.{Start}
 use Rattle.machine.specs.Stepped.{Stepped, Begun}
 use Rattle.machine.specs.Folded.{Folded}
@@ -81,3 +85,12 @@ module _ {n : ℕ} {a b : Event} {s : Start} {o r : Outcome} (begun : Begun n s)
 
       both : Reached Applied n (a ∷ b ∷ []) (r .table)
       both = record { first = s; begun = begun; led = Applied.more x (Applied.more y Applied.none) }
+
+-- ── T-05 ──
+
+-- a third call, and the counts of lost messages as rows
+pub lost-in-three : {n : ℕ} {a b c : Event} {o r : Outcome} → Twice n a b o → Stepped (o .table) c r → rowsOf (countAt (r .table .lost)) ≡ rowsOf (lostIn n (a ∷ b ∷ c ∷ []))
+unfolding runFrom
+lost-in-three {n} {a} {b} {c} {o} {r} x y =
+    rows-same _ _ (λ i j p.
+    ap (λ (s : State). countAt (s .lost) i j) (y .table ∙ ap (λ (s : State). after s c) (x .table)) ∙ lost-in n (a ∷ b ∷ c ∷ []) i j p)

@@ -1,4 +1,8 @@
-// What a user of the library writes: the public entries called one after another, and a part of demand 3 cited for the table that comes out.
+// What a user of the library writes: the public entries called one after another, and a part of demand 3, or of T-05, cited for the table that comes out.
+ghost use mathlib.Core.Path.{_≡_};
+ghost use mathlib.Core.List.{[], _∷_};
+ghost use Rattle.model.specs.Counts.{rowsOf};
+ghost use Rattle.model.specs.Traffic.{lostIn};
 ghost use Rattle.client.specs.Fixed.{Twice};
 use model::Event;
 use model::Outcome;
@@ -24,4 +28,16 @@ pub fn applied(n: u8, a: Event, b: Event) -> Outcome
     let o = session::stepped_in_place(t, a);
     let u = o.table;
     session::stepped_in_place(u, b)
+}
+
+// T-05, "which cable drops messages": how many were lost in three events from the starting table of n nodes, a row for each sender. It is what the events say.
+pub fn lost_rows(n: u8, a: Event, b: Event, c: Event) -> [[u32; 16]; 16]
+    ensures { λ r. ⌜ r ≡ rowsOf (lostIn n (a ∷ b ∷ c ∷ [])) ⌝ }
+{
+    let o = stepped(n, a, b);
+    let t = o.table;
+    let last = machine::step(t, c);
+    let u = last.table;
+    let lost = u.lost;
+    traffic::rows(lost)
 }

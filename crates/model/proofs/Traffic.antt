@@ -15,7 +15,7 @@ use Rattle.model.specs.React.{react}
 use Rattle.model.specs.Range.{isPair, countInRange}
 use Rattle.model.specs.State.{State, startingNode, start, nodeAt, goes, waits, oldest, howMany, every, inRange}
 use Rattle.model.specs.Step.{actor, reactionTo, remaining, sent, withSent, withDelivered, withLost, effect, wrongNumber, noneWaits, isCalling, pairAtEnd, grounds, refused, accepted, step, kept, after, runFrom, run}
-use Rattle.model.specs.Traffic.{sends, delivers, loses, ofAccepted, tally, sendsAny, deliversAny, losesAny}
+use Rattle.model.specs.Traffic.{sends, delivers, loses, ofAccepted, tally, sendsAny, deliversAny, losesAny, sentIn, deliveredIn, lostIn}
 use Rattle.model.specs.Claims.{TrafficAgrees, TrafficRules}
 use Rattle.model.proofs.Judged.{Clear, by-step, accepted-is}
 use Rattle.model.proofs.Local.{both-right}
@@ -354,15 +354,23 @@ unfolding runFrom effect
 run-n s [] = refl
 run-n s (e ∷ es) = run-n (after s e) es ∙ by-step (λ r. kept s r .n ≡ s .n) s e (λ _. refl) (λ c _. refl)
 
+-- the three counts of a pair in a run, for any n
+module _ (n : ℕ) (es : List Event) (a b : ℕ) (p : Counting a b) where
+  pub sent-in : countAt (run n es .sent) a b ≡ sentIn n es a b
+  sent-in = omega (arith, none-counted a b p, tally-is (λ s. s .sent) (sends a b) a b (λ s e c. event-counted s e c a b p .sent) (start n) es)
+
+  pub delivered-in : countAt (run n es .delivered) a b ≡ deliveredIn n es a b
+  delivered-in = omega (arith, none-counted a b p, tally-is (λ s. s .delivered) (delivers a b) a b (λ s e c. event-counted s e c a b p .delivered) (start n) es)
+
+  pub lost-in : countAt (run n es .lost) a b ≡ lostIn n es a b
+  lost-in = omega (arith, none-counted a b p, tally-is (λ s. s .lost) (loses a b) a b (λ s e c. event-counted s e c a b p .lost) (start n) es)
+
 pub traffic-agrees : (n : ℕ) → 1 ≤ n → n ≤ 16 → TrafficAgrees n
 traffic-agrees n low high =
     record {
-      sent-counted = λ es a b l h m k. let p = at a b l h m k in
-          omega (arith, none-counted a b p, tally-is (λ s. s .sent) (sends a b) a b (λ s e c. event-counted s e c a b p .sent) (start n) es);
-      delivered-counted = λ es a b l h m k. let p = at a b l h m k in
-          omega (arith, none-counted a b p, tally-is (λ s. s .delivered) (delivers a b) a b (λ s e c. event-counted s e c a b p .delivered) (start n) es);
-      lost-counted = λ es a b l h m k. let p = at a b l h m k in
-          omega (arith, none-counted a b p, tally-is (λ s. s .lost) (loses a b) a b (λ s e c. event-counted s e c a b p .lost) (start n) es);
+      sent-counted = λ es a b l h m k. sent-in n es a b (at a b l h m k);
+      delivered-counted = λ es a b l h m k. delivered-in n es a b (at a b l h m k);
+      lost-counted = λ es a b l h m k. lost-in n es a b (at a b l h m k);
       sent-total = λ es. omega (arith, none-total 256, total-is (λ s. s .sent) sendsAny (λ s e c. event-totalled s e c .sent) (start n) es);
       delivered-total = λ es. omega (arith, none-total 256, total-is (λ s. s .delivered) deliversAny (λ s e c. event-totalled s e c .delivered) (start n) es);
       lost-total = λ es. omega (arith, none-total 256, total-is (λ s. s .lost) losesAny (λ s e c. event-totalled s e c .lost) (start n) es);
