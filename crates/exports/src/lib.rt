@@ -92,7 +92,7 @@ fn answered(answer: Answer, t: Table, out: &mut [u8]) -> u8
 //   0            accepted: out starts with the table after the event, with 0 in all places that are no part of it
 //   1            the table is not in range; this is looked at next
 //   3, 4, 5      no event: cut short, or no bytes at all; a tag that is no event's; a length that is wrong for the tag
-//   7 to 14, 17  the event is refused, by 01's number or T-05's
+//   7 to 14, 17, 18  the event is refused, by 01's number, T-05's or T-06's
 //   255          out is too short; this is looked at first
 // By any answer but 0 out is left as it was, and what is behind a table in out is in any case.
 #[no_mangle]

@@ -96,7 +96,7 @@ module _ (n waiting k : ℕ) (c : Node) (m : Message) (e : Event) where
 
   module _ (clear : first (numberGrounds n e) ≡ 0) where
     past-numbers : first (judgedGrounds n waiting k c m e) ≡ first (stateGrounds c e (ltb k waiting) ++ endGrounds c (reactsTo n c m e) (leftOf waiting k))
-    past-numbers = first-clear (numberGrounds n e) _ (omega arith, (omega arith, tt)) clear
+    past-numbers = first-clear (numberGrounds n e) _ refl clear
 
     pub by-state : (a : Answer) (r : Reaction) → isAccepted a ≡ false → answerNumber a ≡ first (stateGrounds c e (ltb k waiting)) → Judged n waiting k c m e (record { answer = a; reaction = r })
     by-state a r q h =
@@ -106,7 +106,7 @@ module _ (n waiting k : ℕ) (c : Node) (m : Message) (e : Event) where
         }
 
     pub past-state : first (stateGrounds c e (ltb k waiting)) ≡ 0 → first (judgedGrounds n waiting k c m e) ≡ first (endGrounds c (reactsTo n c m e) (leftOf waiting k))
-    past-state going = past-numbers ∙ first-clear (stateGrounds c e (ltb k waiting)) _ (omega arith, (omega arith, (omega arith, tt))) going
+    past-state going = past-numbers ∙ first-clear (stateGrounds c e (ltb k waiting)) _ refl going
 
     pub by-ends : first (stateGrounds c e (ltb k waiting)) ≡ 0 → (a : Answer) (r : Reaction) (left : ℕ) → r ≡ reactsTo n c m e → left ≡ leftOf waiting k → answerNumber a ≡ first (endGrounds c r left) → Judged n waiting k c m e (record { answer = a; reaction = r })
     by-ends going a r left hr hl h = record { answer = h ∙ rw (hr, hl) (sym (past-state going)); reaction = λ z. hr }
@@ -141,7 +141,7 @@ module _ (t : Table) (z : Sized t) (ok : inRange (view t) ≡ true) (e : Event) 
             ends-refuse t e ok c (node-is clear) _ found clear y (reactsTo (t .n) c m e) (rw hm r) _ (left-counts t z ok e k hk reach _ refl) a q (hn ∙ j .answer ∙ past-state (t .n) (t .waiting) k c m e clear y)
         by-second clear (suc x) y =
             state-refuses t e ok c (node-is clear) _ found clear a q
-            (hn ∙ j .answer ∙ first-clear (numberGrounds (t .n) e) _ (omega arith, (omega arith, tt)) clear ∙ first-met (stateGrounds c e (ltb k (t .waiting))) _ (omega arith))
+            (hn ∙ j .answer ∙ first-clear (numberGrounds (t .n) e) _ refl clear ∙ first-met (stateGrounds c e (ltb k (t .waiting))) _ (omega arith))
 
         by-first : (x : ℕ) → first (numberGrounds (t .n) e) ≡ x → Stepped t e (record { answer = a; table = t })
         by-first zero y = by-second y (first (stateGrounds c e (ltb k (t .waiting)))) refl
@@ -152,10 +152,10 @@ module _ (t : Table) (z : Sized t) (ok : inRange (view t) ≡ true) (e : Event) 
       none = sym (j .answer) ∙ accepted-zero (v .answer) q
 
       clear : first (numberGrounds (t .n) e) ≡ 0
-      clear = first-none (numberGrounds (t .n) e) _ (omega arith, (omega arith, tt)) none .0
+      clear = first-none (numberGrounds (t .n) e) _ refl none .0
 
       later : (first (stateGrounds c e (ltb k (t .waiting))) ≡ 0) × (first (endGrounds c (reactsTo (t .n) c m e) (leftOf (t .waiting) k)) ≡ 0)
-      later = first-none (stateGrounds c e (ltb k (t .waiting))) _ (omega arith, (omega arith, (omega arith, tt))) (first-none (numberGrounds (t .n) e) _ (omega arith, (omega arith, tt)) none .1)
+      later = first-none (stateGrounds c e (ltb k (t .waiting))) _ refl (first-none (numberGrounds (t .n) e) _ refl none .1)
 
       acts : v .reaction ≡ reactsTo (t .n) c m e
       acts = j .reaction (accepted-zero (v .answer) q)

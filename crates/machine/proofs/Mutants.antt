@@ -21,13 +21,13 @@ use Rattle.model.specs.Procedures.{recovers, inviteNext, merges, handNext, fini
 use Rattle.model.specs.React.{checked, timedOut, ticked, expired, resumed, onAreYouCoordinator, onAreYouThere, onInvitation, onAccept, onReady, onReply, received, react}
 use Rattle.model.specs.Range.{activityInRange, nodeInRange, messageInRange}
 use Rattle.model.specs.State.{State, startingNode, start, nodeAt, waits, oldest, withoutOldest, allWaiting, countsAside, every, baseInRange, trafficInRange, inRange, firstOf, view, tableOf}
-use Rattle.model.specs.Step.{actor, reactionTo, remaining, sent, withSent, withDelivered, withLost, effect, forms, isCalling, isSending, pairAtEnd, grounds, judged, Result, refused, accepted, step, kept, aside, after, runFrom}
+use Rattle.model.specs.Step.{actor, reactionTo, remaining, sent, withSent, withDelivered, withLost, effect, wrongStatus, notCoordinator, forms, isCalling, isSending, pairAtEnd, grounds, judged, Result, refused, accepted, step, kept, aside, after, runFrom}
 use Rattle.model.specs.Answers.{answerNumber, resultNumber}
-use Rattle.model.specs.Claims.{isActive, Lacks, Sends, whomNow, whomStill, Below, Picked, InvitationReaches, Holds, recoversAtExpire, recordAfter}
-use Rattle.model.proofs.Judged.{Clear, by-step, clear-accepts, accepted-is}
+use Rattle.model.specs.Claims.{isActive, Lacks, Sends, whomNow, whomStill, Below, Picked, InvitationReaches, Holds, recoversAtExpire, recordAfter, ReachesIdle}
+use Rattle.model.proofs.Judged.{Clear, by-step, clear-accepts, accepted-is, met}
 use Rattle.model.proofs.Local.{both-right}
 use Rattle.model.proofs.Fields.{in-range-size, own-record}
-use Rattle.model.proofs.InRange.{end, past, not-refused, delivery-never-full, stays-in-range}
+use Rattle.model.proofs.InRange.{delivery-never-full, stays-in-range}
 use Rattle.model.proofs.Refusals.{refuses-by-ground}
 use Rattle.model.proofs.Aside.{resultAside, waiting-aside, aside-result, quick, aside-kept, run-aside, start-room, run-below}
 use Rattle.model.proofs.Cases.{invited-twice}
@@ -35,8 +35,9 @@ use Rattle.model.proofs.CallOrder.{call-order}
 use Rattle.model.proofs.Invitation.{kind-three}
 use Rattle.model.proofs.InvitationRules.{acts-not-normal, invitation-rules}
 use Rattle.model.proofs.Recovery.{expire-recovers}
+use Rattle.model.proofs.Checks.{check-rules}
 use Rattle.model.specs.Cases.{invitedOnce}
-use Rattle.model.specs.declared.Status.the-variants.{Election}
+use Rattle.model.specs.declared.Status.the-variants.{Election, Normal}
 use Rattle.model.specs.declared.Activity.{Activity}
 use Rattle.model.specs.declared.Activity.the-variants.{Idle, Asking, Waiting, Inviting, Collecting, Handing, Contacting, Forwarding, Accepting}
 use Rattle.model.specs.declared.Node.{Node}
@@ -50,11 +51,11 @@ use Rattle.model.specs.declared.Table.{Table}
 use Rattle.model.specs.declared.Event.{Event}
 use Rattle.model.specs.declared.Event.the-variants.{Crash, Recover, Check, Timeout, Tick, Expire, Finish, Deliver, Lose}
 use Rattle.model.specs.declared.Outcome.{Outcome}
-use Rattle.model.specs.declared.Answer.the-variants.{Accepted, NotInRange, SentAtEnd}
+use Rattle.model.specs.declared.Answer.the-variants.{Accepted, NotInRange, NotCoordinator, SentAtEnd}
 use Rattle.machine.specs.declared.RecoveryAnswer.{RecoveryAnswer}
 use Rattle.machine.specs.Stepped.{Stepped, startingTable, RecoveryAnswered}
 use Rattle.machine.specs.Parts.{takes}
-use Rattle.machine.specs.Mutants.{mergingTable, handingTable, invitedTable, askingTable, collectingTable, invites, Moves, NoMutant, NoWrongTurning, NoLowerFirst, NoJoiningAgain, NoOtherRecovery, NoOtherCounts}
+use Rattle.machine.specs.Mutants.{mergingTable, handingTable, invitedTable, askingTable, collectingTable, invites, Moves, NoMutant, NoWrongTurning, NoLowerFirst, NoJoiningAgain, NoOtherRecovery, NoOtherCounts, LeadsNot, NoOtherChecks}
 use Rattle.machine.proofs.Laws.{start-is}
 use Rattle.machine.proofs.Runs.{run-nodes, start-node, answer-known, by-number, accepted-alike, code-runs, code-fixes, folded-reached}
 use Rattle.machine.proofs.Recovering.{model-accepts, code-accepts, recovery-alike}
@@ -321,6 +322,18 @@ pair-first n e = none (reactionTo (start n) e .outgoing)
     none Nothing = refl
     none (Send m) = let p = pairPlace (m .sender) (m .receiver) in ne-eqb (getD noCounts p 0) trafficEnd (λ q. omega (arith, q, start-room 0 (omega arith) p))
 
+-- 9 comes before 18, as all nodes are Down
+first-down : (n : ℕ) (e : Event) → wrongStatus (nodeAt (start n) (actor e) .status) e ≡ false → notCoordinator (nodeAt (start n) (actor e)) e ≡ true → ⊥
+first-down n (Crash i) up q = true≢false (sym q)
+first-down n (Recover i) up q = true≢false (sym q)
+first-down n (Check i) up q = true≢false (sym (ap (λ (c : Node). isDown (c .status)) (start-node n (i - 1))) ∙ up)
+first-down n (Timeout i) up q = true≢false (sym q)
+first-down n (Tick i) up q = true≢false (sym q)
+first-down n (Expire i) up q = true≢false (sym q)
+first-down n (Finish i t) up q = true≢false (sym q)
+first-down n (Deliver a b) up q = true≢false (sym q)
+first-down n (Lose a b) up q = true≢false (sym q)
+
 first-small : (n : ℕ) (e : Event) → 12 ≤ resultNumber (step (start n) e) → ⊥
 unfolding step grounds judged
 first-small n e =
@@ -328,12 +341,13 @@ first-small n e =
     (λ _. by-test P (λ _ h. omega arith)
     (λ _. by-test P (λ _ h. omega arith)
     (λ _. by-test P (λ _ h. omega arith)
-    (λ _. by-test P (λ _ h. omega arith)
+    (λ up. by-test P (λ _ h. omega arith)
+    (λ _. by-test P (λ q h. first-down n e up q)
     (λ _. by-test P (λ _ h. omega arith)
     (λ _. by-test P (λ q h. absurd (end (forms (reactionTo (start n) e .mark)) (nodeAt (start n) (actor e) .counter) counterEnd q (ap (λ (c : Node). c .counter) (start-node n (actor e - 1))) (omega arith)))
     (λ _. by-test P (λ q h. absurd (end (isCalling (reactionTo (start n) e .outgoing)) (nodeAt (start n) (actor e) .last .number) callEnd q (ap (λ (c : Node). c .last .number) (start-node n (actor e - 1))) (omega arith)))
     (λ _. by-test P (λ q h. absurd (end (isSending (reactionTo (start n) e .outgoing)) (length (remaining (start n) e)) queueLimit q (ap length (none-remains n e)) (omega arith)))
-    (λ _. by-test P (λ q h. true≢false (sym q ∙ pair-first n e)) (λ _ h. omega arith))))))))))
+    (λ _. by-test P (λ q h. true≢false (sym q ∙ pair-first n e)) (λ _ h. omega arith)))))))))))
   where
     P : Result → Type 0
     P q = 12 ≤ resultNumber q → ⊥
@@ -516,28 +530,10 @@ not-in-range s e f = rw (f, and-false (baseInRange (s .n) (s .nodes) (s .queue))
     and-false true = refl
     and-false false = refl
 
-below-end-not-seventeen : (s : State) (e : Event) → pairAtEnd (s .sent) (reactionTo s e .outgoing) ≡ false → step s e ≡ refused 17 → ⊥
-unfolding step grounds
-below-end-not-seventeen s e p =
-    not-refused 17 _ _
-    (past (λ z _. omega arith)
-    (λ _. past (λ z _. omega arith)
-    (λ _. past (λ z _. omega arith)
-    (λ _. past (λ z _. omega arith)
-    (λ _. past (λ z _. omega arith)
-    (λ _. past (λ z _. omega arith)
-    (λ _. past (λ z _. omega arith)
-    (λ _. past (λ z _. omega arith)
-    (λ _. past (λ z _. omega arith)
-    (λ _. past (λ _ t. true≢false (sym t ∙ p)) (λ _. end)))))))))))
-
 -- 17 is given only where the pair's count is at its end
 seventeen-at-end : (s : State) (e : Event) → step s e ≡ refused 17 → pairAtEnd (s .sent) (reactionTo s e .outgoing) ≡ true
-seventeen-at-end s e q = by (pairAtEnd (s .sent) (reactionTo s e .outgoing)) refl
-  where
-    by : (t : Bool) → pairAtEnd (s .sent) (reactionTo s e .outgoing) ≡ t → t ≡ true
-    by true p = refl
-    by false p = absurd (below-end-not-seventeen s e p q)
+unfolding grounds pick
+seventeen-at-end s e q = met s e 17 refl q
 
 pub no-other-counts : NoOtherCounts
 unfolding effect reactionTo
@@ -565,3 +561,44 @@ no-other-counts =
   where
     at-end : {t : Table} {e : Event} {r : Outcome} → Stepped t e r → r .answer ≡ SentAtEnd → pairAtEnd (t .sent) (reactionTo (view t) e .outgoing) ≡ true
     at-end {t} {e} {r} x y = seventeen-at-end (view t) e (by-number (step (view t) e) 17 (omega arith) (sym (ap answerNumber y) ∙ x .answer))
+
+-- ── T-06 ──
+
+-- an answer 18 is the model's
+is-eighteen : {t : Table} {e : Event} {r : Outcome} → Stepped t e r → r .answer ≡ NotCoordinator → step (view t) e ≡ refused 18
+is-eighteen {t} {e} {r} x y = by-number (step (view t) e) 18 (omega arith) (sym (ap answerNumber y) ∙ x .answer)
+
+no-pass : {t : Table} {i : ℕ} {r : Outcome} → LeadsNot (view t) i → Stepped t (Check i) r → r .answer ≡ Accepted → ⊥
+no-pass {t} {i} {r} l x y =
+    let p = check-rules .passes (view t) i _ _ (accepted-alike .model-accepts x y) in
+    ⊎-elim (λ f. f (p .0)) (λ f. f (p .1)) l
+
+-- with n = 1 a check changes nothing, accepted or not
+one-kept : (s : State) (i : ℕ) → s .n ≡ 1 → after s (Check i) ≡ s
+one-kept s i n = by (step s (Check i)) refl
+  where
+    by : (x : Result) → step s (Check i) ≡ x → kept s x ≡ s
+    by (refused r) q = refl
+    by (accepted u k) q =
+        let c = accepted-is s (Check i) u k q .clear in
+        let p = check-rules .passes s i u k q in
+        let y : ReachesIdle s i = record { in-range = c .in-range; number = not-false _ (c .number); not-down = c .status; idle = not-false _ (c .activity) } in
+        ap (kept s) (sym q ∙ check-rules .one s i y n (p .0) (p .1))
+
+pub no-other-checks : NoOtherChecks
+no-other-checks =
+    record {
+      passes = no-pass;
+      changes = λ l x h. h (x .same (no-pass l x));
+      other-number = λ {t} {i} {r} l y x h.
+          h (answer-known (r .answer) NotCoordinator
+          (x .answer ∙ ap resultNumber (⊎-elim (λ f. check-rules .not-normal (view t) i y f) (λ f. check-rules .not-own (view t) i y f) l)));
+      other-event = λ {t} {e} {r} x f y. f (check-rules .eighteen (view t) e (is-eighteen x y) .0);
+      before-nine = λ {t} {i} {r} d x y. true≢false (sym d ∙ check-rules .eighteen (view t) (Check i) (is-eighteen x y) .1 .not-down);
+      before-ten = λ {t} {i} {r} d x y. true≢false (sym (check-rules .eighteen (view t) (Check i) (is-eighteen x y) .1 .idle) ∙ d);
+      coordinator = λ {t} {i} {r} a b x y. ⊎-elim (λ f. f a) (λ f. f b) (check-rules .eighteen (view t) (Check i) (is-eighteen x y) .2);
+      one-away = λ {t} {i} {r} n y a b x h. h (answer-known (r .answer) Accepted (x .answer ∙ ap resultNumber (check-rules .one (view t) i y n a b)));
+      one-changes = λ {t} {i} {r} n x h. h (x .table ∙ one-kept (view t) i n);
+      early = λ n {es} {t} {e} {r} c few x y.
+          check-rules .not-early n es e few (ap (λ (s : State). step s e) (sym (code-runs .from-start n es t c)) ∙ is-eighteen x y);
+    }

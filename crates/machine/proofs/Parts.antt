@@ -8,12 +8,14 @@ use mathlib.Core.List.{List, [], _∷_, _++_, append-nil}
 use mathlib.Core.Bool.{Bool, true, false, not, _&&_, _||_, true≢false}
 use lib.Dec.{eqb, ltb, leb·suc-suc}
 use lib.ListN.{length, getD, take, drop, length-append, length-take, length-drop}
-use borrow.Author.Tests.{lt-ltb, le-ltb}
+use borrow.Author.Tests.{lt-ltb, le-ltb, ltb-true}
 use Rattle.model.specs.Pick.{pick, pick-true, pick-false, by-test}
 use Rattle.model.specs.State.{State, startingNode, nodeAt, noMessage, goes, waits, oldest, withoutOldest, inRange, view}
 use Rattle.model.specs.Step.{actor, reactionTo, remaining, noneWaits, pairAtEnd, effect, Ground, ground, grounds, Result, refused, accepted, judged, step, kept, after}
 use Rattle.model.specs.React.{react}
 use Rattle.model.specs.Answers.{answerNumber, resultNumber}
+use Rattle.model.proofs.Judged.{appliesOf}
+use Rattle.model.proofs.Local.{both-left, both-right}
 use Rattle.model.specs.declared.Input.the-variants.{Receive}
 use Rattle.model.specs.declared.Node.{Node}
 use Rattle.model.specs.declared.Message.{Message}
@@ -21,7 +23,7 @@ use Rattle.model.specs.declared.Mark.{Mark}
 use Rattle.model.specs.declared.Reaction.{Reaction}
 use Rattle.model.specs.declared.Table.{Table}
 use Rattle.model.specs.declared.Answer.{Answer}
-use Rattle.model.specs.declared.Answer.the-variants.{Accepted, NotInRange, WrongNumber, WrongTask, WrongStatus, WrongActivity, NoMessage, CounterAtEnd, CallsAtEnd, QueueFull, SentAtEnd}
+use Rattle.model.specs.declared.Answer.the-variants.{Accepted, NotInRange, WrongNumber, WrongTask, WrongStatus, WrongActivity, NotCoordinator, NoMessage, CounterAtEnd, CallsAtEnd, QueueFull, SentAtEnd}
 use Rattle.model.specs.declared.Outcome.{Outcome}
 use Rattle.model.specs.declared.Event.{Event}
 use Rattle.model.specs.declared.Event.the-variants.{Crash, Recover, Check, Timeout, Tick, Expire, Finish, Deliver, Lose}
@@ -121,23 +123,38 @@ reaction-place s (Lose a b) m h = refl
 
 -- ── the first ground that applies ──
 
--- the grounds' numbers are not 0
+-- the grounds' numbers are not 0: of a list of grounds by `refl`
+abbrev numbered : List Ground → Bool
+numbered [] = true
+numbered (g ∷ gs) = ltb 0 (g .number) && numbered gs
+
 abbrev pub Numbered : List Ground → Type 0
-Numbered [] = Unit {0}
-Numbered (g ∷ gs) = (1 ≤ g .number) × Numbered gs
+Numbered gs = numbered gs ≡ true
+
+-- where none applies, the first does not, and none of the others
+not-first : (g : Ground) (gs : List Ground) → Numbered (g ∷ gs) → first (g ∷ gs) ≡ 0 → (g .applies ≡ false) × (first gs ≡ 0)
+unfolding first pick
+not-first g gs n = by (g .applies)
+  where
+    by : (t : Bool) → pick t (g .number) (first gs) ≡ 0 → (t ≡ false) × (first gs ≡ 0)
+    by true h = absurd (omega (arith, h, ltb-true 0 (g .number) (both-left (ltb 0 (g .number)) _ n)))
+    by false h = (refl, h)
+
+others-numbered : (g : Ground) (gs : List Ground) → Numbered (g ∷ gs) → Numbered gs
+others-numbered g gs n = both-right (ltb 0 (g .number)) _ n
+
+-- so the one of number r does not
+pub not-met : (r : ℕ) (gs : List Ground) → Numbered gs → first gs ≡ 0 → appliesOf r gs ≡ false
+not-met r [] n h = refl
+not-met r (g ∷ gs) n h =
+    let x = not-first g gs n h in
+    by-test (λ (t : Bool). t ≡ false) (λ _. x .0) (λ _. not-met r gs (others-numbered g gs n) (x .1))
 
 -- none applies in front
 pub first-clear : (xs ys : List Ground) → Numbered xs → first xs ≡ 0 → first (xs ++ ys) ≡ first ys
 unfolding first
 first-clear [] ys n h = refl
-first-clear (g ∷ gs) ys n h = by-applies (g .applies) refl (first-clear gs ys (n .1))
-  where
-    by-applies : (t : Bool) → g .applies ≡ t → (first gs ≡ 0 → first (gs ++ ys) ≡ first ys) → pick (g .applies) (g .number) (first (gs ++ ys)) ≡ first ys
-    by-applies true a r = absurd (none (rw (a, pick-true) at h))
-      where
-        none : g .number ≡ 0 → ⊥
-        none q = omega (arith, n .0)
-    by-applies false a r = rw (a, pick-false) (r (rw (a, pick-false) at h))
+first-clear (g ∷ gs) ys n h = let x = not-first g gs n h in rw (x .0, pick-false) (first-clear gs ys (others-numbered g gs n) (x .1))
 
 -- one applies in front
 pub first-met : (xs ys : List Ground) → 1 ≤ first xs → first (xs ++ ys) ≡ first xs
@@ -154,16 +171,9 @@ first-met (g ∷ gs) ys h = by-applies (g .applies) refl (first-met gs ys)
 
 -- the step by the first ground's number
 judged-clear : (r : Result) (gs : List Ground) → Numbered gs → first gs ≡ 0 → judged r gs ≡ r
-unfolding judged first
+unfolding judged
 judged-clear r [] n h = refl
-judged-clear r (g ∷ gs) n h = by-applies (g .applies) refl (judged-clear r gs (n .1))
-  where
-    by-applies : (t : Bool) → g .applies ≡ t → (first gs ≡ 0 → judged r gs ≡ r) → pick (g .applies) (refused (g .number)) (judged r gs) ≡ r
-    by-applies true a k = absurd (none (rw (a, pick-true) at h))
-      where
-        none : g .number ≡ 0 → ⊥
-        none q = omega (arith, n .0)
-    by-applies false a k = rw (a, pick-false) (k (rw (a, pick-false) at h))
+judged-clear r (g ∷ gs) n h = let x = not-first g gs n h in rw (x .0, pick-false) (judged-clear r gs (others-numbered g gs n) (x .1))
 
 judged-met : (r : Result) (gs : List Ground) → 1 ≤ first gs → judged r gs ≡ refused (first gs)
 unfolding judged first
@@ -185,6 +195,7 @@ accepted-zero WrongNumber q = absurd (true≢false (sym q))
 accepted-zero WrongTask q = absurd (true≢false (sym q))
 accepted-zero WrongStatus q = absurd (true≢false (sym q))
 accepted-zero WrongActivity q = absurd (true≢false (sym q))
+accepted-zero NotCoordinator q = absurd (true≢false (sym q))
 accepted-zero NoMessage q = absurd (true≢false (sym q))
 accepted-zero CounterAtEnd q = absurd (true≢false (sym q))
 accepted-zero CallsAtEnd q = absurd (true≢false (sym q))
@@ -199,6 +210,7 @@ zero-accepted WrongNumber = refl
 zero-accepted WrongTask = refl
 zero-accepted WrongStatus = refl
 zero-accepted WrongActivity = refl
+zero-accepted NotCoordinator = refl
 zero-accepted NoMessage = refl
 zero-accepted CounterAtEnd = refl
 zero-accepted CallsAtEnd = refl
@@ -212,6 +224,7 @@ refused-some WrongNumber q = omega arith
 refused-some WrongTask q = omega arith
 refused-some WrongStatus q = omega arith
 refused-some WrongActivity q = omega arith
+refused-some NotCoordinator q = omega arith
 refused-some NoMessage q = omega arith
 refused-some CounterAtEnd q = omega arith
 refused-some CallsAtEnd q = omega arith
@@ -252,15 +265,15 @@ module _ (t : Table) (e : Event) (ok : inRange (view t) ≡ true) (c : Node) (hc
 
   module _ (clear : first (numberGrounds (t .n) e) ≡ 0) where
     past-numbers : first (grounds (view t) e) ≡ first (stateGrounds c e found ++ behind)
-    past-numbers = actual ∙ first-clear (numberGrounds (t .n) e) _ (omega arith, (omega arith, tt)) clear
+    past-numbers = actual ∙ first-clear (numberGrounds (t .n) e) _ refl clear
 
-    -- 9 to 11
+    -- 9, 10, 18 and 11
     pub state-refuses : (a : Answer) → isAccepted a ≡ false → answerNumber a ≡ first (stateGrounds c e found) → Stepped t e (record { answer = a; table = t })
     state-refuses a q h = refused-stepped t e a q (h ∙ sym (past-numbers ∙ first-met (stateGrounds c e found) _ (omega (arith, refused-some a q, h))))
 
     module _ (going : first (stateGrounds c e found) ≡ 0) (r : Reaction) (hr : r ≡ reactionTo (view t) e) (left : ℕ) (hl : left ≡ length (remaining (view t) e)) where
       past-state : first (grounds (view t) e) ≡ first (endGrounds c r left ++ lastGrounds (t .sent) (r .outgoing))
-      past-state = rw (hr, hl) (past-numbers ∙ first-clear (stateGrounds c e found) _ (omega arith, (omega arith, (omega arith, tt))) going)
+      past-state = rw (hr, hl) (past-numbers ∙ first-clear (stateGrounds c e found) _ refl going)
 
       -- 12 to 14
       pub ends-refuse : (a : Answer) → isAccepted a ≡ false → answerNumber a ≡ first (endGrounds c r left) → Stepped t e (record { answer = a; table = t })
@@ -268,7 +281,7 @@ module _ (t : Table) (e : Event) (ok : inRange (view t) ≡ true) (c : Node) (hc
 
       module _ (ends : first (endGrounds c r left) ≡ 0) where
         past-ends : first (grounds (view t) e) ≡ first (lastGrounds (t .sent) (r .outgoing))
-        past-ends = past-state ∙ first-clear (endGrounds c r left) _ (omega arith, (omega arith, (omega arith, tt))) ends
+        past-ends = past-state ∙ first-clear (endGrounds c r left) _ refl ends
 
         -- 17
         pub last-refuses : pairAtEnd (t .sent) (r .outgoing) ≡ true → (a : Answer) → isAccepted a ≡ false → answerNumber a ≡ 17 → Stepped t e (record { answer = a; table = t })
@@ -279,8 +292,7 @@ module _ (t : Table) (e : Event) (ok : inRange (view t) ≡ true) (c : Node) (hc
         pub step-accepts : pairAtEnd (t .sent) (r .outgoing) ≡ false → step (view t) e ≡ accepted (effect (view t) e) (reactionTo (view t) e .mark)
         unfolding step grounds first
         step-accepts p =
-            judged-clear (accepted (effect (view t) e) (reactionTo (view t) e .mark)) (grounds (view t) e)
-            (omega arith, (omega arith, (omega arith, (omega arith, (omega arith, (omega arith, (omega arith, (omega arith, (omega arith, (omega arith, tt))))))))))
+            judged-clear (accepted (effect (view t) e) (reactionTo (view t) e .mark)) (grounds (view t) e) refl
             (past-ends ∙ rw (p, pick-false))
 
         pub all-clear : pairAtEnd (t .sent) (r .outgoing) ≡ false → (u : Table) → view u ≡ effect (view t) e → Stepped t e (record { answer = Accepted; table = u })

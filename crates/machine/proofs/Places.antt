@@ -35,7 +35,7 @@ use Rattle.model.specs.declared.Event.{Event}
 use Rattle.model.specs.declared.Event.the-variants.{Crash, Recover, Check, Timeout, Tick, Expire, Finish, Deliver, Lose}
 use Rattle.machine.specs.Parts.{place, without, takes, placeFor, placeOf, sentPlace, sentBy, movedPlace, deliveredBy, lostBy, raised, Small, stored, Left, Room, first, numberGrounds, stateGrounds, endGrounds, FitsMessage, reactsTo}
 use Rattle.machine.proofs.Laws.{Sized, first-take, first-length, without-none, left-few}
-use Rattle.machine.proofs.Parts.{waits-place, oldest-place, remaining-place, none-place, reaction-place}
+use Rattle.machine.proofs.Parts.{not-met, waits-place, oldest-place, remaining-place, none-place, reaction-place}
 
 -- ── lists ──
 
@@ -56,17 +56,6 @@ length-without : {A : Type 0} (k : ℕ) (q : List A) → k < length q → length
 length-without k q h = simp (length-append, length-take-le k q (omega arith), length-drop) (omega arith)
 
 -- ── the first ground of a list ──
-first-head : (g : Ground) (gs : List Ground) → 1 ≤ g .number → first (g ∷ gs) ≡ 0 → (g .applies ≡ false) × (first gs ≡ 0)
-unfolding first
-first-head g gs n h = by-applies (g .applies) refl
-  where
-    by-applies : (t : Bool) → g .applies ≡ t → (g .applies ≡ false) × (first gs ≡ 0)
-    by-applies true a = absurd (none (rw (a, pick-true) at h))
-      where
-        none : g .number ≡ 0 → ⊥
-        none q = omega arith
-    by-applies false a = (a, rw (a, pick-false) at h)
-
 -- ── counts ──
 
 -- the place of a pair of nodes
@@ -135,7 +124,8 @@ module _ (t : Table) (z : Sized t) (ok : inRange (view t) ≡ true) (e : Event) 
   module _ (clear : first (numberGrounds (t .n) e) ≡ 0) where
     -- the event's node is one of the table
     pub actor-is : (1 ≤ actor e) × (actor e ≤ t .n)
-    actor-is = actor-in (t .n) e (first-head _ _ (omega arith) clear .0)
+    unfolding pick
+    actor-is = actor-in (t .n) e (not-met 7 (numberGrounds (t .n) e) refl clear)
 
     -- its record, as read from the array
     pub node-read : (d : Node) → getD (t .nodes) (actor e - 1) d ≡ nodeAt (view t) (actor e)
@@ -162,10 +152,9 @@ module _ (t : Table) (z : Sized t) (ok : inRange (view t) ≡ true) (e : Event) 
     module _ (c : Node) (going : first (stateGrounds c e (ltb k (t .waiting))) ≡ 0) where
       -- an event that takes a message has found it
       taken-found : takes e ≡ true → k < t .waiting
+      unfolding pick
       taken-found q =
-          let g9 = first-head _ _ (omega arith) going in
-          let g10 = first-head _ _ (omega arith) (g9 .1) in
-          let g11 : takes e && not (ltb k (t .waiting)) ≡ false = first-head _ _ (omega arith) (g10 .1) .0 in
+          let g11 : takes e && not (ltb k (t .waiting)) ≡ false = not-met 11 (stateGrounds c e (ltb k (t .waiting))) refl going in
           ltb-true k (t .waiting) (not-false _ (rw q at g11))
 
       pub reaction-is : (d : Message) → c ≡ nodeAt (view t) (actor e) → reactsTo (t .n) c (getD (t .messages) (k % 64) d) e ≡ reactionTo (view t) e
@@ -222,11 +211,8 @@ module _ (t : Table) (z : Sized t) (ok : inRange (view t) ≡ true) (e : Event) 
 
       -- there is a place for what is sent
       pub room-is : (c : Node) (r : Reaction) → first (endGrounds c r left) ≡ 0 → Room (r .outgoing) left
-      room-is c r h =
-          let g12 = first-head _ _ (omega arith) h in
-          let g13 = first-head _ _ (omega arith) (g12 .1) in
-          let g14 = first-head _ _ (omega arith) (g13 .1) in
-          by-outgoing (r .outgoing) (g14 .0)
+      unfolding pick
+      room-is c r h = by-outgoing (r .outgoing) (not-met 14 (endGrounds c r left) refl h)
         where
           by-outgoing : (o : Outgoing) → isSending o && eqb left 64 ≡ false → Room o left
           by-outgoing Nothing q = tt
@@ -235,28 +221,25 @@ module _ (t : Table) (z : Sized t) (ok : inRange (view t) ≡ true) (e : Event) 
               place-few : left ≤ 64
               place-few = left-few (t .waiting) k left left-is (small .2)
 
-      -- what is known where none of the grounds 1 to 14 applies
+      -- what is known where none of the grounds but 17 applies
       pub clear-is : (c : Node) → c ≡ nodeAt (view t) (actor e) → first (numberGrounds (t .n) e) ≡ 0 → first (stateGrounds c e (ltb k (t .waiting))) ≡ 0 → (r : Reaction) → r ≡ reactionTo (view t) e
           → first (endGrounds c r left) ≡ 0 → Clear (view t) e
+      unfolding pick
       clear-is c hc g h r hr i =
-          let g7 = first-head _ _ (omega arith) g in
-          let g8 = first-head _ _ (omega arith) (g7 .1) in
-          let g9 = first-head _ _ (omega arith) h in
-          let g10 = first-head _ _ (omega arith) (g9 .1) in
-          let g11 = first-head _ _ (omega arith) (g10 .1) in
-          let g12 = first-head _ _ (omega arith) i in
-          let g13 = first-head _ _ (omega arith) (g12 .1) in
-          let g14 = first-head _ _ (omega arith) (g13 .1) in
+          let numbers = numberGrounds (t .n) e in
+          let state = stateGrounds c e (ltb k (t .waiting)) in
+          let ends = endGrounds c r left in
           record {
             in-range = ok;
-            number = g7 .0;
-            task = g8 .0;
-            status = rw hc at (g9 .0);
-            activity = rw hc at (g10 .0);
-            waiting = none-place (view t .queue) e ∙ rw found-is at (g11 .0);
-            counter = rw (hr, hc) at (g12 .0);
-            calls = rw (hr, hc) at (g13 .0);
-            room = rw (hr, left-counts) at (g14 .0);
+            number = not-met 7 numbers refl g;
+            task = not-met 8 numbers refl g;
+            status = rw hc at (not-met 9 state refl h);
+            activity = rw hc at (not-met 10 state refl h);
+            coordinator = rw hc at (not-met 18 state refl h);
+            waiting = none-place (view t .queue) e ∙ rw found-is at (not-met 11 state refl h);
+            counter = rw (hr, hc) at (not-met 12 ends refl i);
+            calls = rw (hr, hc) at (not-met 13 ends refl i);
+            room = rw (hr, left-counts) at (not-met 14 ends refl i);
           }
 
       pub effect-is : Clear (view t) e → (r : Reaction) (at : ℕ) → r ≡ reactionTo (view t) e → at ≡ actor e - 1 → stored (view t) e k at r ≡ effect (view t) e

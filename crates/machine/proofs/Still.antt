@@ -11,7 +11,7 @@ use borrow.Author.Tests.{not-false, not-true, eqb-true, eqb-false, eq-eqb, le-le
 use Rattle.model.specs.Pick.{pick, by-test}
 use Rattle.model.specs.Node.{isDown, isWaiting, isCollecting, hasOpenCall, merged, invited}
 use Rattle.model.specs.Procedures.{inviteNext, merges, handNext, finishes, forwardNext, askedAll, askAt, askAfter}
-use Rattle.model.specs.React.{leads, checked, timedOut, ticked, expired, resumed, onAreYouCoordinator, onAreYouThere, onInvitation, onAccept, onReady, onReply, received, react}
+use Rattle.model.specs.React.{checked, timedOut, ticked, expired, resumed, onAreYouCoordinator, onAreYouThere, onInvitation, onAccept, onReady, onReply, received, react}
 use Rattle.model.specs.Range.{isNode, isOther}
 use Rattle.model.specs.State.{State, startingNode, nodeAt, oldest, withoutOldest}
 use Rattle.model.specs.Step.{actor, reactionTo, remaining, sent, effect, accepted, step}
@@ -103,10 +103,10 @@ ask-first n i c h =
     Calls : Reaction → Type 0
     Calls r = r .node .last .number ≡ c .last .number + 1
 
-check-differs : (n i : ℕ) (c : Node) → not (leads i c && ltb 1 n) ≡ false → checked n i c .node ≡ c → ⊥
+check-differs : (n i : ℕ) (c : Node) → not (ltb 1 n) ≡ false → checked n i c .node ≡ c → ⊥
 unfolding checked
 check-differs n i c m =
-    by-test (λ (r : Reaction). r .node ≡ c → ⊥) (λ x e. omega (arith, ask-first n i c (both-right (leads i c) _ x), ap (λ (d : Node). d .last .number) e))
+    by-test (λ (r : Reaction). r .node ≡ c → ⊥) (λ x e. omega (arith, ask-first n i c x, ap (λ (d : Node). d .last .number) e))
     (λ x. absurd (true≢false (sym (not-false _ m) ∙ x)))
 
 timeout-differs : (i : ℕ) (c : Node) → eqb (c .coordinator) i ≡ false → timedOut i c .node ≡ c → ⊥

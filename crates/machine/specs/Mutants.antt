@@ -1,22 +1,22 @@
--- "Try these impostors", "Wrong turnings in this protocol" and 02's T-02 to T-05: what no machine does that meets `Stepped`, or `RecoveryAnswered` (mutant: 01's impostor). A machine is here
+-- "Try these impostors", "Wrong turnings in this protocol" and 02's T-02 to T-06: what no machine does that meets `Stepped`, or `RecoveryAnswered` (mutant: 01's impostor). A machine is here
 -- whatever answers an event e on a table t with an outcome r, as a function f from tables and events does with f t e; nothing is asked of how it comes to r, so it may also
 -- remember. Each field takes as little of the mutant's behaviour as shuts it out: one event, and one thing that is wrong then. The proofs are in proofs/Mutants.
 use Prim.Native.Nat.{ℕ, _+_, _≤_}
-use mathlib.Core.Bool.{Bool, true, false, not, _&&_, _||_}
+use mathlib.Core.Bool.{Bool, true, false, not, _||_}
 use mathlib.Core.Path.{_≡_}
+use mathlib.Core.Logic.{_⊎_}
 use mathlib.Core.List.{List, [], _∷_, _++_, map}
 use lib.Dec.{eqb, ltb}
-use lib.ListN.{replicate}
+use lib.ListN.{length, replicate}
 use Rattle.node_set.specs.NodeSet.{has}
 use Rattle.model.specs.Limits.{nodeLimit, counterEnd, trafficEnd}
 use Rattle.model.specs.Counts.{countAt, oneMore}
-use Rattle.model.specs.Node.{isDown, isNormal, hasOpenCall, groupOf, replies}
-use Rattle.model.specs.React.{leads}
+use Rattle.model.specs.Node.{isDown, isNormal, isIdle, hasOpenCall, groupOf, replies}
 use Rattle.model.specs.Range.{isNode}
 use Rattle.model.specs.State.{State, nodeAt, waits, oldest, allWaiting, trafficInRange, inRange, view, tableOf}
 use Rattle.model.specs.Step.{actor, reactionTo, remaining, grounds}
 use Rattle.model.specs.Answers.{answerNumber}
-use Rattle.model.specs.Claims.{isActive, Lacks, FirstApplies, whomNow, whomStill, whomAside, InvitationReaches, Owns, Holds, withPlainReply, MaySend, recoversAtExpire, recordAfter}
+use Rattle.model.specs.Claims.{isActive, Lacks, FirstApplies, whomNow, whomStill, whomAside, InvitationReaches, Owns, Holds, withPlainReply, MaySend, recoversAtExpire, recordAfter, ReachesIdle}
 use Rattle.model.specs.Cases.{setOf, none, node, invitedOnce}
 use Rattle.model.specs.declared.Mark.the-variants.{Merges}
 use Rattle.model.specs.declared.Status.the-variants.{Election, Reorganization, Normal}
@@ -28,7 +28,7 @@ use Rattle.model.specs.declared.Table.{Table}
 use Rattle.model.specs.declared.Event.{Event}
 use Rattle.model.specs.declared.Event.the-variants.{Crash, Recover, Check, Timeout, Tick, Expire, Finish, Deliver, Lose}
 use Rattle.model.specs.declared.Outcome.{Outcome}
-use Rattle.model.specs.declared.Answer.the-variants.{Accepted, NotInRange, QueueFull, SentAtEnd}
+use Rattle.model.specs.declared.Answer.the-variants.{Accepted, NotInRange, NotCoordinator, QueueFull, SentAtEnd}
 use Rattle.machine.specs.declared.RecoveryAnswer.{RecoveryAnswer}
 use Rattle.machine.specs.Stepped.{Stepped, startingTable, RecoveryAnswered}
 use Rattle.machine.specs.Folded.{Folded}
@@ -94,12 +94,11 @@ invites Contacting j = false
 invites (Forwarding rest now caller call) j = false
 invites (Accepting caller call) j = false
 
--- Where an accepted event changes nothing: "check i: if Normal and its own coordinator, it asks .. Otherwise, or with n = 1, nothing changes", "timeout i: if its
--- own coordinator, nothing changes".
+-- Where an accepted event changes nothing: "check i: .. with n = 1, nothing changes", "timeout i: if its own coordinator, nothing changes".
 abbrev pub mayRest : State → Event → Bool
 mayRest s (Crash i) = false
 mayRest s (Recover i) = false
-mayRest s (Check i) = not (leads i (nodeAt s i) && ltb 1 (s .n))
+mayRest s (Check i) = not (ltb 1 (s .n))
 mayRest s (Timeout i) = eqb (nodeAt s i .coordinator) i
 mayRest s (Tick i) = false
 mayRest s (Expire i) = false
@@ -321,3 +320,31 @@ pub record NoOtherCounts : Type 0 where
   pub seventeen-first : {t : Table} {e : Event} {r : Outcome} (k : ℕ) → FirstApplies (grounds (view t) e) k → (k ≡ 17 → ⊥) → Stepped t e r → r .answer ≡ SentAtEnd → ⊥
   -- one that takes a table whose counts are not in range
   pub takes-wrong-counts : {t : Table} {e : Event} {r : Outcome} → trafficInRange (view t) ≡ false → Stepped t e r → (r .answer ≡ NotInRange → ⊥) → ⊥
+
+-- ── 02, T-06: checks only by a coordinator ──
+
+-- node i is not Normal, or not its own coordinator
+abbrev pub LeadsNot : State → ℕ → Type 0
+LeadsNot s i = (nodeAt s i .status ≡ Normal → ⊥) ⊎ (nodeAt s i .coordinator ≡ i → ⊥)
+
+-- No machine that meets `Stepped` is:
+pub record NoOtherChecks : Type 0 where
+  -- one that lets such a check pass, on any table: the machine of 01, which answered "accepted" and changed nothing, for one
+  pub passes : {t : Table} {i : ℕ} {r : Outcome} → LeadsNot (view t) i → Stepped t (Check i) r → r .answer ≡ Accepted → ⊥
+  -- or one that changes something at it
+  pub changes : {t : Table} {i : ℕ} {r : Outcome} → LeadsNot (view t) i → Stepped t (Check i) r → (r .table ≡ t → ⊥) → ⊥
+  -- or one that gives it another number, where the table is in range and i a node that is idle and not Down
+  pub other-number : {t : Table} {i : ℕ} {r : Outcome} → LeadsNot (view t) i → ReachesIdle (view t) i → Stepped t (Check i) r → (r .answer ≡ NotCoordinator → ⊥) → ⊥
+  -- one that gives 18 to another event
+  pub other-event : {t : Table} {e : Event} {r : Outcome} → Stepped t e r → (e ≡ Check (actor e) → ⊥) → r .answer ≡ NotCoordinator → ⊥
+  -- or before 9, before 10, or to a coordinator
+  pub before-nine : {t : Table} {i : ℕ} {r : Outcome} → isDown (nodeAt (view t) i .status) ≡ true → Stepped t (Check i) r → r .answer ≡ NotCoordinator → ⊥
+  pub before-ten : {t : Table} {i : ℕ} {r : Outcome} → isIdle (nodeAt (view t) i .activity) ≡ false → Stepped t (Check i) r → r .answer ≡ NotCoordinator → ⊥
+  pub coordinator : {t : Table} {i : ℕ} {r : Outcome} → nodeAt (view t) i .status ≡ Normal → nodeAt (view t) i .coordinator ≡ i
+      → Stepped t (Check i) r → r .answer ≡ NotCoordinator → ⊥
+  -- one that with n = 1 turns away the check of a coordinator, or does something at any check
+  pub one-away : {t : Table} {i : ℕ} {r : Outcome} → t .n ≡ 1 → ReachesIdle (view t) i → nodeAt (view t) i .status ≡ Normal → nodeAt (view t) i .coordinator ≡ i
+      → Stepped t (Check i) r → (r .answer ≡ Accepted → ⊥) → ⊥
+  pub one-changes : {t : Table} {i : ℕ} {r : Outcome} → t .n ≡ 1 → Stepped t (Check i) r → (view (r .table) ≡ view t → ⊥) → ⊥
+  -- one that gives 18 to one of the first seven events from the starting table
+  pub early : (n : ℕ) {es : List Event} {t : Table} {e : Event} {r : Outcome} → Reached Folded n es t → length es ≤ 6 → Stepped t e r → r .answer ≡ NotCoordinator → ⊥

@@ -12,14 +12,14 @@ use Rattle.model.specs.Procedures.{stays}
 use Rattle.model.specs.React.{react}
 use Rattle.model.specs.State.{State, goes}
 use Rattle.model.specs.Answers.{answerNumber}
-use Rattle.model.specs.Step.{actor, wrongNumber, wrongTask, wrongStatus, wrongActivity, forms, isCalling, isSending, pairAtEnd, sent, Ground, ground}
+use Rattle.model.specs.Step.{actor, wrongNumber, wrongTask, wrongStatus, wrongActivity, notCoordinator, forms, isCalling, isSending, pairAtEnd, sent, Ground, ground}
 use Rattle.model.specs.declared.Node.{Node}
 use Rattle.model.specs.declared.Message.{Message}
 use Rattle.model.specs.declared.Outgoing.{Outgoing}
 use Rattle.model.specs.declared.Outgoing.the-variants.{Nothing, Send}
 use Rattle.model.specs.declared.Reaction.{Reaction}
 use Rattle.model.specs.declared.Answer.{Answer}
-use Rattle.model.specs.declared.Answer.the-variants.{Accepted, NotInRange, WrongNumber, WrongTask, WrongStatus, WrongActivity, NoMessage, CounterAtEnd, CallsAtEnd, QueueFull, SentAtEnd}
+use Rattle.model.specs.declared.Answer.the-variants.{Accepted, NotInRange, WrongNumber, WrongTask, WrongStatus, WrongActivity, NotCoordinator, NoMessage, CounterAtEnd, CallsAtEnd, QueueFull, SentAtEnd}
 use Rattle.model.specs.declared.Input.{Input}
 use Rattle.model.specs.declared.Input.the-variants as Input
 use Rattle.node_step.specs.Fits.{Fits}
@@ -156,7 +156,11 @@ numberGrounds n e = ground 7 (wrongNumber n e) ∷ ground 8 (wrongTask e) ∷ []
 -- by the state; found: a message for the event waits
 abbrev pub stateGrounds : Node → Event → Bool → List Ground
 stateGrounds c e found =
-    ground 9 (wrongStatus (c .status) e) ∷ ground 10 (wrongActivity (c .activity) e) ∷ ground 11 (takes e && not found) ∷ []
+    ground 9 (wrongStatus (c .status) e)
+    ∷ ground 10 (wrongActivity (c .activity) e)
+    ∷ ground 18 (notCoordinator c e)
+    ∷ ground 11 (takes e && not found)
+    ∷ []
 
 -- by the ends of the ranges, 17 apart; left: how many messages wait once the event's own is out
 abbrev pub endGrounds : Node → Reaction → ℕ → List Ground
@@ -181,6 +185,7 @@ isAccepted WrongNumber = false
 isAccepted WrongTask = false
 isAccepted WrongStatus = false
 isAccepted WrongActivity = false
+isAccepted NotCoordinator = false
 isAccepted NoMessage = false
 isAccepted CounterAtEnd = false
 isAccepted CallsAtEnd = false
@@ -240,7 +245,7 @@ FitsMessage m (Lose a b) = Unit {0}
 abbrev pub leftOf : ℕ → ℕ → ℕ
 leftOf waiting k = pick (ltb k waiting) (waiting - 1) waiting
 
--- those that `judge` goes by: 7 to 14
+-- those that `judge` goes by: all but 1 and 17
 abbrev pub judgedGrounds : ℕ → ℕ → ℕ → Node → Message → Event → List Ground
 judgedGrounds n waiting k c m e = numberGrounds n e ++ (stateGrounds c e (ltb k waiting) ++ endGrounds c (reactsTo n c m e) (leftOf waiting k))
 
@@ -250,7 +255,7 @@ pub record Judging (n waiting k : ℕ) (c : Node) (m : Message) (e : Event) : Ty
   pub message : first (numberGrounds n e) ≡ 0 → first (stateGrounds c e (ltb k waiting)) ≡ 0 → FitsMessage m e
 
 pub record Judged (n waiting k : ℕ) (c : Node) (m : Message) (e : Event) (v : Verdict) : Type 0 where
-  -- the number of the first ground from 7 to 14, or 0
+  -- the number of the first of them that applies, or 0
   pub answer : answerNumber (v .answer) ≡ first (judgedGrounds n waiting k c m e)
   -- what the node does, where none applies
   pub reaction : answerNumber (v .answer) ≡ 0 → v .reaction ≡ reactsTo n c m e

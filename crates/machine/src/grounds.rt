@@ -138,6 +138,22 @@ pub fn wrong_activity(a: Activity, e: Event) -> bool
     }
 }
 
+pub fn not_coordinator(c: Node, e: Event) -> bool
+    ensures { λ r. ⌜ r ≡ spec.notCoordinator c e ⌝ }
+{
+    match e {
+        Event::Crash(_) => false,
+        Event::Recover(_) => false,
+        Event::Check(i) => !node_step::leads(i, c),
+        Event::Timeout(_) => false,
+        Event::Tick(_) => false,
+        Event::Expire(_) => false,
+        Event::Finish(_, _) => false,
+        Event::Deliver(_, _) => false,
+        Event::Lose(_, _) => false,
+    }
+}
+
 // Grounds 7 and 8.
 pub fn number_answer(n: u8, e: Event) -> Answer
     ensures { λ r. ⌜ answerNumber r ≡ parts.first (parts.numberGrounds n e) ⌝ }
@@ -151,7 +167,7 @@ pub fn number_answer(n: u8, e: Event) -> Answer
     Answer::Accepted
 }
 
-// Grounds 9 to 11; found: a message for the event waits.
+// Grounds 9, 10, 18 and 11; found: a message for the event waits.
 pub fn state_answer(c: Node, e: Event, found: bool) -> Answer
     ensures { λ r. ⌜ answerNumber r ≡ parts.first (parts.stateGrounds c e found) ⌝ }
 {
@@ -162,6 +178,9 @@ pub fn state_answer(c: Node, e: Event, found: bool) -> Answer
     }
     if wrong_activity(activity, e) {
         return Answer::WrongActivity;
+    }
+    if not_coordinator(c, e) {
+        return Answer::NotCoordinator;
     }
     if takes(e) & !found {
         return Answer::NoMessage;
@@ -207,6 +226,7 @@ pub fn is_accepted(a: Answer) -> bool
         Answer::WrongTask => false,
         Answer::WrongStatus => false,
         Answer::WrongActivity => false,
+        Answer::NotCoordinator => false,
         Answer::NoMessage => false,
         Answer::CounterAtEnd => false,
         Answer::CallsAtEnd => false,
@@ -226,6 +246,7 @@ pub fn answer_number(a: Answer) -> u8
         Answer::WrongTask => 8,
         Answer::WrongStatus => 9,
         Answer::WrongActivity => 10,
+        Answer::NotCoordinator => 18,
         Answer::NoMessage => 11,
         Answer::CounterAtEnd => 12,
         Answer::CallsAtEnd => 13,
@@ -354,7 +375,7 @@ pub fn lost_by(e: Event) -> u32
     }
 }
 
-// The judgement of an event by the grounds 7 to 14: c is its node's record, m the message at place k of the waiting ones.
+// The judgement of an event by all grounds but 1 and 17: c is its node's record, m the message at place k of the waiting ones.
 pub fn judge(n: u8, waiting: u8, k: usize, c: Node, m: Message, e: Event) -> Verdict
     requires { ⌜ parts.Judging n waiting k c m e ⌝ }
     ensures { λ v. ⌜ parts.Judged n waiting k c m e v ⌝ }

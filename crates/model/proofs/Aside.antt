@@ -11,7 +11,7 @@ use Rattle.model.specs.Pick.{pick, pick-false, by-test}
 use Rattle.model.specs.Limits.{queueLimit, counterEnd, callEnd, trafficEnd}
 use Rattle.model.specs.Counts.{pairPlace, noCounts}
 use Rattle.model.specs.State.{State, start, nodeAt, countsOf, allWaiting, countsAside, baseInRange, trafficInRange, inRange}
-use Rattle.model.specs.Step.{actor, reactionTo, remaining, sent, withSent, effect, wrongNumber, wrongTask, wrongStatus, wrongActivity, noneWaits, forms, isCalling, isSending, pairAtEnd, Ground, ground, grounds, Result, refused, accepted, judged, step, kept, aside, after, runFrom, run}
+use Rattle.model.specs.Step.{actor, reactionTo, remaining, sent, withSent, effect, wrongNumber, wrongTask, wrongStatus, wrongActivity, notCoordinator, noneWaits, forms, isCalling, isSending, pairAtEnd, Ground, ground, grounds, Result, refused, accepted, judged, step, kept, aside, after, runFrom, run}
 use Rattle.model.specs.History.{History, noted, historyFrom}
 use Rattle.model.specs.Claims.{BelowEnd, CountsDecideNothing}
 use Rattle.model.proofs.Judged.{by-step}
@@ -69,6 +69,7 @@ between s e =
     ∷ ground 8 (wrongTask e)
     ∷ ground 9 (wrongStatus (nodeAt s (actor e) .status) e)
     ∷ ground 10 (wrongActivity (nodeAt s (actor e) .activity) e)
+    ∷ ground 18 (notCoordinator (nodeAt s (actor e)) e)
     ∷ ground 11 (noneWaits (s .queue) e)
     ∷ ground 12 (forms (reactionTo s e .mark) && eqb (nodeAt s (actor e) .counter) counterEnd)
     ∷ ground 13 (isCalling (reactionTo s e .outgoing) && eqb (nodeAt s (actor e) .last .number) callEnd)

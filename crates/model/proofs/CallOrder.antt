@@ -13,7 +13,7 @@ use Rattle.node_set.proofs.Laws.{empty-lacks, empty-within, within-word, with-w
 use Rattle.model.specs.Pick.{pick, by-test}
 use Rattle.model.specs.Node.{isDown, isNormal, isIdle, isCollecting}
 use Rattle.model.specs.Procedures.{next, inviteNext, merges, handNext, finishes, forwardNext, askedAll, askAt, askAfter}
-use Rattle.model.specs.React.{leads, checked, timedOut, ticked, expired, resumed, onAreYouCoordinator, onAreYouThere, onInvitation, onAccept, onReady, onReply, received, react}
+use Rattle.model.specs.React.{checked, timedOut, ticked, expired, resumed, onAreYouCoordinator, onAreYouThere, onInvitation, onAccept, onReady, onReply, received, react}
 use Rattle.model.specs.State.{State, startingNode, start, nodeAt}
 use Rattle.model.specs.Step.{actor, reactionTo, effect, Result, kept, after, runFrom}
 use Rattle.model.specs.Claims.{SendsHighest, SendsUpward, whomNow, whomStill, whomAside, Below, Picked, Undisturbed, CallOrder}
@@ -79,15 +79,10 @@ sends-question n i c j f k l h d =
     at : (x : ℕ) → j < x → x ≤ k → (x ≡ i → ⊥) → P (askAt n i c x f)
     at x a b q = by-test P (λ _. (a, b, q)) (λ t. absurd (true≢false (sym (le-leb x n (omega arith)) ∙ t)))
 
-sends-first : (n i : ℕ) (c : Node) (k : ℕ) → leads i c ≡ true → 1 < n → 1 ≤ k → k ≤ n → (k ≡ i → ⊥) → SendsUpward i 0 k (checked n i c .outgoing)
+sends-first : (n i : ℕ) (c : Node) (k : ℕ) → 1 < n → 1 ≤ k → k ≤ n → (k ≡ i → ⊥) → SendsUpward i 0 k (checked n i c .outgoing)
 unfolding checked
-sends-first n i c k y m l h d =
-    by-test (λ (r : Reaction). SendsUpward i 0 k (r .outgoing)) (λ _. sends-question n i c 0 0 k l h d)
-    (λ t. absurd (true≢false (sym (both (leads i c) (ltb 1 n) y (lt-ltb 1 n m)) ∙ t)))
-  where
-    both : (x y : Bool) → x ≡ true → y ≡ true → (x && y) ≡ true
-    both true y p q = q
-    both false y p q = p
+sends-first n i c k m l h d =
+    by-test (λ (r : Reaction). SendsUpward i 0 k (r .outgoing)) (λ _. sends-question n i c 0 0 k l h d) (λ t. absurd (true≢false (sym (lt-ltb 1 n m) ∙ t)))
 
 sends-expired : (n i : ℕ) (c : Node) (j f k : ℕ) → j < k → k ≤ n → (k ≡ i → ⊥) → SendsUpward i j k (expired n i c (Asking j f) .outgoing)
 unfolding expired

@@ -1,4 +1,4 @@
--- The named cases, the wrong turnings, the further cases, those of T-03 and T-04 and the ends of what is in range, computed over the definitions.
+-- The named cases, the wrong turnings, the further cases, those of T-03, T-04 and T-06 and the ends of what is in range, computed over the definitions.
 use Prim.Native.Nat.{ℕ, _+_, _≤_, _<_}
 use native.Mathlib.Omega.{arith}
 use mathlib.Core.Bool.{Bool, true, false, _&&_}
@@ -9,18 +9,20 @@ use lib.Count.{onesIn, ones, leadingZeros}
 use lib.Bits.{bitAnd, bitOr}
 use Rattle.model.specs.Pick.{pick, pick-true}
 use Rattle.model.specs.Counts.{total}
-use Rattle.model.specs.Node.{asks, calls, replies}
+use Rattle.model.specs.Node.{isDown, isIdle, asks, calls, replies}
 use Rattle.model.specs.Recovery.{recoveryRecords}
 use Rattle.model.specs.Procedures.{inviteNext, merges, handNext, finishes, forwardNext, askedAll, askAt, askAfter}
 use Rattle.model.specs.React.{checked, timedOut, ticked, expired, resumed, onAreYouCoordinator, onAreYouThere, onInvitation, onAccept, onReady, onReply, received, react}
-use Rattle.model.specs.Range.{activityInRange, nodeInRange, messageInRange, countInRange}
+use Rattle.model.specs.Range.{activityInRange, nodeInRange, messageInRange, isNode, countInRange}
 use Rattle.model.specs.State.{State, startingNode, start, nodeAt, allWaiting, countsAside, baseInRange, waits, oldest, withoutOldest, howMany, countsOf, every, upTo, countsInRange, trafficInRange, inRange}
-use Rattle.model.specs.Step.{reactionTo, remaining, effect, wrongNumber, wrongTask, wrongStatus, wrongActivity, noneWaits, Ground, grounds, Result, refused, accepted, judged, step, kept, aside, after, runFrom, run}
+use Rattle.model.specs.Step.{reactionTo, remaining, effect, wrongNumber, wrongTask, wrongStatus, wrongActivity, notCoordinator, noneWaits, Ground, grounds, Result, refused, accepted, judged, step, kept, aside, after, runFrom, run}
 use Rattle.model.specs.History.{History, blank, updated, noted, historyFrom, history}
-use Rattle.model.specs.Cases.{NamedCases, WrongTurnings, FurtherCases, printedFields, among, queued, pair, filled, anyCall, collecting, k10, foundThree, setOf, none, node, three, joinsFormer, inFormerGroup, newMerges, afterMerge, bothInvite, invitedByBoth, joinsNew, inNewGroup, invitedOnce, InvitedTwice, HeldGroupCases, RecoveryCases, RangeCases}
+use Rattle.model.specs.Cases.{NamedCases, WrongTurnings, FurtherCases, printedFields, among, queued, pair, filled, anyCall, collecting, k10, foundThree, setOf, none, node, three, joinsFormer, inFormerGroup, newMerges, afterMerge, bothInvite, invitedByBoth, joinsNew, inNewGroup, invitedOnce, InvitedTwice, HeldGroupCases, RecoveryCases, acceptedInvitation, CheckCases, RangeCases}
+use Rattle.model.proofs.Locality.{step-is-local}
 use Rattle.model.proofs.InRange.{start-in, run-in, stays-in-range}
 use Rattle.model.proofs.Waiting.{waiting-in}
 use Rattle.model.proofs.Aside.{resultAside, waiting-small, waiting-aside, aside-result, quick, aside-kept, run-aside, quick-append, counting, run-counting, quickHistory, history-aside, start-room, run-below}
+use Rattle.model.proofs.Checks.{check-rules}
 use Rattle.model.specs.declared.Status.the-variants.{Election, Reorganization, Normal}
 use Rattle.model.specs.declared.Activity.the-variants.{Idle, Collecting}
 use Rattle.model.specs.declared.Node.{Node}
@@ -115,7 +117,7 @@ history-two : (es : List Event) → length es < 33554430 → history 2 es ≡ qu
 history-two es k = history-aside (start 2) blank es (start-in 2 (omega arith) (omega arith)) (start-room (length es) k)
 
 pub named-cases : NamedCases
-unfolding total pick onesIn ones leadingZeros bitAnd bitOr inviteNext merges handNext finishes forwardNext askedAll askAt askAfter checked timedOut ticked expired resumed onAreYouCoordinator onAreYouThere onInvitation onAccept onReady onReply received react activityInRange nodeInRange messageInRange waits oldest withoutOldest every reactionTo remaining effect wrongNumber wrongTask wrongStatus wrongActivity noneWaits grounds judged updated
+unfolding total pick onesIn ones leadingZeros bitAnd bitOr inviteNext merges handNext finishes forwardNext askedAll askAt askAfter checked timedOut ticked expired resumed onAreYouCoordinator onAreYouThere onInvitation onAccept onReady onReply received react activityInRange nodeInRange messageInRange waits oldest withoutOldest every reactionTo remaining effect wrongNumber wrongTask wrongStatus wrongActivity notCoordinator noneWaits grounds judged updated
 named-cases =
     record {
       k1-low = refl;
@@ -169,7 +171,7 @@ named-cases =
       k11-refused = one-refused _ _ _ _ _ refl refl;
       k11-passes = one-after _ _ _ _ refl;
       k11-room = ap (λ (s : State). s .queue) (one-after _ _ _ (Check 1) refl);
-      k11-silent = one-step _ _ _ _ refl;
+      k11-turned-away = one-refused _ _ _ _ _ refl refl;
       k12 = one-after _ _ _ _ refl;
       k12-joins = one-after _ _ _ _ refl;
       k12-group = one-after _ _ _ _ refl;
@@ -180,7 +182,7 @@ named-cases =
     }
 
 pub wrong-turnings : WrongTurnings
-unfolding pick onesIn ones leadingZeros bitAnd bitOr inviteNext merges handNext finishes forwardNext askedAll askAt askAfter checked timedOut ticked expired resumed onAreYouCoordinator onAreYouThere onInvitation onAccept onReady onReply received react activityInRange nodeInRange messageInRange waits oldest withoutOldest every reactionTo remaining effect wrongNumber wrongTask wrongStatus wrongActivity noneWaits grounds judged updated
+unfolding pick onesIn ones leadingZeros bitAnd bitOr inviteNext merges handNext finishes forwardNext askedAll askAt askAfter checked timedOut ticked expired resumed onAreYouCoordinator onAreYouThere onInvitation onAccept onReady onReply received react activityInRange nodeInRange messageInRange waits oldest withoutOldest every reactionTo remaining effect wrongNumber wrongTask wrongStatus wrongActivity notCoordinator noneWaits grounds judged updated
 wrong-turnings =
     record {
       members-aside = one-step _ _ _ _ refl;
@@ -194,7 +196,7 @@ wrong-turnings =
     }
 
 pub further-cases : FurtherCases
-unfolding pick onesIn ones leadingZeros bitAnd bitOr inviteNext merges handNext finishes forwardNext askedAll askAt askAfter checked timedOut ticked expired resumed onAreYouCoordinator onAreYouThere onInvitation onAccept onReady onReply received react activityInRange nodeInRange messageInRange waits oldest withoutOldest every reactionTo remaining effect wrongNumber wrongTask wrongStatus wrongActivity noneWaits grounds judged updated
+unfolding pick onesIn ones leadingZeros bitAnd bitOr inviteNext merges handNext finishes forwardNext askedAll askAt askAfter checked timedOut ticked expired resumed onAreYouCoordinator onAreYouThere onInvitation onAccept onReady onReply received react activityInRange nodeInRange messageInRange waits oldest withoutOldest every reactionTo remaining effect wrongNumber wrongTask wrongStatus wrongActivity notCoordinator noneWaits grounds judged updated
 further-cases =
     record {
       highest-found = one-step _ _ _ _ refl;
@@ -205,8 +207,6 @@ further-cases =
       oldest-lost = one-step _ _ _ _ refl;
       lost-down = one-step _ _ _ _ refl;
       delivered-from-down = one-step _ _ _ _ refl;
-      check-led = one-step _ _ _ _ refl;
-      check-one = from-run 1 (Recover 1 ∷ []) (Check 1) (omega arith) (omega arith) (omega arith) ∙ ap (λ (s : State). accepted s Plain) (sym (started 1 (Recover 1 ∷ []) (omega arith) (omega arith) (omega arith)));
       timeout-own = one-step _ _ _ _ refl;
       timeout-own-reorganizing = one-step _ _ _ _ refl;
       timeout-led = one-step _ _ _ _ refl;
@@ -314,7 +314,7 @@ record Parts : Type 0 where
   pub dropped : quick (inNewGroup (calls 2 3 1 (record { number = 5 }) (record { number = 34 }) ∷ [])) (Deliver 2 1 ∷ Deliver 1 2 ∷ []) ≡ inNewGroup []
 
 parts : Parts
-unfolding pick onesIn ones leadingZeros bitAnd bitOr inviteNext merges handNext finishes forwardNext askedAll askAt askAfter checked timedOut ticked expired resumed onAreYouCoordinator onAreYouThere onInvitation onAccept onReady onReply received react activityInRange nodeInRange messageInRange waits oldest withoutOldest every reactionTo remaining effect wrongNumber wrongTask wrongStatus wrongActivity noneWaits grounds judged updated
+unfolding pick onesIn ones leadingZeros bitAnd bitOr inviteNext merges handNext finishes forwardNext askedAll askAt askAfter checked timedOut ticked expired resumed onAreYouCoordinator onAreYouThere onInvitation onAccept onReady onReply received react activityInRange nodeInRange messageInRange waits oldest withoutOldest every reactionTo remaining effect wrongNumber wrongTask wrongStatus wrongActivity notCoordinator noneWaits grounds judged updated
 parts = record { former = refl; merges = refl; both = refl; joins = refl; hands = refl; again = refl; dropped = refl }
 
 onward : (s t u : State) (es fs : List Event) → quick s es ≡ t → quick t fs ≡ u → quick s (es ++ fs) ≡ u
@@ -342,7 +342,7 @@ invited-twice =
         (onward afterMerge invitedByBoth joined bothInvite joinsNew (parts .both) (onward invitedByBoth threeCollects joined accepting handing (parts .joins) (parts .hands)))
 
 pub held-group-cases : HeldGroupCases
-unfolding pick onesIn ones leadingZeros bitAnd bitOr inviteNext merges handNext finishes forwardNext askedAll askAt askAfter checked timedOut ticked expired resumed onAreYouCoordinator onAreYouThere onInvitation onAccept onReady onReply received react activityInRange nodeInRange messageInRange waits oldest withoutOldest every reactionTo remaining effect wrongNumber wrongTask wrongStatus wrongActivity noneWaits grounds judged updated
+unfolding pick onesIn ones leadingZeros bitAnd bitOr inviteNext merges handNext finishes forwardNext askedAll askAt askAfter checked timedOut ticked expired resumed onAreYouCoordinator onAreYouThere onInvitation onAccept onReady onReply received react activityInRange nodeInRange messageInRange waits oldest withoutOldest every reactionTo remaining effect wrongNumber wrongTask wrongStatus wrongActivity notCoordinator noneWaits grounds judged updated
 held-group-cases =
     record {
       normal = one-step _ _ _ _ refl;
@@ -357,8 +357,60 @@ held-group-cases =
       call-needed = one-refused _ _ _ _ _ refl refl;
     }
 
+pub check-cases : CheckCases
+unfolding pick onesIn ones leadingZeros bitAnd bitOr inviteNext merges handNext finishes forwardNext askedAll askAt askAfter checked timedOut ticked expired resumed onAreYouCoordinator onAreYouThere onInvitation onAccept onReady onReply received react activityInRange nodeInRange messageInRange waits oldest withoutOldest every reactionTo remaining effect wrongNumber wrongTask wrongStatus wrongActivity notCoordinator noneWaits grounds judged updated
+check-cases =
+    record {
+      normal-own = one-step _ _ _ _ refl;
+      with-member = one-step _ _ _ _ refl;
+      election-own = one-refused _ _ _ _ _ refl refl;
+      reorganization-own = one-refused _ _ _ _ _ refl refl;
+      member = one-refused _ _ _ _ _ refl refl;
+      election-member = one-refused _ _ _ _ _ refl refl;
+      reorganization-member = one-refused _ _ _ _ _ refl refl;
+      one = check-rules .one _ 1
+          (record {
+            in-range = stays-in-range .runs 1 (omega arith) (omega arith) (Recover 1 ∷ []);
+            number = ap (λ (s : State). isNode (s .n) 1) recovered;
+            not-down = ap (λ (s : State). isDown (nodeAt s 1 .status)) recovered;
+            idle = ap (λ (s : State). isIdle (nodeAt s 1 .activity)) recovered;
+          })
+          (ap (λ (s : State). s .n) recovered) (ap (λ (s : State). nodeAt s 1 .status) recovered) (ap (λ (s : State). nodeAt s 1 .coordinator) recovered);
+      one-normal = one-step _ _ _ _ refl;
+      one-election = one-refused _ _ _ _ _ refl refl;
+      one-reorganization = one-refused _ _ _ _ _ refl refl;
+      one-down = one-refused _ _ _ _ _ refl refl;
+      range-first = not-in-range _ _ _ _ refl;
+      number-first = one-refused _ _ _ _ _ refl refl;
+      down-own = one-refused _ _ _ _ _ refl refl;
+      down-member = one-refused _ _ _ _ _ refl refl;
+      busy-inviting = one-refused _ _ _ _ _ refl refl;
+      busy-collecting = one-refused _ _ _ _ _ refl refl;
+      busy-handing = one-refused _ _ _ _ _ refl refl;
+      busy-forwarding = one-refused _ _ _ _ _ refl refl;
+      busy-accepting = one-refused _ _ _ _ _ refl refl;
+      busy-reorganization = one-refused _ _ _ _ _ refl refl;
+      busy-member = one-refused _ _ _ _ _ refl refl;
+      busy-asking = one-refused _ _ _ _ _ refl refl;
+      busy-waiting = one-refused _ _ _ _ _ refl refl;
+      calls-end = one-refused _ _ _ _ _ refl refl;
+      full = one-refused _ _ _ _ _ refl refl;
+      run-accepted = from-two acceptedInvitation (Check 1) _ (omega arith) refl;
+      run-member = member-turned-away;
+      run-collecting = from-two collecting (Check 2) _ (omega arith) refl;
+      run-coordinator = ap (λ (s : State). nodeAt s 2 .activity) (after-two k10 (Check 2) (omega arith));
+      skipped = step-is-local .refused-skips 2 k10 (Check 1) (Check 2 ∷ []) 18 member-turned-away;
+      number = refl;
+    }
+  where
+    recovered : countsAside (run 1 (Recover 1 ∷ [])) ≡ quick (countsAside (start 1)) (Recover 1 ∷ [])
+    recovered = started 1 (Recover 1 ∷ []) (omega arith) (omega arith) (omega arith)
+
+    member-turned-away : step (run 2 k10) (Check 1) ≡ refused 18
+    member-turned-away = from-two k10 (Check 1) 18 (omega arith) refl
+
 pub recovery-cases : RecoveryCases
-unfolding pick onesIn ones leadingZeros bitAnd bitOr inviteNext merges handNext finishes forwardNext askedAll askAt askAfter checked timedOut ticked expired resumed onAreYouCoordinator onAreYouThere onInvitation onAccept onReady onReply received react activityInRange nodeInRange messageInRange waits oldest withoutOldest every reactionTo remaining effect wrongNumber wrongTask wrongStatus wrongActivity noneWaits grounds judged updated
+unfolding pick onesIn ones leadingZeros bitAnd bitOr inviteNext merges handNext finishes forwardNext askedAll askAt askAfter checked timedOut ticked expired resumed onAreYouCoordinator onAreYouThere onInvitation onAccept onReady onReply received react activityInRange nodeInRange messageInRange waits oldest withoutOldest every reactionTo remaining effect wrongNumber wrongTask wrongStatus wrongActivity notCoordinator noneWaits grounds judged updated
 recovery-cases =
     record {
       k2 = refl;

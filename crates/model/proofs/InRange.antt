@@ -10,7 +10,7 @@ use lib.Dec.{eqb}
 use lib.ListN.{length, set, replicate, length-append, length-set, length-replicate}
 use borrow.Author.Tests.{eqb-true, eqb-false, eq-eqb, le-leb, not-true, not-false}
 use Rattle.node_set.proofs.Laws.{empty-within, empty-lacks}
-use Rattle.model.specs.Pick.{by-test}
+use Rattle.model.specs.Pick.{pick, by-test}
 use Rattle.model.specs.Limits.{nodeLimit, queueLimit, counterEnd, callEnd, trafficEnd}
 use Rattle.model.specs.Counts.{pairPlace, senderAt, receiverAt, countAt, oneMore, noCounts}
 use Rattle.model.specs.Range.{isNode, isPair, nodeInRange, messageInRange, countInRange}
@@ -19,7 +19,7 @@ use Rattle.model.specs.State.{State, startingNode, start, nodeAt, waits,
 use Rattle.model.specs.Step.{actor, reactionTo, remaining, sent, withSent, withDelivered, withLost, effect, wrongNumber, wrongTask, wrongStatus, noneWaits, isSending, pairAtEnd, Ground, grounds, Result, refused, accepted, judged, step, kept, after, runFrom, run}
 use Rattle.model.specs.Claims.{StaysInRange}
 use Rattle.model.specs.Traffic.{sends, delivers, loses}
-use Rattle.model.proofs.Judged.{Clear, NotAtEnd, by-step, accepted-is}
+use Rattle.model.proofs.Judged.{Clear, NotAtEnd, by-step, accepted-is, met, passed}
 use Rattle.model.proofs.Local.{both-left, both-right}
 use Rattle.model.proofs.Locality.{taken-out}
 use Rattle.model.proofs.Numbers.{actor-in}
@@ -276,49 +276,21 @@ effect-in s e c d =
 
 -- ── refusals ──
 
--- no ground of the list numbered x applies, where those before it do not
-pub data Misses (x : ℕ) : List Ground → Type 0 where
-  end : Misses x []
-  past : {g : Ground} {gs : List Ground} → (g .number ≡ x → g .applies ≡ true → ⊥) → (g .applies ≡ false → Misses x gs) → Misses x (g ∷ gs)
-
-pub not-refused : (x : ℕ) (u : State) (k : Mark) {gs : List Ground} → Misses x gs → judged (accepted u k) gs ≡ refused x → ⊥
-unfolding judged
-not-refused x u k end = λ e. let z : _≡_ {A = ℕ} 0 1 = cc in omega arith
-not-refused x u k (past f h) = by-test (λ (r : Result). r ≡ refused x → ⊥) (λ t q. f (cc) t) (λ t. not-refused x u k (h t))
-
 in-range-not-one : (s : State) (e : Event) → inRange s ≡ true → step s e ≡ refused 1 → ⊥
-unfolding step grounds
-in-range-not-one s e r =
-    not-refused 1 _ _
-    (past (λ _ t. true≢false (sym r ∙ not-true _ t))
-    (λ _. past (λ z _. omega arith)
-    (λ _. past (λ z _. omega arith)
-    (λ _. past (λ z _. omega arith)
-    (λ _. past (λ z _. omega arith)
-    (λ _. past (λ z _. omega arith)
-    (λ _. past (λ z _. omega arith)
-    (λ _. past (λ z _. omega arith)
-    (λ _. past (λ z _. omega arith)
-    (λ _. past (λ z _. omega arith) (λ _. end)))))))))))
+unfolding grounds pick
+in-range-not-one s e r q = true≢false (sym r ∙ not-true _ (met s e 1 refl q))
 
 -- a delivery takes a message out, so there is room for another
 pub delivery-never-full : (s : State) (a b : ℕ) → step s (Deliver a b) ≡ refused 14 → ⊥
-unfolding step grounds remaining noneWaits
-delivery-never-full s a b =
-    not-refused 14 _ _
-    (past (λ z _. omega arith)
-    (λ r. past (λ z _. omega arith)
-    (λ _. past (λ z _. omega arith)
-    (λ _. past (λ z _. omega arith)
-    (λ _. past (λ z _. omega arith)
-    (λ _. past (λ z _. omega arith)
-    (λ w. past (λ z _. omega arith)
-    (λ _. past (λ z _. omega arith)
-    (λ _. past (λ _ t. full (not-false _ r) (not-false _ w) (both-right (isSending (reactionTo s (Deliver a b) .outgoing)) _ t))
-    (λ _. past (λ z _. omega arith) (λ _. end)))))))))))
-  where
-    full : inRange s ≡ true → waits a b (s .queue) ≡ true → eqb (length (withoutOldest a b (s .queue))) queueLimit ≡ true → ⊥
-    full r w e = omega (arith, eqb-true (length (withoutOldest a b (s .queue))) queueLimit e, without-length a b (s .queue) w, in-range-size s r .3)
+unfolding grounds pick remaining noneWaits
+delivery-never-full s a b q =
+    let e = Deliver a b in
+    omega (
+      arith,
+      eqb-true (length (withoutOldest a b (s .queue))) queueLimit (both-right (isSending (reactionTo s e .outgoing)) _ (met s e 14 refl q)),
+      without-length a b (s .queue) (not-false _ (passed s e 11 14 refl q)),
+      in-range-size s (not-false _ (passed s e 1 14 refl q)) .3,
+    )
 
 -- ── the claims ──
 pub none-in : (n k : ℕ) → countInRange n k 0 ≡ true

@@ -114,6 +114,7 @@ module _ (s : State) (a b : ℕ) (x : InvitationReaches s a b) where
         task = refl;
         status = x .not-down;
         activity = refl;
+        coordinator = refl;
         waiting = ap not waiting;
         counter = ap (λ (t : Bool). t && eqb (nodeAt s b .counter) counterEnd) f;
         calls = h;

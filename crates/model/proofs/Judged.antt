@@ -1,20 +1,21 @@
 -- A step is refused, or no ground applies and it has its effect; what the event's node does then.
 use Prim.Native.Nat.{ℕ}
 use native.Mathlib.Omega.{arith}
-use mathlib.Core.Bool.{Bool, true, false, not, _&&_}
-use mathlib.Core.Path.{_≡_, refl, _∙_, ap}
+use mathlib.Core.Bool.{Bool, true, false, not, _&&_, _||_, true≢false}
+use mathlib.Core.Path.{_≡_, refl, sym, _∙_, ap}
 use mathlib.Core.List.{List, [], _∷_}
 use lib.Dec.{eqb}
 use lib.ListN.{length}
-use borrow.Author.Tests.{not-false}
+use borrow.Author.Tests.{not-false, eq-eqb}
 use Rattle.model.specs.Pick.{pick, pick-false, by-test}
 use Rattle.model.specs.Limits.{queueLimit, counterEnd, callEnd}
 use Rattle.model.specs.Node.{isIdle, isWaiting, isCollecting, hasOpenCall}
 use Rattle.model.specs.Procedures.{stays}
 use Rattle.model.specs.React.{react}
 use Rattle.model.specs.State.{State, nodeAt, oldest, inRange}
-use Rattle.model.specs.Step.{actor, reactionTo, remaining, effect, wrongNumber, wrongTask, wrongStatus, wrongActivity, noneWaits, forms, isCalling, isSending, pairAtEnd, Ground, grounds, Result, refused, accepted, judged, step}
+use Rattle.model.specs.Step.{actor, reactionTo, remaining, effect, wrongNumber, wrongTask, wrongStatus, wrongActivity, notCoordinator, noneWaits, forms, isCalling, isSending, pairAtEnd, Ground, grounds, Result, refused, accepted, judged, step}
 use Rattle.model.specs.Claims.{NoneApplies}
+use Rattle.model.proofs.Local.{both-left, both-right}
 use Rattle.model.specs.declared.Activity.{Activity}
 use Rattle.model.specs.declared.Mark.{Mark}
 use Rattle.model.specs.declared.Reaction.{Reaction}
@@ -28,13 +29,14 @@ unfolding judged
 judged-by P r [] f g = g tt
 judged-by P r (x ∷ gs) f g = by-test P (λ _. f (x .number)) (λ q. judged-by P r gs f (λ c. g (q, c)))
 
--- what is known where none of the grounds 1 to 14 applies, ground by ground
+-- what is known where no ground but the last, 17, applies, ground by ground
 pub record Clear (s : State) (e : Event) : Type 0 where
   pub in-range : inRange s ≡ true
   pub number : wrongNumber (s .n) e ≡ false
   pub task : wrongTask e ≡ false
   pub status : wrongStatus (nodeAt s (actor e) .status) e ≡ false
   pub activity : wrongActivity (nodeAt s (actor e) .activity) e ≡ false
+  pub coordinator : notCoordinator (nodeAt s (actor e)) e ≡ false
   pub waiting : noneWaits (s .queue) e ≡ false
   pub counter : forms (reactionTo s e .mark) && eqb (nodeAt s (actor e) .counter) counterEnd ≡ false
   pub calls : isCalling (reactionTo s e .outgoing) && eqb (nodeAt s (actor e) .last .number) callEnd ≡ false
@@ -56,12 +58,13 @@ by-step P s e f g =
       task = c .1 .1 .0;
       status = c .1 .1 .1 .0;
       activity = c .1 .1 .1 .1 .0;
-      waiting = c .1 .1 .1 .1 .1 .0;
-      counter = c .1 .1 .1 .1 .1 .1 .0;
-      calls = c .1 .1 .1 .1 .1 .1 .1 .0;
-      room = c .1 .1 .1 .1 .1 .1 .1 .1 .0;
+      coordinator = c .1 .1 .1 .1 .1 .0;
+      waiting = c .1 .1 .1 .1 .1 .1 .0;
+      counter = c .1 .1 .1 .1 .1 .1 .1 .0;
+      calls = c .1 .1 .1 .1 .1 .1 .1 .1 .0;
+      room = c .1 .1 .1 .1 .1 .1 .1 .1 .1 .0;
     })
-    (c .1 .1 .1 .1 .1 .1 .1 .1 .1 .0))
+    (c .1 .1 .1 .1 .1 .1 .1 .1 .1 .1 .0))
 
 judged-none : (x : Result) (gs : List Ground) → NoneApplies gs → judged x gs ≡ x
 unfolding judged
@@ -77,7 +80,7 @@ none-applies s e c = judged-none _ (grounds s e) c
 pub clear-accepts : (s : State) (e : Event) → Clear s e → NotAtEnd s e → step s e ≡ accepted (effect s e) (reactionTo s e .mark)
 unfolding grounds
 clear-accepts s e c d =
-    none-applies s e (ap not (c .in-range), (c .number, (c .task, (c .status, (c .activity, (c .waiting, (c .counter, (c .calls, (c .room, (d, tt))))))))))
+    none-applies s e (ap not (c .in-range), (c .number, (c .task, (c .status, (c .activity, (c .coordinator, (c .waiting, (c .counter, (c .calls, (c .room, (d, tt)))))))))))
 
 -- what an accepted event is
 pub record Accepted (s : State) (e : Event) (u : State) (k : Mark) : Type 0 where
@@ -92,6 +95,92 @@ accepted-is s e u k =
   where
     apart : (x : ℕ) → refused x ≡ accepted u k → ⊥
     apart x q = let z : _≡_ {A = ℕ} 0 1 = cc in omega arith
+
+-- ── a refusal by its number; each number stands once in the table of grounds ──
+
+-- whether the ground of number r applies
+abbrev pub appliesOf : ℕ → List Ground → Bool
+appliesOf r [] = false
+appliesOf r (g ∷ gs) = pick (eqb (g .number) r) (g .applies) (appliesOf r gs)
+
+-- no ground has the number r; one has, or none; the ground of number q stands before that of number r
+abbrev absent : ℕ → List Ground → Bool
+absent r [] = true
+absent r (g ∷ gs) = not (eqb (g .number) r) && absent r gs
+
+abbrev once : ℕ → List Ground → Bool
+once r [] = true
+once r (g ∷ gs) = pick (eqb (g .number) r) (absent r gs) (once r gs)
+
+abbrev before : ℕ → ℕ → List Ground → Bool
+before q r [] = false
+before q r (g ∷ gs) = not (eqb (g .number) r) && (eqb (g .number) q || before q r gs)
+
+numbered-same : {x r : ℕ} → refused x ≡ refused r → eqb x r ≡ true
+numbered-same {x} {r} e = eq-eqb x r (cc)
+
+accepted-apart : {u : State} {k : Mark} {r : ℕ} → accepted u k ≡ refused r → ⊥
+accepted-apart e = let z : _≡_ {A = ℕ} 0 1 = cc in omega arith
+
+judged-absent : (u : State) (k : Mark) (r : ℕ) (gs : List Ground) → absent r gs ≡ true → judged (accepted u k) gs ≡ refused r → ⊥
+unfolding judged
+judged-absent u k r [] a = accepted-apart
+judged-absent u k r (g ∷ gs) a =
+    by-test (λ (x : Result). x ≡ refused r → ⊥)
+    (λ _ e. true≢false (sym (both-left (not (eqb (g .number) r)) _ a) ∙ ap not (numbered-same e)))
+    (λ _. judged-absent u k r gs (both-right (not (eqb (g .number) r)) _ a))
+
+judged-met : (u : State) (k : Mark) (r : ℕ) (gs : List Ground) → once r gs ≡ true → judged (accepted u k) gs ≡ refused r → appliesOf r gs ≡ true
+unfolding judged pick
+judged-met u k r [] o = λ e. absurd (accepted-apart e)
+judged-met u k r (g ∷ gs) o = by (g .applies) (eqb (g .number) r) refl o (judged-met u k r gs)
+  where
+    by : (t v : Bool) → eqb (g .number) r ≡ v → pick v (absent r gs) (once r gs) ≡ true
+        → (once r gs ≡ true → judged (accepted u k) gs ≡ refused r → appliesOf r gs ≡ true)
+        → pick t (refused (g .number)) (judged (accepted u k) gs) ≡ refused r → pick v t (appliesOf r gs) ≡ true
+    by true true n h f e = refl
+    by true false n h f e = absurd (true≢false (sym (numbered-same e) ∙ n))
+    by false true n h f e = absurd (judged-absent u k r gs h e)
+    by false false n h f e = f h e
+
+judged-passed : (u : State) (k : Mark) (q r : ℕ) (gs : List Ground) → before q r gs ≡ true → judged (accepted u k) gs ≡ refused r → appliesOf q gs ≡ false
+unfolding judged pick
+judged-passed u k q r [] b = absurd (true≢false (sym b))
+judged-passed u k q r (g ∷ gs) b = by (g .applies) (eqb (g .number) q) (both-left (not (eqb (g .number) r)) _ b) (both-right (not (eqb (g .number) r)) _ b) (judged-passed u k q r gs)
+  where
+    by : (t v : Bool) → not (eqb (g .number) r) ≡ true → (v || before q r gs) ≡ true
+        → (before q r gs ≡ true → judged (accepted u k) gs ≡ refused r → appliesOf q gs ≡ false)
+        → pick t (refused (g .number)) (judged (accepted u k) gs) ≡ refused r → pick v t (appliesOf q gs) ≡ false
+    by true v n h f e = absurd (true≢false (sym n ∙ ap not (numbered-same e)))
+    by false true n h f e = refl
+    by false false n h f e = f h e
+
+-- a refusal's ground applies
+pub met : (s : State) (e : Event) (r : ℕ) → once r (grounds s e) ≡ true → step s e ≡ refused r → appliesOf r (grounds s e) ≡ true
+unfolding step
+met s e r o q = judged-met _ _ r (grounds s e) o q
+
+-- and one before it does not
+pub passed : (s : State) (e : Event) (q r : ℕ) → before q r (grounds s e) ≡ true → step s e ≡ refused r → appliesOf q (grounds s e) ≡ false
+unfolding step
+passed s e q r b x = judged-passed _ _ q r (grounds s e) b x
+
+-- 17 is the last
+pub ended-clear : (s : State) (e : Event) → step s e ≡ refused 17 → Clear s e
+unfolding grounds pick
+ended-clear s e q =
+    record {
+      in-range = not-false _ (passed s e 1 17 refl q);
+      number = passed s e 7 17 refl q;
+      task = passed s e 8 17 refl q;
+      status = passed s e 9 17 refl q;
+      activity = passed s e 10 17 refl q;
+      coordinator = passed s e 18 17 refl q;
+      waiting = passed s e 11 17 refl q;
+      counter = passed s e 12 17 refl q;
+      calls = passed s e 13 17 refl q;
+      room = passed s e 14 17 refl q;
+    }
 
 -- the activity allows the input: ground 10 does not apply
 abbrev pub Allows : Activity → Input → Type 0

@@ -14,6 +14,8 @@ pub mod Range
 pub mod InRange
 pub mod Waiting
 pub mod Aside
+pub mod Early
+pub mod Checks
 pub mod Cases
 pub mod TrafficCases
 pub mod Refusals

@@ -8,11 +8,12 @@ use lib.ListN.{length, getD, set, length-set, length-append}
 use lib.Seq.{getD-set-other}
 use borrow.Author.Tests.{not-false}
 use Rattle.model.specs.Pick.{pick, pick-true, pick-false}
-use Rattle.model.specs.State.{State, startingNode, nodeAt, goes, waits, oldest, withoutOldest}
-use Rattle.model.specs.Step.{actor, reactionTo, remaining, sent, effect, noneWaits, Result, refused, accepted, step, kept, after}
+use Rattle.model.specs.State.{State, startingNode, start, nodeAt, goes, waits, oldest, withoutOldest}
+use Rattle.model.specs.Step.{actor, reactionTo, remaining, sent, effect, noneWaits, Result, refused, accepted, step, kept, after, runFrom, run}
 use Rattle.model.specs.Claims.{WithoutOldest, TakesOut, ChangesLittle, StepIsLocal}
 use Rattle.model.proofs.Judged.{Clear, Accepted, accepted-is}
 use Rattle.model.proofs.Numbers.{actor-in}
+use Rattle.model.proofs.Whole.{run-append}
 use Rattle.model.specs.declared.Message.{Message}
 use Rattle.model.specs.declared.Outgoing.{Outgoing}
 use Rattle.model.specs.declared.Outgoing.the-variants.{Nothing, Send}
@@ -110,10 +111,18 @@ effect-little s e c low =
       lost-counts = refl;
     }
 
+skips : (n : ℕ) (es : List Event) (e : Event) (fs : List Event) (r : ℕ) → step (run n es) e ≡ refused r → run n (es ++ (e ∷ fs)) ≡ run n (es ++ fs)
+unfolding runFrom
+skips n es e fs r q =
+    run-append (start n) es (e ∷ fs)
+    ∙ ap (λ (x : Result). runFrom (kept (run n es) x) fs) q
+    ∙ sym (run-append (start n) es fs)
+
 pub step-is-local : StepIsLocal
 step-is-local =
     record {
       refused-nothing = λ s e r q. ap (kept s) q;
+      refused-skips = skips;
       accepted-little = λ s e u k q.
           let a = accepted-is s e u k q in
           subst (ChangesLittle s e) (sym (a .state)) (effect-little s e (a .clear) (actor-in (s .n) e (a .clear .number) .0));

@@ -35,24 +35,25 @@ judged-number f u k [] h = tt
 judged-number f u k (g ∷ gs) h =
     by-test (Passes f) (λ _. both-left (f (g .number)) _ h) (λ _. judged-number f u k gs (both-right (f (g .number)) _ h))
 
--- 1, 7 to 14, or 17
+-- 1, 7 to 14, 17 or 18
 abbrev ofEvents : ℕ → Bool
-ofEvents r = eqb r 1 || ((leb 7 r && leb r 14) || eqb r 17)
+ofEvents r = eqb r 1 || ((leb 7 r && leb r 14) || (leb 17 r && leb r 18))
 
 step-number : (s : State) (e : Event) → Passes ofEvents (step s e)
 unfolding step grounds
 step-number s e = judged-number ofEvents _ _ _ refl
 
-numbers : (s : State) (e : Event) (r : ℕ) → step s e ≡ refused r → (r ≡ 1) ⊎ (((7 ≤ r) × (r ≤ 14)) ⊎ (r ≡ 17))
+numbers : (s : State) (e : Event) (r : ℕ) → step s e ≡ refused r → (r ≡ 1) ⊎ (((7 ≤ r) × (r ≤ 14)) ⊎ ((17 ≤ r) × (r ≤ 18)))
 numbers s e r q =
     ⊎-elim (λ x. inl (eqb-true r 1 x))
-    (λ x. inr
-    (⊎-elim (λ y. inl (leb-true 7 r (both-left (leb 7 r) _ y), leb-true r 14 (both-right (leb 7 r) _ y))) (λ y. inr (eqb-true r 17 y))
-    (either (leb 7 r && leb r 14) (eqb r 17) x)))
-    (either (eqb r 1) ((leb 7 r && leb r 14) || eqb r 17) (subst (Passes ofEvents) q (step-number s e)))
+    (λ x. inr (⊎-elim (λ y. inl (within 7 14 y)) (λ y. inr (within 17 18 y)) (either (leb 7 r && leb r 14) (leb 17 r && leb r 18) x)))
+    (either (eqb r 1) ((leb 7 r && leb r 14) || (leb 17 r && leb r 18)) (subst (Passes ofEvents) q (step-number s e)))
+  where
+    within : (a b : ℕ) → leb a r && leb r b ≡ true → (a ≤ r) × (r ≤ b)
+    within a b y = (leb-true a r (both-left (leb a r) _ y), leb-true r b (both-right (leb a r) _ y))
 
 never-zero : (s : State) (e : Event) → step s e ≡ refused 0 → ⊥
-never-zero s e q = ⊎-elim (λ z. omega arith) (λ z. ⊎-elim (λ y. omega (arith, y .0)) (λ y. omega arith) z) (numbers s e 0 q)
+never-zero s e q = ⊎-elim (λ z. omega arith) (λ z. ⊎-elim (λ y. omega (arith, y .0)) (λ y. omega (arith, y .0)) z) (numbers s e 0 q)
 
 zero-accepts : (s : State) (e : Event) → resultNumber (step s e) ≡ 0 → Accepts s e
 zero-accepts s e z = by-result (step s e) refl
@@ -64,7 +65,7 @@ zero-accepts s e z = by-result (step s e) refl
 -- 17 is given where no other ground applies, and it does
 pub clear-ends : (s : State) (e : Event) → Clear s e → pairAtEnd (s .sent) (reactionTo s e .outgoing) ≡ true → step s e ≡ refused 17
 unfolding step grounds judged pick
-clear-ends s e c t = rw (c .in-range, c .number, c .task, c .status, c .activity, c .waiting, c .counter, c .calls, c .room, t)
+clear-ends s e c t = rw (c .in-range, c .number, c .task, c .status, c .activity, c .coordinator, c .waiting, c .counter, c .calls, c .room, t)
 
 -- ── the first ground that applies ──
 
@@ -114,9 +115,9 @@ pub refuses-by-ground : RefusesByGround
 refuses-by-ground = record { first = first; first-given = first-given; none = none; none-accepts = none-accepts; numbers = numbers; never-zero = never-zero; zero-accepts = zero-accepts; delivery-never-full = delivery-never-full }
 
 -- so the number of a result is small
-pub result-small : (s : State) (e : Event) → resultNumber (step s e) ≤ 17
+pub result-small : (s : State) (e : Event) → resultNumber (step s e) ≤ 18
 result-small s e = by (step s e) refl
   where
-    by : (x : Result) → step s e ≡ x → resultNumber x ≤ 17
-    by (refused r) q = ⊎-elim (λ h. omega arith) (λ h. ⊎-elim (λ y. omega (arith, y .1)) (λ y. omega arith) h) (numbers s e r q)
+    by : (x : Result) → step s e ≡ x → resultNumber x ≤ 18
+    by (refused r) q = ⊎-elim (λ h. omega arith) (λ h. ⊎-elim (λ y. omega (arith, y .1)) (λ y. omega (arith, y .1)) h) (numbers s e r q)
     by (accepted u k) q = omega arith

@@ -9,6 +9,7 @@ use lib.Dec.{eqb, ltb}
 use lib.ListN.{length, getD, set, replicate, getD-replicate}
 use lib.Seq.{getD-set-same, getD-set-other}
 use borrow.Author.Tests.{eqb-true, eqb-false, eq-eqb, ne-eqb, not-false}
+use Rattle.model.specs.Pick.{pick}
 use Rattle.model.specs.Limits.{callEnd, trafficEnd}
 use Rattle.model.specs.Counts.{pairPlace, senderAt, receiverAt, countAt, oneMore, total, one}
 use Rattle.model.specs.React.{react}
@@ -17,12 +18,12 @@ use Rattle.model.specs.State.{State, startingNode, start, nodeAt, goes, 
 use Rattle.model.specs.Step.{actor, reactionTo, remaining, sent, withSent, withDelivered, withLost, effect, wrongNumber, noneWaits, isCalling, pairAtEnd, grounds, refused, accepted, step, kept, after, runFrom, run}
 use Rattle.model.specs.Traffic.{sends, delivers, loses, ofAccepted, tally, sendsAny, deliversAny, losesAny, sentIn, deliveredIn, lostIn}
 use Rattle.model.specs.Claims.{TrafficAgrees, TrafficRules}
-use Rattle.model.proofs.Judged.{Clear, by-step, accepted-is}
+use Rattle.model.proofs.Judged.{Clear, by-step, accepted-is, met, ended-clear}
 use Rattle.model.proofs.Local.{both-right}
 use Rattle.model.proofs.Fields.{node-facts, message-facts, Counting, CountFacts, count-facts, every-at, oldest-goes, in-range-size, in-range-places, in-range-each, in-range-node, in-range-sum}
 use Rattle.model.proofs.Range.{OutgoingIn}
 use Rattle.model.proofs.Counts.{none-counted, many-append, many-without, pair-counting}
-use Rattle.model.proofs.InRange.{EventIn, event-in, event-counted, end, past, not-refused, start-in, run-in}
+use Rattle.model.proofs.InRange.{EventIn, event-in, event-counted, start-in, run-in}
 use Rattle.model.proofs.Due.{due, callTo, replyTo, From, callFrom, WithinDue, react-within}
 use Rattle.model.specs.declared.Message.{Message}
 use Rattle.model.specs.declared.Outgoing.{Outgoing}
@@ -310,32 +311,8 @@ module _ (s : State) (e : Event) (c : Clear s e) where
   pair-below w = below (reactionTo s e .outgoing) (x .from) (inside .reaction .outgoing) (c .calls) (λ b. omega (arith, x .answered b)) w
 
 pub within-not-seventeen : (s : State) (e : Event) → SentWithin s → step s e ≡ refused 17 → ⊥
-unfolding step grounds
-within-not-seventeen s e w =
-    not-refused 17 _ _
-    (past (λ z _. omega arith)
-    (λ g1. past (λ z _. omega arith)
-    (λ g7. past (λ z _. omega arith)
-    (λ g8. past (λ z _. omega arith)
-    (λ g9. past (λ z _. omega arith)
-    (λ g10. past (λ z _. omega arith)
-    (λ g11. past (λ z _. omega arith)
-    (λ g12. past (λ z _. omega arith)
-    (λ g13. past (λ z _. omega arith)
-    (λ g14. past (λ _ t. pair-below s e
-    (record {
-      in-range = not-false _ g1;
-      number = g7;
-      task = g8;
-      status = g9;
-      activity = g10;
-      waiting = g11;
-      counter = g12;
-      calls = g13;
-      room = g14;
-    })
-    w t)
-    (λ _. end)))))))))))
+unfolding grounds pick
+within-not-seventeen s e w q = pair-below s e (ended-clear s e q) w (met s e 17 refl q)
 
 -- ── runs ──
 pub run-within : (s : State) (es : List Event) → SentWithin s → SentWithin (runFrom s es)

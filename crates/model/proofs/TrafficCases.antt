@@ -18,7 +18,7 @@ use Rattle.model.specs.Procedures.{inviteNext, merges, handNext, finishe
 use Rattle.model.specs.React.{checked, timedOut, ticked, expired, resumed, onAreYouCoordinator, onAreYouThere, onInvitation, onAccept, onReady, onReply, received, react}
 use Rattle.model.specs.Range.{activityInRange, nodeInRange, messageInRange, isNode, isPair, countInRange}
 use Rattle.model.specs.State.{State, startingNode, allWaiting, waits, oldest, withoutOldest, howMany, waiting, countsOf, every, upTo, addsUp, baseInRange, countsInRange, trafficInRange, inRange}
-use Rattle.model.specs.Step.{reactionTo, remaining, effect, wrongNumber, wrongTask, wrongStatus, wrongActivity, noneWaits, Ground, ground, grounds, Result, refused, accepted, judged, step, kept, after}
+use Rattle.model.specs.Step.{reactionTo, remaining, effect, wrongNumber, wrongTask, wrongStatus, wrongActivity, notCoordinator, noneWaits, Ground, ground, grounds, Result, refused, accepted, judged, step, kept, after}
 use Rattle.model.specs.Cases.{k10, past, only, withCounts, someWait, among, TrafficCases}
 use Rattle.model.proofs.Fields.{parts, Counting, node-is, other-is, in-range-size, in-range-places, in-range-each, in-range-sum}
 use Rattle.model.proofs.Counts.{same-pair, upTo-all, pair-counting, is-count}
@@ -161,7 +161,7 @@ among-agree f g [] h = refl
 among-agree f g (x ∷ l) h = ap (λ (t : Bool). pick t (x ∷ among f l) (among f l)) (h .0) ∙ ap (λ (k : List ℕ). pick (g x) (x ∷ k) k) (among-agree f g l (h .1))
 
 pub traffic-cases : TrafficCases
-unfolding pick onesIn ones leadingZeros bitAnd bitOr inviteNext merges handNext finishes forwardNext askedAll askAt askAfter checked timedOut ticked expired resumed onAreYouCoordinator onAreYouThere onInvitation onAccept onReady onReply received react activityInRange nodeInRange messageInRange countInRange countsOf howMany upTo countsInRange waits oldest withoutOldest every reactionTo remaining effect wrongNumber wrongTask wrongStatus wrongActivity noneWaits grounds judged
+unfolding pick onesIn ones leadingZeros bitAnd bitOr inviteNext merges handNext finishes forwardNext askedAll askAt askAfter checked timedOut ticked expired resumed onAreYouCoordinator onAreYouThere onInvitation onAccept onReady onReply received react activityInRange nodeInRange messageInRange countInRange countsOf howMany upTo countsInRange waits oldest withoutOldest every reactionTo remaining effect wrongNumber wrongTask wrongStatus wrongActivity notCoordinator noneWaits grounds judged
 traffic-cases =
     record {
       k10-sent = ap (λ (s : State). countAt (s .sent) 1 2 ∷ countAt (s .sent) 2 1 ∷ []) (two-counting k10 (omega arith));
@@ -172,6 +172,7 @@ traffic-cases =
       at-end-waiting = after-many _ _ _ 2 1 33554429 0 _ refl refl refl;
       at-end-reply = after-many _ _ _ 2 1 33554430 0 _ refl refl refl;
       other-pair = after-many _ _ _ 1 2 33554430 0 _ refl refl refl;
+      member-at-end = after-many _ _ _ 2 1 33554430 0 _ refl refl refl;
       nothing-sent = after-many _ _ _ 2 1 33554430 0 _ refl refl refl;
       lose-at-end = after-many _ _ _ 2 1 33554429 0 _ refl refl refl;
       deliver-at-end = after-many _ _ _ 2 1 33554429 0 _ refl refl refl;

@@ -38,15 +38,15 @@ use Rattle.model.specs.declared.Event.{Event}
 use Rattle.model.specs.declared.Event.the-variants.{Crash, Recover, Check, Timeout, Tick, Expire, Finish, Deliver, Lose}
 
 -- ── lists of messages ──
-abbrev All : (Message → Type 0) → List Message → Type 0
+abbrev pub All : (Message → Type 0) → List Message → Type 0
 All P [] = Unit {0}
 All P (m ∷ ms) = P m × All P ms
 
-all-map : {P Q : Message → Type 0} → ((m : Message) → P m → Q m) → (q : List Message) → All P q → All Q q
+pub all-map : {P Q : Message → Type 0} → ((m : Message) → P m → Q m) → (q : List Message) → All P q → All Q q
 all-map f [] h = tt
 all-map f (m ∷ ms) h = (f m (h .0), all-map f ms (h .1))
 
-all-append : (P : Message → Type 0) (q r : List Message) → All P q → All P r → All P (q ++ r)
+pub all-append : (P : Message → Type 0) (q r : List Message) → All P q → All P r → All P (q ++ r)
 all-append P [] r h k = k
 all-append P (m ∷ ms) r h k = (h .0, all-append P ms r (h .1) k)
 
@@ -55,7 +55,7 @@ unfolding oldest
 all-oldest P a b [] n h = n
 all-oldest P a b (m ∷ ms) n h = by-test P (λ _. h .0) (λ _. all-oldest P a b ms n (h .1))
 
-all-without : (P : Message → Type 0) (a b : ℕ) (q : List Message) → All P q → All P (withoutOldest a b q)
+pub all-without : (P : Message → Type 0) (a b : ℕ) (q : List Message) → All P q → All P (withoutOldest a b q)
 unfolding withoutOldest
 all-without P a b [] h = tt
 all-without P a b (m ∷ ms) h = by-test (All P) (λ _. h .1) (λ _. (h .0, all-without P a b ms (h .1)))

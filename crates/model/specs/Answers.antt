@@ -4,7 +4,7 @@ use Rattle.model.specs.Step.{Result, refused, accepted}
 use Rattle.model.specs.declared.Status.{Status}
 use Rattle.model.specs.declared.Status.the-variants.{Down, Election, Reorganization, Normal}
 use Rattle.model.specs.declared.Answer.{Answer}
-use Rattle.model.specs.declared.Answer.the-variants.{Accepted, NotInRange, WrongNumber, WrongTask, WrongStatus, WrongActivity, NoMessage, CounterAtEnd, CallsAtEnd, QueueFull, SentAtEnd}
+use Rattle.model.specs.declared.Answer.the-variants.{Accepted, NotInRange, WrongNumber, WrongTask, WrongStatus, WrongActivity, NotCoordinator, NoMessage, CounterAtEnd, CallsAtEnd, QueueFull, SentAtEnd}
 
 -- "status: 0 Down, 1 Election, 2 Reorganization, 3 Normal"
 abbrev pub statusNumber : Status → ℕ
@@ -21,6 +21,7 @@ answerNumber WrongNumber = 7
 answerNumber WrongTask = 8
 answerNumber WrongStatus = 9
 answerNumber WrongActivity = 10
+answerNumber NotCoordinator = 18
 answerNumber NoMessage = 11
 answerNumber CounterAtEnd = 12
 answerNumber CallsAtEnd = 13

@@ -1,5 +1,5 @@
 -- "Named cases": what is claimed of K1 to K13, jointly, over the definitions. Where 01 names one side of a rule, the other side stands beside it. "Wrong
--- turnings in this protocol" follow, then further cases, those of 02's T-03, T-04 and T-05, and the ends of what is in range. The tables are in range where nothing else is said;
+-- turnings in this protocol" follow, then further cases, those of 02's T-03 to T-06, and the ends of what is in range. The tables are in range where nothing else is said;
 -- not each of them is one that a run reaches.
 use Prim.Native.Nat.{ℕ, _+_}
 use mathlib.Core.Bool.{Bool, true, false}
@@ -26,7 +26,7 @@ use Rattle.model.specs.declared.CallNo.{CallNo}
 use Rattle.model.specs.declared.GroupNo.{GroupNo}
 use Rattle.model.specs.declared.Message.{Message}
 use Rattle.model.specs.declared.Mark.the-variants.{Plain, Recovers, Merges}
-use Rattle.model.specs.declared.Answer.the-variants.{SentAtEnd}
+use Rattle.model.specs.declared.Answer.the-variants.{NotCoordinator, SentAtEnd}
 use Rattle.model.specs.declared.Event.{Event}
 use Rattle.model.specs.declared.Event.the-variants.{Crash, Recover, Check, Timeout, Tick, Expire, Finish, Deliver, Lose}
 
@@ -234,9 +234,9 @@ pub record NamedCases : Type 0 where
   -- "K11 with 64 waiting, a check that must ask: 14; a delivery passes."
   pub k11-refused : step (pair Normal none Idle (queued 64)) (Check 1) ≡ refused 14
   pub k11-passes : countsAside (after (pair Normal none Idle (queued 64)) (Deliver 2 1)) ≡ pair Normal none Idle (queued 63 ++ (replies 1 2 (callNo 1) true ∷ []))
-  -- with 63 waiting it asks; with 64, a check that need not ask passes
+  -- with 63 waiting it asks; with 64, a check that must not ask meets 18 (T-06)
   pub k11-room : after (pair Normal none Idle (queued 63)) (Check 1) .queue ≡ queued 63 ++ (asks 1 2 (callNo 4) ∷ [])
-  pub k11-silent : aside (step (pair Reorganization none Idle (queued 64)) (Check 2)) ≡ accepted (pair Reorganization none Idle (queued 64)) Plain
+  pub k11-turned-away : step (pair Reorganization none Idle (queued 64)) (Check 2) ≡ refused 18
   -- "K12 Accept reaching its group's owner in Reorganization: members unchanged."
   pub k12 : countsAside (after (pair Reorganization none Collecting (accept 33)) (Deliver 1 2)) ≡ pair Reorganization none Collecting plain
   -- in Election the sender joins
@@ -410,9 +410,6 @@ pub record FurtherCases : Type 0 where
   pub lost-down : aside (step (pair Down none Idle question) (Lose 1 2)) ≡ accepted (pair Down none Idle []) Plain
   -- deliver: also where the sender is Down
   pub delivered-from-down : aside (step (pair Down none Idle (queued 1)) (Deliver 2 1)) ≡ accepted (pair Down none Idle (replies 1 2 (callNo 1) true ∷ [])) Plain
-  -- "check i: .. Otherwise, or with n = 1, nothing changes": by a Normal member, and with n = 1
-  pub check-led : aside (step (beside (follower Normal 32 100 none 2 Idle) []) (Check 2)) ≡ accepted (beside (follower Normal 32 100 none 2 Idle) []) Plain
-  pub check-one : aside (step (run 1 (Recover 1 ∷ [])) (Check 1)) ≡ accepted (countsAside (run 1 (Recover 1 ∷ []))) Plain
   -- "timeout i: if its own coordinator, nothing changes. Else it calls AreYouThere on its coordinator, with its group.", whatever its status
   pub timeout-own : aside (step (pair Normal (setOf (1 ∷ [])) Idle []) (Timeout 2)) ≡ accepted (pair Normal (setOf (1 ∷ [])) Idle []) Plain
   pub timeout-own-reorganizing : aside (step (pair Reorganization (setOf (1 ∷ [])) Idle []) (Timeout 2)) ≡ accepted (pair Reorganization (setOf (1 ∷ [])) Idle []) Plain
@@ -801,6 +798,7 @@ pub record TrafficCases : Type 0 where
   -- the counts of the other pairs do not matter, nor does this one where nothing is sent
   pub other-pair : step (past 1 2 33554430 0 (pair Normal none Idle [])) (Check 2)
       ≡ accepted (past 1 2 33554430 0 (beside (node Normal 2 33 2 100 none 3 (Asking 1 none)) (asks 2 1 (callNo 3) ∷ []))) Plain
+  pub member-at-end : step (past 2 1 33554430 0 (beside (follower Normal 32 100 none 2 Idle) [])) (Check 2) ≡ refused 18
   pub nothing-sent : step (past 2 1 33554430 0 (pair Normal none Idle [])) (Crash 2) ≡ accepted (past 2 1 33554430 0 (pair Down none Idle [])) Plain
   pub lose-at-end : step (past 2 1 33554429 0 (pair Down none Idle (queued 1))) (Lose 2 1) ≡ accepted (past 2 1 33554429 1 (pair Down none Idle [])) Plain
   -- nor the count of what is delivered, whose reply goes the other way
@@ -847,6 +845,64 @@ pub record TrafficCases : Type 0 where
   pub number : answerNumber SentAtEnd ≡ 17
   -- a row for each sender: from 1 to 2, 2 to 1, 16 to 15 and 16 to 16
   pub rows : pairPlace 1 2 ∷ pairPlace 2 1 ∷ pairPlace 16 15 ∷ pairPlace 16 16 ∷ [] ≡ 1 ∷ 16 ∷ 254 ∷ 255 ∷ []
+
+-- ── 02, T-06: checks only by a coordinator. Node 2 of two, which leads its group 33 or follows node 1 ──
+
+-- K10 up to where node 1 has accepted: it is in Reorganization, and idle
+abbrev pub acceptedInvitation : List Event
+acceptedInvitation = Recover 1 ∷ Recover 2 ∷ Check 2 ∷ Deliver 2 1 ∷ Deliver 1 2 ∷ Deliver 2 1 ∷ Deliver 1 2 ∷ Deliver 2 1 ∷ []
+
+-- one node alone, its own coordinator
+abbrev pub onlyOne : Status → State
+onlyOne s = allWaiting 1 (filled s 16 1 100 none 0 Idle ∷ []) []
+
+pub record CheckCases : Type 0 where
+  -- "A check shall be turned away unless the cabinet is Normal and its own coordinator.": it is both, and asks, with members or without
+  pub normal-own : aside (step (pair Normal none Idle []) (Check 2)) ≡ accepted (beside (node Normal 2 33 2 100 none 3 (Asking 1 none)) (asks 2 1 (callNo 3) ∷ [])) Plain
+  pub with-member : aside (step (pair Normal (setOf (1 ∷ [])) Idle []) (Check 2))
+      ≡ accepted (beside (node Normal 2 33 2 100 (setOf (1 ∷ [])) 3 (Asking 1 none)) (asks 2 1 (callNo 3) ∷ [])) Plain
+  -- "18, check at a cabinet that is not Normal": in Election, in Reorganization
+  pub election-own : step (pair Election none Idle []) (Check 2) ≡ refused 18
+  pub reorganization-own : step (pair Reorganization none Idle []) (Check 2) ≡ refused 18
+  -- "or not its own coordinator": a member
+  pub member : step (beside (follower Normal 32 100 none 2 Idle) []) (Check 2) ≡ refused 18
+  -- neither
+  pub election-member : step (beside (follower Election 32 100 none 2 Idle) []) (Check 2) ≡ refused 18
+  pub reorganization-member : step (beside (follower Reorganization 32 100 none 2 Idle) []) (Check 2) ≡ refused 18
+  -- "With n = 1 such a check still passes without effect.": such a check
+  pub one : step (run 1 (Recover 1 ∷ [])) (Check 1) ≡ accepted (run 1 (Recover 1 ∷ [])) Plain
+  pub one-normal : aside (step (onlyOne Normal) (Check 1)) ≡ accepted (onlyOne Normal) Plain
+  pub one-election : step (onlyOne Election) (Check 1) ≡ refused 18
+  pub one-reorganization : step (onlyOne Reorganization) (Check 1) ≡ refused 18
+  pub one-down : step (onlyOne Down) (Check 1) ≡ refused 9
+  -- "in the state place directly after 10", so 1, 7, 9 and 10 come first: a table that is not in range, no such node
+  pub range-first : step (beside (follower Normal 33 100 none 2 Idle) []) (Check 2) ≡ refused 1
+  pub number-first : step (beside (follower Normal 32 100 none 2 Idle) []) (Check 3) ≡ refused 7
+  -- a Down one: its own coordinator, led by another
+  pub down-own : step (pair Down none Idle []) (Check 2) ≡ refused 9
+  pub down-member : step (beside (follower Down 32 100 none 2 Idle) []) (Check 2) ≡ refused 9
+  -- a busy one that is not Normal, by each activity that one can have; a busy member; and one that is Normal and its own coordinator
+  pub busy-inviting : step (pair Election none (Inviting none none 1) []) (Check 2) ≡ refused 10
+  pub busy-collecting : step (pair Election none Collecting []) (Check 2) ≡ refused 10
+  pub busy-handing : step (pair Reorganization none (Handing none 1) []) (Check 2) ≡ refused 10
+  pub busy-forwarding : step (beside (follower Election 16 100 none 2 (Forwarding none 1 1 (callNo 3))) []) (Check 2) ≡ refused 10
+  pub busy-accepting : step (beside (follower Election 16 100 none 2 (Accepting 1 (callNo 3))) []) (Check 2) ≡ refused 10
+  pub busy-reorganization : step (beside (follower Reorganization 32 100 none 2 Contacting) []) (Check 2) ≡ refused 10
+  pub busy-member : step (beside (follower Normal 32 100 none 2 Contacting) []) (Check 2) ≡ refused 10
+  pub busy-asking : step (pair Normal none (Asking 1 none) []) (Check 2) ≡ refused 10
+  pub busy-waiting : step (pair Normal none (Waiting 1 (setOf (1 ∷ []))) []) (Check 2) ≡ refused 10
+  -- and before the ends of the ranges (17: TrafficCases.member-at-end): the last call number, 64 waiting
+  pub calls-end : step (beside (follower Normal 32 100 none 16777215 Idle) []) (Check 2) ≡ refused 18
+  pub full : step (beside (follower Normal 32 100 none 2 Idle) (queued 64)) (Check 2) ≡ refused 18
+  -- of a run: K10's node 1 has accepted, in nine events; it has its task; node 2 checks again
+  pub run-accepted : step (run 2 acceptedInvitation) (Check 1) ≡ refused 18
+  pub run-member : step (run 2 k10) (Check 1) ≡ refused 18
+  pub run-collecting : step (run 2 collecting) (Check 2) ≡ refused 10
+  pub run-coordinator : nodeAt (after (run 2 k10) (Check 2)) 2 .activity ≡ Asking 1 none
+  -- "it skips the event": what follows it is done as if it were not there
+  pub skipped : run 2 (k10 ++ (Check 1 ∷ Check 2 ∷ [])) ≡ run 2 (k10 ++ (Check 2 ∷ []))
+  -- its number
+  pub number : answerNumber NotCoordinator ≡ 18
 
 -- ── records, messages and tables at the ends of what is in range, and just outside: node 2 of three, and messages among three ──
 

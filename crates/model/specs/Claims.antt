@@ -1,18 +1,19 @@
 -- What is claimed of the definitions. The proofs are in proofs/.
 use Prim.Native.Nat.{ℕ, _+_, _-_, _^_, _≤_, _<_}
-use mathlib.Core.Bool.{Bool, true, false, not}
+use mathlib.Core.Bool.{Bool, true, false, not, _&&_, _||_}
 use mathlib.Core.Path.{_≡_}
 use mathlib.Core.Logic.{_⊎_}
 use mathlib.Core.List.{List, [], _∷_, _++_}
-use lib.Dec.{eqb}
+use lib.Dec.{eqb, ltb}
 use lib.ListN.{length, getD, set}
 use Rattle.node_set.specs.NodeSet.{has, without}
-use Rattle.model.specs.Limits.{nodeLimit, counterEnd, callEnd, trafficEnd}
+use Rattle.model.specs.Pick.{pick}
+use Rattle.model.specs.Limits.{nodeLimit, queueLimit, counterEnd, callEnd, trafficEnd}
 use Rattle.model.specs.Counts.{pairPlace, senderAt, receiverAt, countAt, oneMore, total}
-use Rattle.model.specs.Node.{isDown, isNormal, groupOf, ownerOf, nextCall, calls, replies}
+use Rattle.model.specs.Node.{isDown, isNormal, isIdle, groupOf, ownerOf, nextCall, asks, calls, replies}
 use Rattle.model.specs.Recovery.{withStatus, withCounter, withGroup, withCoordinator, withMembers, withTask, recoveryRecords, stopped, recovered}
 use Rattle.model.specs.Procedures.{next, inviteNext, handNext, forwardNext}
-use Rattle.model.specs.React.{leads, checked, expired, resumed}
+use Rattle.model.specs.React.{checked, expired, resumed}
 use Rattle.model.specs.Range.{isNode, isPair, carriesGroup}
 use Rattle.model.specs.State.{State, startingNode, start, nodeAt, goes, waits, oldest, withoutOldest, waiting, countsAside, inRange}
 use Rattle.model.specs.Step.{actor, reactionTo, remaining, sent, withSent, withDelivered, withLost, effect, forms, Ground, ground, grounds, Result, refused, accepted, judged, step, aside, after, run}
@@ -223,8 +224,8 @@ pub record RefusesByGround : Type 0 where
   -- and an event is accepted exactly where none applies
   pub none : (s : State) (e : Event) (u : State) (k : Mark) → step s e ≡ accepted u k → NoneApplies (grounds s e)
   pub none-accepts : (s : State) (e : Event) → NoneApplies (grounds s e) → Accepts s e
-  -- a refusal's number is that of a ground of events: 1, 7 to 14, or 17
-  pub numbers : (s : State) (e : Event) (r : ℕ) → step s e ≡ refused r → (r ≡ 1) ⊎ (((7 ≤ r) × (r ≤ 14)) ⊎ (r ≡ 17))
+  -- a refusal's number is that of a ground of events: 1, 7 to 14, 17 or 18
+  pub numbers : (s : State) (e : Event) (r : ℕ) → step s e ≡ refused r → (r ≡ 1) ⊎ (((7 ≤ r) × (r ≤ 14)) ⊎ ((17 ≤ r) × (r ≤ 18)))
   -- so none has number 0, and a result of number 0 is an accepted event
   pub never-zero : (s : State) (e : Event) → step s e ≡ refused 0 → ⊥
   pub zero-accepts : (s : State) (e : Event) → resultNumber (step s e) ≡ 0 → Accepts s e
@@ -270,6 +271,8 @@ pub record ChangesLittle (s : State) (e : Event) (u : State) : Type 0 where
 
 pub record StepIsLocal : Type 0 where
   pub refused-nothing : (s : State) (e : Event) (r : ℕ) → step s e ≡ refused r → after s e ≡ s
+  -- 01: "7 to 14 skip the event", 02, T-06: "Like 17 and any later ground of an event, it skips the event.": a run goes on as if a refused event were not in its list
+  pub refused-skips : (n : ℕ) (es : List Event) (e : Event) (fs : List Event) (r : ℕ) → step (run n es) e ≡ refused r → run n (es ++ (e ∷ fs)) ≡ run n (es ++ fs)
   pub accepted-little : (s : State) (e : Event) (u : State) (k : Mark) → step s e ≡ accepted u k → ChangesLittle s e u
 
 -- ── 02, T-02: higher numbers first ──
@@ -354,7 +357,7 @@ pub record CallOrder : Type 0 where
   pub hands : (i : ℕ) (c : Node) (rest : ℕ) → 0 < rest → rest < 2 ^ 16 → SendsHighest rest (handNext i c rest .outgoing)
   -- "Asking still goes from 1 up.": of the others that are left, the lowest is asked; at a check all are left, and then those above the one that was asked, whether
   -- its call expires or is answered
-  pub asks-first : (n i : ℕ) (c : Node) (k : ℕ) → leads i c ≡ true → 1 < n → 1 ≤ k → k ≤ n → (k ≡ i → ⊥) → SendsUpward i 0 k (checked n i c .outgoing)
+  pub asks-first : (n i : ℕ) (c : Node) (k : ℕ) → 1 < n → 1 ≤ k → k ≤ n → (k ≡ i → ⊥) → SendsUpward i 0 k (checked n i c .outgoing)
   pub asks-expired : (n i : ℕ) (c : Node) (asked found k : ℕ) → asked < k → k ≤ n → (k ≡ i → ⊥) → SendsUpward i asked k (expired n i c (Asking asked found) .outgoing)
   pub asks-answered : (n i : ℕ) (c : Node) (y : Bool) (asked found k : ℕ) → asked < k → k ≤ n → (k ≡ i → ⊥)
       → SendsUpward i asked k (resumed n i c y (Asking asked found) .outgoing)
@@ -568,3 +571,78 @@ pub record RecoveryRules : Type 0 where
   -- and the same of every recovery, of the stopped node
   pub every-recovery : (s : State) (e : Event) (u : State) → step s e ≡ accepted u Recovers
       → recordAfter 8 (recoveryRecords (actor e) (stopped (nodeAt s (actor e)))) ≡ nodeAt u (actor e)
+
+-- ── 02, T-06: checks only by a coordinator ──
+
+-- the other node that node i asks first: "it asks every other cabinet in turn", from 1 up
+abbrev pub firstOther : ℕ → ℕ
+firstOther i = pick (eqb i 1) 2 1
+
+-- the grounds that check i can meet, in the order of the table of grounds
+abbrev pub checkGrounds : State → ℕ → List Ground
+checkGrounds s i =
+    -- "not in range"
+    ground 1 (not (inRange s))
+    -- "cabinet outside 1 to n"
+    ∷ ground 7 (not (isNode (s .n) i))
+    -- "all others but lose: cabinet .. Down"
+    ∷ ground 9 (isDown (nodeAt s i .status))
+    -- "check, timeout: not idle"
+    ∷ ground 10 (not (isIdle (nodeAt s i .activity)))
+    -- 02: "check at a cabinet that is not Normal or not its own coordinator, in the state place directly after 10"
+    ∷ ground 18 (not (isNormal (nodeAt s i .status)) || not (eqb (nodeAt s i .coordinator) i))
+    -- a call and a message are needed, but not with n = 1: "a call is needed, last call number 16,777,215"
+    ∷ ground 13 (ltb 1 (s .n) && eqb (nodeAt s i .last .number) callEnd)
+    -- "a message is needed with 64 waiting"
+    ∷ ground 14 (ltb 1 (s .n) && eqb (length (s .queue)) queueLimit)
+    -- T-05: "a message must be sent and its pair's sent count is 33,554,430"
+    ∷ ground 17 (ltb 1 (s .n) && eqb (countAt (s .sent) i (firstOther i)) trafficEnd)
+    ∷ []
+
+-- "it asks every other cabinet in turn with kind 1": node i asks the first, in a new call, and has found none yet; the question is behind the other messages, and counted
+abbrev pub withQuestion : State → ℕ → State
+withQuestion s i = record {
+  n = s .n;
+  nodes = set (s .nodes) (i - 1)
+      (record {
+        status = nodeAt s i .status;
+        counter = nodeAt s i .counter;
+        group = nodeAt s i .group;
+        coordinator = nodeAt s i .coordinator;
+        task = nodeAt s i .task;
+        members = nodeAt s i .members;
+        last = nextCall (nodeAt s i);
+        activity = Asking (firstOther i) 0;
+      });
+  queue = s .queue ++ (asks i (firstOther i) (nextCall (nodeAt s i)) ∷ []);
+  sent = oneMore (s .sent) i (firstOther i);
+  delivered = s .delivered;
+  lost = s .lost;
+}
+
+-- what check i leaves where it is accepted: "With n = 1 such a check still passes without effect."
+abbrev pub withCheck : State → ℕ → State
+withCheck s i = pick (ltb 1 (s .n)) (withQuestion s i) s
+
+-- check i is at the right place but for 18: the table is in range, and i is a node that is not Down and is idle
+pub record ReachesIdle (s : State) (i : ℕ) : Type 0 where
+  pub in-range : inRange s ≡ true
+  pub number : isNode (s .n) i ≡ true
+  pub not-down : isDown (nodeAt s i .status) ≡ false
+  pub idle : isIdle (nodeAt s i .activity) ≡ true
+
+-- Every check, on every table.
+pub record CheckRules : Type 0 where
+  -- all of check i as one equation: it is refused by these grounds, in this order, and by nothing else; and what it leaves
+  pub checks : (s : State) (i : ℕ) → step s (Check i) ≡ judged (accepted (withCheck s i) Plain) (checkGrounds s i)
+  -- "A check shall be turned away unless the cabinet is Normal and its own coordinator."
+  pub not-normal : (s : State) (i : ℕ) → ReachesIdle s i → (nodeAt s i .status ≡ Normal → ⊥) → step s (Check i) ≡ refused 18
+  pub not-own : (s : State) (i : ℕ) → ReachesIdle s i → (nodeAt s i .coordinator ≡ i → ⊥) → step s (Check i) ≡ refused 18
+  pub passes : (s : State) (i : ℕ) (u : State) (k : Mark) → step s (Check i) ≡ accepted u k → (nodeAt s i .status ≡ Normal) × (nodeAt s i .coordinator ≡ i)
+  -- "With n = 1 such a check still passes without effect."
+  pub one : (s : State) (i : ℕ) → ReachesIdle s i → s .n ≡ 1 → nodeAt s i .status ≡ Normal → nodeAt s i .coordinator ≡ i → step s (Check i) ≡ accepted s Plain
+  -- "Checks: 18, check at a cabinet that is not Normal or not its own coordinator": no other event meets it, and no other check
+  pub eighteen : (s : State) (e : Event) → step s e ≡ refused 18
+      → (e ≡ Check (actor e)) × ReachesIdle s (actor e) × ((nodeAt s (actor e) .status ≡ Normal → ⊥) ⊎ (nodeAt s (actor e) .coordinator ≡ actor e → ⊥))
+  -- "The lists of T-01 are too short to meet this": they have at most seven events, and none of the first seven of a run meets it
+  pub not-early : (n : ℕ) (es : List Event) (e : Event) → length es ≤ 6 → step (run n es) e ≡ refused 18 → ⊥

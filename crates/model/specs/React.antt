@@ -1,5 +1,5 @@
 -- The local step of one node: what it does with an event, and on delivery. It sees the number of nodes, its own number, its own record and the input.
--- Where Step refuses an event by its numbers, the node's status or activity, or for want of a message (7 to 11), what is written here does not matter.
+-- Where Step refuses an event by its numbers, by the node's record, or for want of a message (7 to 11, 18), what is written here does not matter.
 -- Grounds 12 to 14 are read off what is written here.
 use Prim.Native.Nat.{ℕ, _-_}
 use mathlib.Core.Bool.{Bool, true, not, _&&_, _||_}
@@ -28,9 +28,10 @@ use Rattle.model.specs.declared.Input.the-variants.{Crash, Recover, Chec
 abbrev pub leads : ℕ → Node → Bool
 leads i c = isNormal (c .status) && eqb (c .coordinator) i
 
--- "check i: if Normal and its own coordinator, it asks every other cabinet in turn with kind 1. Otherwise, or with n = 1, nothing changes."
+-- "check i: .. it asks every other cabinet in turn with kind 1. .. with n = 1, nothing changes." Since T-06 a check is refused unless the node leads: ground 18 of Step
+-- stands for 01's "if Normal and its own coordinator" and for its "Otherwise .. nothing changes".
 unfoldable pub checked : ℕ → ℕ → Node → Reaction
-checked n i c = pick (leads i c && ltb 1 n) (askAfter n i c 0 0) (stays c)
+checked n i c = pick (ltb 1 n) (askAfter n i c 0 0) (stays c)
 
 -- "timeout i: if its own coordinator, nothing changes. Else it calls AreYouThere on its coordinator, with its group."
 unfoldable pub timedOut : ℕ → Node → Reaction

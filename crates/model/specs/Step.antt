@@ -9,11 +9,12 @@ use Rattle.model.specs.Limits.{queueLimit, counterEnd, callEnd, trafficE
 use Rattle.model.specs.Counts.{countAt, oneMore}
 use Rattle.model.specs.Node.{isDown, isIdle, isWaiting, isCollecting, hasOpenCall}
 use Rattle.model.specs.Procedures.{stays}
-use Rattle.model.specs.React.{react}
+use Rattle.model.specs.React.{leads, react}
 use Rattle.model.specs.Range.{isNode, isPair, isGivenTask}
 use Rattle.model.specs.State.{State, start, nodeAt, waits, oldest, withoutOldest, countsAside, inRange}
 use Rattle.model.specs.declared.Status.{Status}
 use Rattle.model.specs.declared.Activity.{Activity}
+use Rattle.model.specs.declared.Node.{Node}
 use Rattle.model.specs.declared.Message.{Message}
 use Rattle.model.specs.declared.Outgoing.{Outgoing}
 use Rattle.model.specs.declared.Outgoing.the-variants.{Nothing, Send}
@@ -157,6 +158,18 @@ wrongActivity a (Finish i t) = not (isCollecting a)
 wrongActivity a (Deliver x y) = false
 wrongActivity a (Lose x y) = false
 
+-- 18: "check at a cabinet that is not Normal or not its own coordinator", by the record of the event's node
+abbrev pub notCoordinator : Node → Event → Bool
+notCoordinator c (Crash i) = false
+notCoordinator c (Recover i) = false
+notCoordinator c (Check i) = not (leads i c)
+notCoordinator c (Timeout i) = false
+notCoordinator c (Tick i) = false
+notCoordinator c (Expire i) = false
+notCoordinator c (Finish i t) = false
+notCoordinator c (Deliver a b) = false
+notCoordinator c (Lose a b) = false
+
 -- 11: "deliver, lose: no message from a to b"
 abbrev pub noneWaits : List Message → Event → Bool
 noneWaits q (Crash i) = false
@@ -198,7 +211,7 @@ pub record Ground : Type 0 where
 abbrev pub ground : ℕ → Bool → Ground
 ground r b = record { number = r; applies = b }
 
--- the table of grounds of an event, in 01's order, and 02's 17; 2 to 6 are the list's, 15 is the listing's and 16 that of T-01's program
+-- the table of grounds of an event, in 01's order, with 02's 17 and 18 in their places; 2 to 6 are the list's, 15 is the listing's and 16 that of T-01's program
 unfoldable pub grounds : State → Event → List Ground
 grounds s e =
     -- "table handed in": "not in range"
@@ -209,6 +222,8 @@ grounds s e =
     -- "state"
     ∷ ground 9 (wrongStatus (nodeAt s (actor e) .status) e)
     ∷ ground 10 (wrongActivity (nodeAt s (actor e) .activity) e)
+    -- T-06: "in the state place directly after 10"
+    ∷ ground 18 (notCoordinator (nodeAt s (actor e)) e)
     ∷ ground 11 (noneWaits (s .queue) e)
     -- "ends of ranges"
     ∷ ground 12 (forms (reactionTo s e .mark) && eqb (nodeAt s (actor e) .counter) counterEnd)

@@ -153,6 +153,7 @@ pub enum Answer {
     WrongTask,
     WrongStatus,
     WrongActivity,
+    NotCoordinator,
     NoMessage,
     CounterAtEnd,
     CallsAtEnd,

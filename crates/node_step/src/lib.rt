@@ -44,7 +44,7 @@ pub use step::forms;
 pub use step::is_calling;
 pub use step::is_sending;
 
-fn leads(i: u8, c: Node) -> bool
+pub fn leads(i: u8, c: Node) -> bool
     ensures { λ r. ⌜ r ≡ spec.leads i c ⌝ }
 {
     let status = c.status;
@@ -55,7 +55,7 @@ fn checked(n: u8, i: u8, c: Node) -> Reaction
     requires { ⌜ Fits i c ⌝ }
     ensures { λ r. ⌜ r ≡ spec.checked n i c ⌝ }
 {
-    if leads(i, c) & (1 < n) {
+    if 1 < n {
         return procedures::ask_after(n, i, c, 0, 0);
     }
     procedures::stays(c)

@@ -1,5 +1,6 @@
 -- `checked` meets its contract: by the test, what the callees ensure.
 use borrow.Author.Needs.{needs}
+use borrow.Author.Tests.{lt-ltb, le-ltb}
 use Rattle.model.specs.Pick.{pick}
 use Rattle.model.specs.React.{checked}
 use Rattle.node_step.proofs.checked.Statement.{statement}
@@ -10,8 +11,7 @@ unfolding checked pick
 checked-spec =
     tie.close
     (tie.spec
-    (search needs)
     (λ c κs. search needs)
-    (λ c. simp (← c .before .before .leads .ensures, c .before .if1 .taken, c .ask-after .ensures))
+    (λ c. simp (lt-ltb _ _ (c .before .if1 .taken), c .ask-after .ensures))
     (search needs)
-    (λ c. simp (← c .before .before .leads .ensures, c .before .if1 .left, c .stays .ensures)))
+    (λ c. simp (le-ltb _ _ (c .before .if1 .left), c .stays .ensures)))
