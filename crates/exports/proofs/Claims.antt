@@ -26,14 +26,14 @@ use Rattle.exports.specs.Claims.{StepClaims}
 
 -- ── no number of a refusal is 255 ──
 
-field-small : (s : State) (x : Next) → fieldNumber s x ≤ 17
+field-small : (s : State) (x : Next) → fieldNumber s x < 255
 field-small s Done = omega arith
 field-small s (Stopped TooLong) = omega arith
 field-small s (Stopped CutShort) = omega arith
 field-small s (Stopped WrongTag) = omega arith
 field-small s (Stopped WrongLength) = omega arith
 field-small s (Stopped WrongCount) = omega arith
-field-small s (Got e next) = result-small s e
+field-small s (Got e next) = omega (arith, result-small s e)
 
 -- ── a field that is no event ──
 
