@@ -196,8 +196,16 @@ fn two_tables(library: &Table, own: &Table) -> String {
 /// Prints and folds a list, and compares: the library and this program's machine, and the program
 /// written for speed.
 pub fn list_difference(library: &impl Library, list: &[u8]) -> Option<String> {
-    let text = run_list(list);
-    printed_difference(library, list, &text, text.len() + BEHIND)
+    text_and_fold_difference(library, list, &run_list(list))
+}
+
+/// The same where this program's text is known.
+pub fn text_and_fold_difference(
+    library: &impl Library,
+    list: &[u8],
+    text: &[u8],
+) -> Option<String> {
+    printed_difference(library, list, text, text.len() + BEHIND)
         .or_else(|| fold_difference(library, list))
 }
 

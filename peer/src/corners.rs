@@ -1,8 +1,11 @@
 //! Counts what the compared events met: refusals, kinds delivered, activities, transitions, picks of the
 //! next node and invitations, so that a corner that was never met shows. What document 01 and T-02 and
 //! T-03 of document 02 make possible is written out here, apart from the machine. `recovery_corners.rs`
-//! does the same for the records of a recovery, and `traffic_corners.rs` for the messages counted by pair.
+//! does the same for the records of a recovery, `traffic_corners.rs` for the messages counted by pair, and
+//! `check_corners.rs` for checks.
 
+use crate::check_corners::{CheckBefore, CheckCorners};
+use crate::list::List;
 use crate::machine::{
     only, owner, Activity, Body, Event, Message, Node, Set, Status, Table, MAX_CALL, MAX_MESSAGES,
 };
@@ -161,6 +164,7 @@ fn possible(deed: usize, before: usize) -> &'static [usize] {
     match DEEDS[deed] {
         "crash" => &[IDLE],
         "recover" if before == IDLE => &[IDLE],
+        // With n = 1 nobody is asked.
         "check" if before == IDLE => &[IDLE, ASKING],
         "timeout" if before == IDLE => &[IDLE, CONTACTING],
         // With none found and no members, which no run has, nobody is invited.
@@ -208,23 +212,24 @@ fn refusable(event: usize, number: usize) -> bool {
         // A delivered message is already out, so a delivery never meets it.
         14 => matches!(name, "check" | "timeout" | "tick" | "expire" | "finish"),
         17 => matches!(name, "check" | "timeout" | "tick" | "expire" | "finish" | "deliver"),
+        18 => name == "check",
         _ => false,
     }
 }
 
 /// The places of refusals. At 16, which is no ground of these, all that are none at all are counted.
-const NUMBERS: usize = 18;
+const NUMBERS: usize = 19;
 
 fn number_place(number: u8) -> usize {
     match number {
-        0..=15 | 17 => usize::from(number),
+        0..=15 | 17 | 18 => usize::from(number),
         _ => 16,
     }
 }
 
 /// The grounds that events, lists and lines can meet.
 fn grounds() -> impl Iterator<Item = usize> {
-    (1..=15).chain([17])
+    (1..=15).chain([17, 18])
 }
 
 /// What is remembered of a table for the count of the event that follows.
@@ -234,6 +239,7 @@ pub struct Before {
     /// All of it, where the message is an invitation to the group that its receiver holds.
     held: Option<Table>,
     traffic: TrafficBefore,
+    check: Option<CheckBefore>,
 }
 
 impl Before {
@@ -252,7 +258,8 @@ impl Before {
             }
             _ => None,
         };
-        Before { node, message, held, traffic: TrafficBefore::of(table, &event) }
+        let traffic = TrafficBefore::of(table, &event);
+        Before { node, message, held, traffic, check: CheckBefore::of(table, &event) }
     }
 }
 
@@ -306,6 +313,7 @@ pub struct Corners {
     wrong_invitations: [Count; 4],
     recoveries: RecoveryCorners,
     traffic: TrafficCorners,
+    checks: CheckCorners,
     /// Whom each inviting node has called since it merged, as far as it was seen.
     called: [Set; 16],
 }
@@ -326,6 +334,7 @@ impl Default for Corners {
             wrong_invitations: [[0; 2]; 4],
             recoveries: RecoveryCorners::default(),
             traffic: TrafficCorners::default(),
+            checks: CheckCorners::default(),
             called: [0; 16],
         }
     }
@@ -347,6 +356,9 @@ impl Corners {
         after: &Table,
     ) {
         self.traffic.count(source, &before.traffic, event, answer, after);
+        if let Some(before) = &before.check {
+            self.checks.count(source, before, answer, after);
+        }
         let source = source as usize;
         let place = event_place(event);
         if answer != Err(1) {
@@ -484,6 +496,11 @@ impl Corners {
         self.other_refusals[number_place(number)] += 1;
     }
 
+    /// Counts a list and the text printed for it.
+    pub fn printed(&mut self, list: &List, text: &[u8]) {
+        self.checks.printed(list, text);
+    }
+
     /// Counts the answer on a table with a rule of the range broken in its counts, the one at this place of
     /// `BROKEN`.
     pub fn broken_counts(&mut self, which: usize, answer: Result<(), u8>) {
@@ -527,6 +544,7 @@ impl Corners {
         let named = named.map(|(&name, count)| (name, count)).chain(self.recoveries.corners());
         corners.extend(named.map(|(name, count)| (name.to_string(), count)));
         corners.extend(self.traffic.corners());
+        corners.extend(self.checks.corners());
         corners
     }
 
@@ -555,7 +573,7 @@ impl Corners {
         let picks = WRONG_PICKS.iter().zip(self.wrong_picks);
         let wrong = picks.chain(WRONG_INVITATIONS.iter().zip(self.wrong_invitations));
         let wrong = wrong.map(|(&name, count)| (name, count)).chain(self.recoveries.wrong());
-        let wrong = wrong.chain(self.traffic.wrong());
+        let wrong = wrong.chain(self.traffic.wrong()).chain(self.checks.wrong());
         found.extend(wrong.filter(|&(_, count)| met(count)).map(|(name, _)| name.to_string()));
         found
     }

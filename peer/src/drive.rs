@@ -209,10 +209,23 @@ impl Run {
     }
 }
 
+/// T-06: "A wrongly wired timer sent check events to members": a check at a node that is idle and not its own
+/// coordinator, or in half of them, or where there is none, at any that must not check, a Down or busy one
+/// too. Where all may check it is any node.
+fn wrong_check(table: &Table, numbers: &mut Numbers) -> Event {
+    let ready = Ready::of(table);
+    let all: Set = u16::MAX >> (16 - table.n);
+    let others = all & !ready.check;
+    let sets = [if numbers.one_in(2) { others } else { ready.timeout }, others];
+    let set = sets.into_iter().find(|&set| set != 0).unwrap_or(all);
+    Event::Check(member(set, numbers))
+}
+
 /// A run of so many events from the starting table of n; its manner changes now and then. In half of them
-/// an invitation is slow now and then.
+/// an invitation is slow now and then, and in half a timer is wrongly wired.
 pub fn run(n: u8, length: usize, numbers: &mut Numbers) -> Vec<Event> {
     let slow = numbers.one_in(2);
+    let wrongly_wired = numbers.one_in(2);
     let mut manner = any_manner(numbers);
     let mut run = Run { table: Table::start(n), events: Vec::with_capacity(length) };
     while run.events.len() < length {
@@ -222,11 +235,35 @@ pub fn run(n: u8, length: usize, numbers: &mut Numbers) -> Vec<Event> {
         if slow && numbers.one_in(25) {
             slow_invitation(&mut run, numbers);
         }
+        if wrongly_wired && numbers.one_in(6) {
+            let event = wrong_check(&run.table, numbers);
+            run.go(event);
+        }
         let event = pick(&run.table, &manner, numbers);
         run.go(event);
     }
     run.events.truncate(length);
     run.events
+}
+
+/// A short run of two or three nodes, among which groups form soon, with a wrongly wired timer: checks at
+/// members stand early in it, and often at its end.
+pub fn run_with_wrong_checks(numbers: &mut Numbers) -> (u8, Vec<Event>) {
+    let n = numbers.of(&[2, 2, 3]);
+    let length = numbers.between(10, 160) as usize;
+    let mut run = Run { table: Table::start(n), events: Vec::with_capacity(length + 1) };
+    while run.events.len() < length {
+        let event = match numbers.one_in(4) {
+            true => wrong_check(&run.table, numbers),
+            false => pick(&run.table, &GROUPS, numbers),
+        };
+        run.go(event);
+    }
+    if numbers.one_in(2) {
+        let event = wrong_check(&run.table, numbers);
+        run.go(event);
+    }
+    (n, run.events)
 }
 
 /// A run in one manner whose list is as long as a list may be.

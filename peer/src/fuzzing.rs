@@ -3,17 +3,19 @@
 
 use crate::compare::{
     field_difference, list_difference, printed_difference, recovery_difference, run_difference,
-    tell_list, tell_recovery, tell_run, tell_walk, walk_difference,
+    tell_list, tell_recovery, tell_run, tell_walk, text_and_fold_difference, walk_difference,
 };
-use crate::corners::{Corners, Source};
+use crate::corners::{Before, Corners, Source};
 use crate::damage::{damage, no_event};
-use crate::drive::{any_event, any_manner, any_node, member, pick, run, Ready};
+use crate::drive::{
+    any_event, any_manner, any_node, member, pick, run, run_with_wrong_checks, Ready,
+};
 use crate::list::{first_event, read_list, write_event, write_list, MAX_LIST};
 use crate::machine::{advance, step, Event, Table, MAX_NODES};
 use crate::numbers::Numbers;
 use crate::print::run_list;
 use crate::proved::{Library, RECORDS_BYTES, TABLE_BYTES};
-use crate::tables::{in_range, move_to_ends, scramble, spoil, to_recover};
+use crate::tables::{in_range, move_to_ends, scramble, spoil, to_check, to_recover};
 use crate::traffic_corners::BROKEN;
 use crate::traffic_tables::{break_counts, raise_to_calls, to_send, to_take_last};
 use std::time::{Duration, Instant};
@@ -78,6 +80,13 @@ impl<L: Library> Fuzz<L> {
             }
             for _ in 0..8 {
                 let (table, event) = to_take_last(&mut self.numbers);
+                self.walk(&table, &[event]);
+            }
+            for _ in 0..4 {
+                self.list_with_checks();
+            }
+            for _ in 0..150 {
+                let (table, event) = to_check(&mut self.numbers);
                 self.walk(&table, &[event]);
             }
             for _ in 0..4 {
@@ -204,6 +213,11 @@ impl<L: Library> Fuzz<L> {
     /// A list of any bytes, printed and folded.
     fn list(&mut self, list: &[u8]) {
         self.lists += 1;
+        let text = run_list(list);
+        if text_and_fold_difference(&self.library, list, &text).is_some() {
+            let words = tell_list(list, |list| list_difference(&self.library, list));
+            return self.difference(words);
+        }
         match read_list(list) {
             Err(stop) => self.corners.refusal(stop.number),
             Ok(list) => {
@@ -211,11 +225,8 @@ impl<L: Library> Fuzz<L> {
                 if let Some(stop) = list.stop {
                     self.corners.refusal(stop.number);
                 }
+                self.corners.printed(&list, &text);
             }
-        }
-        if list_difference(&self.library, list).is_some() {
-            let words = tell_list(list, |list| list_difference(&self.library, list));
-            return self.difference(words);
         }
         self.passed += 1;
     }
@@ -255,6 +266,16 @@ impl<L: Library> Fuzz<L> {
         self.list(&list);
         list.truncate(4);
         list[3] = self.numbers.byte();
+        self.list(&list);
+    }
+
+    /// A list with checks that are refused 18, which a field that is no event may stop.
+    fn list_with_checks(&mut self) {
+        let (n, events) = run_with_wrong_checks(&mut self.numbers);
+        let mut list = write_list(n, &events);
+        if self.numbers.one_in(3) {
+            list.extend(no_event(&mut self.numbers));
+        }
         self.list(&list);
     }
 
@@ -394,13 +415,20 @@ impl<L: Library> Fuzz<L> {
             2 => TABLE_BYTES,
             _ => TABLE_BYTES + self.numbers.place(100),
         };
-        if let (Err(number), true) = (first_event(&field), room >= TABLE_BYTES) {
-            self.corners.refusal(number);
-        }
         let noise = self.numbers.bits();
         if let Some(words) = field_difference(&self.library, &table, &field, room, noise) {
             return self.difference(words);
         }
         self.passed += 1;
+        match first_event(&field) {
+            _ if room < TABLE_BYTES => {}
+            Err(number) => self.corners.refusal(number),
+            Ok(event) => {
+                let before = Before::of(&table, &event);
+                let answer = step(&mut table, &event);
+                self.corners.begin();
+                self.corners.event(Source::Table, &before, &event, answer, &table);
+            }
+        }
     }
 }

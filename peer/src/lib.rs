@@ -1,8 +1,9 @@
-//! A second implementation of document 01 (coordinator election among cabinets) and of T-01 to T-05 of
+//! A second implementation of document 01 (coordinator election among cabinets) and of T-01 to T-06 of
 //! document 02, written from the papers alone, so that other implementations can be compared with it.
 //! Document 01's cabinet is called node here, and its book history.
 
 pub mod calls;
+pub mod check_corners;
 pub mod compare;
 pub mod corners;
 pub mod damage;

@@ -1,7 +1,7 @@
 //! The reference machine: the table, when it is in range, what each of the nine events does to it, and
-//! the records of a recovery. T-02 to T-05 of document 02 are in it. Words in quotation marks in the
-//! comments are document 01's, or those of T-02, T-03, T-04 or T-05 where that is said; their cabinet is
-//! called node here.
+//! the records of a recovery. T-02 to T-06 of document 02 are in it. Words in quotation marks in the
+//! comments are document 01's, or those of a request where that is said; their cabinet is called node
+//! here.
 
 pub const MAX_NODES: u8 = 16;
 pub const MAX_COUNTER: u32 = 1_048_575;
@@ -197,6 +197,12 @@ impl Node {
             | Accepting { .. } => Some(self.last_call),
             Idle | Waiting { .. } | Collecting => None,
         }
+    }
+
+    /// Whether node i is "Normal and its own coordinator": then it may check, and it says yes where it is
+    /// asked.
+    fn normal_coordinator(&self, i: u8) -> bool {
+        self.status == Status::Normal && self.coordinator == i
     }
 }
 
@@ -463,7 +469,7 @@ fn acting_node(n: u8, event: &Event) -> Result<u8, u8> {
     }
 }
 
-/// Grounds 9 to 11, "state". Gives the place of "the oldest message from a to b".
+/// Grounds 9, 10, 18 and 11, "state", in this order. Gives the place of "the oldest message from a to b".
 fn check_state(table: &Table, event: &Event, i: u8) -> Result<Option<usize>, u8> {
     let node = table.node(i);
     let down = node.status == Status::Down;
@@ -486,6 +492,11 @@ fn check_state(table: &Table, event: &Event, i: u8) -> Result<Option<usize>, u8>
     };
     if !fit {
         return Err(10);
+    }
+    // T-06: "check at a cabinet that is not Normal or not its own coordinator, in the state place directly
+    // after 10"
+    if matches!(event, Event::Check(_)) && !node.normal_coordinator(i) {
+        return Err(18);
     }
     match *event {
         Event::Deliver(a, b) | Event::Lose(a, b) => {
@@ -604,13 +615,10 @@ impl Turn<'_> {
         Ok(())
     }
 
-    /// "if Normal and its own coordinator, it asks every other cabinet in turn with kind 1.
-    /// Otherwise, or with n = 1, nothing changes."
+    /// "it asks every other cabinet in turn with kind 1". T-06: "With n = 1 such a check still passes
+    /// without effect." The "Otherwise" of document 01 is ground 18.
     fn check(&mut self) -> Result<(), u8> {
-        if self.node.status == Status::Normal && self.own_coordinator() {
-            self.ask_after(0, 0)?;
-        }
-        Ok(())
+        self.ask_after(0, 0)
     }
 
     /// Asks the next node above j. T-02: "Asking still goes from 1 up." "After the last: none found,
@@ -728,7 +736,7 @@ impl Turn<'_> {
         match m.body {
             // "reply yes exactly when Normal and its own coordinator"
             Body::AreYouCoordinator => {
-                let yes = self.node.status == Status::Normal && self.own_coordinator();
+                let yes = self.node.normal_coordinator(self.i);
                 self.reply(from, call, yes)
             }
             // "yes exactly when the group is equal, it is its own coordinator and the sender is a

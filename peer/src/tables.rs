@@ -1,15 +1,19 @@
 //! Random tables: in range, near the ends of the ranges, and with a number out of range.
 
+use crate::check_corners::lowest_other;
+use crate::drive::any_node;
 use crate::machine::{
-    group_number, only, owner, Activity, Body, Message, Node, Set, Status, Table, MAX_CALL,
-    MAX_COUNTER, MAX_MESSAGES, MAX_NODES, MAX_TICKS, MIN_TASK,
+    group_number, only, owner, Activity, Body, Event, Message, Node, Set, Status, Table, MAX_CALL,
+    MAX_COUNT, MAX_COUNTER, MAX_MESSAGES, MAX_NODES, MAX_TICKS, MIN_TASK,
 };
 use crate::numbers::Numbers;
 use crate::proved::{
     table_from_bytes, table_to_bytes, MESSAGES_AT, MESSAGE_BYTES, NODES_AT, NODE_BYTES, TABLE_BYTES,
 };
 use crate::traffic_corners::BROKEN;
-use crate::traffic_tables::{break_counts, count_waiting, give_counts, move_counts_to_ends};
+use crate::traffic_tables::{
+    break_counts, count_waiting, give_counts, move_counts_to_ends, set_sent,
+};
 
 /// A table in range.
 pub fn in_range(numbers: &mut Numbers) -> Table {
@@ -79,6 +83,59 @@ pub fn to_recover(numbers: &mut Numbers) -> (Table, u8) {
         _ => {}
     }
     (table, i)
+}
+
+/// A table and a check on it, of a node with any status, coordinator and activity that the range allows, often
+/// idle. What grounds 13, 14 and 17 look at is at its end in a third of them each. Now and then the table is
+/// not in range, by something else or since the node is Down and not idle.
+pub fn to_check(numbers: &mut Numbers) -> (Table, Event) {
+    let n = match numbers.below(8) {
+        0 => 1,
+        1 => 2,
+        2 => MAX_NODES,
+        _ => numbers.between(2, u32::from(MAX_NODES)) as u8,
+    };
+    let i = if numbers.one_in(4) { 1 } else { numbers.between(1, u32::from(n)) as u8 };
+    let mut table = of_nodes(n, numbers);
+    let [no_call, full, no_more] = [0; 3].map(|_| numbers.one_in(3));
+    let own = n == 1 || numbers.one_in(2);
+    let node = &mut table.nodes[usize::from(i) - 1];
+    node.status =
+        numbers.of(&[Status::Down, Status::Election, Status::Reorganization, Status::Normal]);
+    let owner = if own { i } else { other(i, n, numbers) };
+    node.group = group_number(near_ends(1, MAX_COUNTER, numbers), owner);
+    node.coordinator = owner;
+    node.last_call = if no_call { MAX_CALL } else { near_ends(0, MAX_CALL - 1, numbers) };
+    let activity = match n {
+        _ if numbers.one_in(2) => 0,
+        1 => numbers.of(&[2, 4, 6]),
+        _ => numbers.between(1, if own { 6 } else { 8 }),
+    };
+    set_activity(node, activity, i, n, numbers);
+    if node.status == Status::Down && !numbers.one_in(4) {
+        node.activity = Activity::Idle;
+        node.coordinator = numbers.of(&[0, owner]);
+    }
+    if n > 1 {
+        table.messages.truncate(MAX_MESSAGES - 1);
+        while full && table.messages.len() < MAX_MESSAGES {
+            let m = any_message(&table, numbers);
+            table.messages.push(m);
+        }
+        give_counts(&mut table, numbers);
+        if no_more {
+            set_sent(&mut table, (i, lowest_other(i)), MAX_COUNT, numbers);
+        }
+    }
+    let number = match numbers.below(16) {
+        0 => any_node(n, numbers),
+        1 if n < MAX_NODES => numbers.between(u32::from(n) + 1, u32::from(MAX_NODES)) as u8,
+        _ => i,
+    };
+    if numbers.one_in(16) {
+        spoil(&mut table, numbers);
+    }
+    (table, Event::Check(number))
 }
 
 /// A number from low to high, often at an end.

@@ -97,7 +97,7 @@ pub struct Need {
     pub to: u8,
 }
 
-/// The message that an event must send on a table where none of the grounds 1 to 11 applies.
+/// The message that an event must send on a table where none of the grounds 1 to 11 and 18 applies.
 pub fn need(table: &Table, event: &Event) -> Option<Need> {
     let i = acting(event);
     if !(1..=table.n.min(MAX_NODES)).contains(&i) {
@@ -105,10 +105,7 @@ pub fn need(table: &Table, event: &Event) -> Option<Need> {
     }
     let node = table.node(i);
     let (way, to) = match *event {
-        Event::Check(_) => {
-            let asks = node.status == Status::Normal && node.coordinator == i;
-            (Way::CheckAsks, next_asked(table.n, i, 0).filter(|_| asks)?)
-        }
+        Event::Check(_) => (Way::CheckAsks, next_asked(table.n, i, 0)?),
         Event::Timeout(_) if node.coordinator != i => (Way::TimeoutContacts, node.coordinator),
         Event::Tick(_) => match node.activity {
             Activity::Waiting { ticks: 1, found } => {
@@ -393,7 +390,7 @@ impl TrafficCorners {
         wrong[3] = answer.is_err() && after.traffic != before.traffic;
         wrong[4] = answer == Err(17) && source == Source::Run;
         wrong[5] = answer == Err(17) && before.within_calls;
-        if !matches!(answer, Err(1 | 7..=11)) {
+        if !matches!(answer, Err(1 | 7..=11 | 18)) {
             match &before.need {
                 Some(need) => {
                     let grounds = before.grounds(need);

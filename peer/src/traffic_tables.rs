@@ -63,7 +63,7 @@ fn set_counts(
 }
 
 /// The same, with what waits of the pair in a table.
-fn set_sent(table: &mut Table, pair: (u8, u8), sent: u32, numbers: &mut Numbers) {
+pub fn set_sent(table: &mut Table, pair: (u8, u8), sent: u32, numbers: &mut Numbers) {
     let waiting = count_of(&table.waiting(), pair.0, pair.1);
     set_counts(&mut table.traffic, pair, sent, waiting, numbers);
 }

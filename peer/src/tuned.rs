@@ -1,13 +1,14 @@
-//! Document 01's list program, with T-02, T-03 and T-05 of document 02, written for speed alone, as the
-//! second baseline of the benchmark: the bytes of a list in, the printed text out, into a lent buffer, and
-//! nothing allocated. Words in quotation marks in the comments are document 01's, or those of T-02, T-03
-//! or T-05 where that is said; their cabinet is called node here.
+//! Document 01's list program, with T-02, T-03, T-05 and T-06 of document 02, written for speed alone, as
+//! the second baseline of the benchmark: the bytes of a list in, the printed text out, into a lent buffer,
+//! and nothing allocated. Words in quotation marks in the comments are document 01's, or those of a request
+//! where that is said; their cabinet is called node here.
 //!
 //! What it does otherwise than `machine`:
 //! - Nothing of a run shows in which order messages of different pairs were sent. So the messages of
 //!   each pair are a queue of their own, linked through 64 slots, and no message is searched or moved.
 //! - Status, activity and "its own coordinator" are one number. With the event, and for a delivery the
-//!   kind of the message, it gives refusals 7 to 11, or what is to be done, by one look into a table.
+//!   kind of the message, it gives refusals 7 to 11 and 18, or what is to be done, by one look into a
+//!   table.
 //! - Asking, inviting, forwarding and handing are one walk over a set of whom still, in which the two
 //!   sets of inviting are one of 32 bits. It takes the lowest bit. Bit 15 - k stands for node k, so that
 //!   the highest node comes first; of those still to be asked bit k does, so that they come from 1 up.
@@ -153,22 +154,23 @@ static START: Table = {
     }
 };
 
-/// What an event does. 7 to 11 are refusals. The numbers leave few gaps, so that one jump is enough.
+/// What an event does. 7 to 11 and 18 are refusals. The numbers leave few gaps, so that one jump is
+/// enough.
 const NOTHING: u8 = 12;
 const CRASH: u8 = 13;
 const RECOVER: u8 = 14;
 const CHECK: u8 = 15;
 const TIMEOUT: u8 = 16;
 const TICK: u8 = 17;
-const NEXT: u8 = 18;
-const FINISH: u8 = 19;
-const LOSE: u8 = 20;
-const INVITED: u8 = 21;
-const ANSWERED: u8 = 22;
-const ACCEPTED: u8 = 23;
-const STAYS: u8 = 24;
-const LEAVES: u8 = 25;
-const DROP: u8 = 26;
+const NEXT: u8 = 19;
+const FINISH: u8 = 20;
+const LOSE: u8 = 21;
+const INVITED: u8 = 22;
+const ANSWERED: u8 = 23;
+const ACCEPTED: u8 = 24;
+const STAYS: u8 = 25;
+const LEAVES: u8 = 26;
+const DROP: u8 = 27;
 /// From here on a message is replied to; what is done beside it is added.
 const REPLY_NO: u8 = 32;
 const REPLY_YES: u8 = REPLY_NO + IS_YES;
@@ -202,7 +204,8 @@ const fn action(row: u16, state: u16) -> u8 {
     match (row, activity) {
         (0, _) => CRASH,
         (2, IDLE) if status == NORMAL && own => CHECK,
-        (2, IDLE) => NOTHING,
+        // T-06: "directly after 10"
+        (2, IDLE) => 18,
         (3, IDLE) if own => NOTHING,
         (3, IDLE) => TIMEOUT,
         (4, WAITING) => TICK,
@@ -405,11 +408,12 @@ impl Table {
         let sender = (oldest.queue / SENDER) as u8;
         match action {
             // Each by itself: a range would be a branch of its own before the jump.
-            7 | 8 | 9 | 10 | 11 => return action,
+            7 | 8 | 9 | 10 | 11 | 18 => return action,
             NOTHING => {}
             CRASH => node.state = DOWN | IDLE,
             RECOVER => return self.recover(k, None),
-            // "it asks every other cabinet in turn"
+            // "it asks every other cabinet in turn". T-06: "With n = 1 such a check still passes without
+            // effect."
             CHECK => {
                 let others = self.all & !(1 << k);
                 if others != 0 {
@@ -756,10 +760,10 @@ static SHORT: [u32; 256] = {
 };
 
 /// A space, the number of a refusal and the line's end, behind two bytes, the first lowest.
-static REFUSALS: [u64; 16] = {
-    let mut refusals = [0; 16];
+static REFUSALS: [u64; 32] = {
+    let mut refusals = [0; 32];
     let mut r = 0;
-    while r < 16 {
+    while r < 20 {
         let digits =
             if r < 10 { [b'0' + r as u8, b'\n', 0] } else { [b'1', b'0' + r as u8 - 10, b'\n'] };
         refusals[r] = u64::from_le_bytes([0, 0, b' ', digits[0], digits[1], digits[2], 0, 0]);
@@ -816,7 +820,7 @@ impl Text<'_> {
             Some(room) if e.length > 0 => {
                 room[..16].copy_from_slice(&e.line);
                 let at = e.length & 15;
-                let end = u64::from(PAIRS[(e.rest & 127) as usize]) | REFUSALS[usize::from(r & 15)];
+                let end = u64::from(PAIRS[(e.rest & 127) as usize]) | REFUSALS[usize::from(r & 31)];
                 room[at..at + 8].copy_from_slice(&end.to_le_bytes());
                 self.at += at + 5 + usize::from(r >= 10);
                 Some(())

@@ -1,6 +1,6 @@
 //! The corners of T-02 are counted where the pick shows, and nowhere else, those of T-03 where an invitation
-//! comes to its receiver, those of T-04 where the records of a recovery are asked for, and those of T-05
-//! where messages are counted.
+//! comes to its receiver, those of T-04 where the records of a recovery are asked for, those of T-05 where
+//! messages are counted, and those of T-06 where a node checks or a list with checks is printed.
 
 mod common;
 
@@ -8,8 +8,10 @@ use common::{invited_twice, LATE, NODES};
 use peer::compare::{recovery_difference, run_difference, walk_difference};
 use peer::corners::{Before, Corners, Source};
 use peer::drive::run;
+use peer::list::{read_list, write_list};
 use peer::machine::*;
 use peer::numbers::Numbers;
+use peer::print::run_list;
 use peer::proved::{recovery_by, table_to_bytes, Library, Own, TABLE_BYTES, TOO_SHORT};
 use peer::recovery_corners::Call;
 use peer::traffic_tables::count_waiting;
@@ -832,9 +834,9 @@ fn wrong_counts_are_told() {
         assert!(told.contains(&answer_by_grounds.to_string()), "{told:?}");
     }
     let told_17 = told(Source::Table, Check(2), none, Some(17));
-    assert_eq!(told_17, [answer_by_grounds, within]);
+    assert_eq!(told_17, [answer_by_grounds, within, OTHER_ANSWER]);
     let told_17 = told(Source::Run, Check(2), none, Some(17));
-    assert_eq!(told_17, [answer_by_grounds, in_run, within]);
+    assert_eq!(told_17, [answer_by_grounds, in_run, within, OTHER_ANSWER]);
     let told_17 = told(Source::Table, Timeout(2), none, Some(17));
     assert_eq!(told_17, [no_message, within]);
     let told_17 = told(Source::Table, Lose(1, 2), none, Some(17));
@@ -845,4 +847,360 @@ fn wrong_counts_are_told() {
     assert_eq!(corners.impossible(), [""; 0]);
     corners.broken_counts(0, Ok(()));
     assert_eq!(corners.impossible(), ["counts, a rule broken and not answered 1"]);
+}
+
+const OTHER_ANSWER: &str = "check, another answer than by the grounds";
+const MUST_NOT: &str = "check, accepted where the node is not Normal or not its own coordinator";
+const CHANGES: &str = "check, refused, and the table changes";
+const CHANGES_ALONE: &str = "check, accepted with n = 1, and the table changes";
+const NO_QUESTION: &str =
+    "check, accepted with n > 1, and not one question to the lowest other node";
+
+/// The corners of T-06 that were met.
+fn checked(corners: &Corners) -> Vec<(String, u64, u64)> {
+    met(corners, &["check accepted", "check refused", "list, check"])
+}
+
+/// K10's events, and checks before, between and behind them.
+fn k10_with_checks() -> Vec<Event> {
+    let mut events = vec![Check(2), Check(3), Recover(1), Recover(2), Check(2), Check(2)];
+    for _ in 0..3 {
+        events.extend([Deliver(2, 1), Deliver(1, 2)]);
+    }
+    events.extend([Check(1), Finish(2, 100), Check(2), Deliver(2, 1), Deliver(1, 2)]);
+    events.extend([Check(1), Check(2), Check(1), Timeout(1), Check(1), Crash(1), Check(1)]);
+    events
+}
+
+#[test]
+fn checks_in_runs() {
+    let events = k10_with_checks();
+    let mut corners = Corners::default();
+    assert!(run_difference(&Own, 2, &events, Some(&mut corners)).is_none());
+    assert_eq!(corners.impossible(), [""; 0]);
+    let expected = [
+        ("check refused 7", 1),
+        ("check refused 9", 2),
+        ("check refused 10", 3),
+        ("check refused 18", 3),
+        ("check refused 18, Reorganization, a member", 1),
+        ("check refused 18, Normal, a member", 2),
+        ("check refused 10, asking, Normal and its own coordinator", 1),
+        ("check refused 10, handing, 18 too, not Normal", 1),
+        ("check refused 10, contacting, 18 too, a member", 1),
+        ("check accepted, n = 2", 2),
+        ("check accepted, another node asks 1", 2),
+        ("check accepted, with members", 1),
+        ("check refused 9, a member", 1),
+        ("check refused 9, no coordinator", 1),
+        ("check refused 7, number over n, up to 16", 1),
+    ];
+    assert_eq!(checked(&corners), in_runs(&expected));
+    let mut corners = Corners::default();
+    let events = [Recover(1), Check(1), Crash(1), Check(1), Check(0), Check(17)];
+    assert!(run_difference(&Own, 1, &events, Some(&mut corners)).is_none());
+    assert_eq!(corners.impossible(), [""; 0]);
+    let expected = [
+        ("check refused 7", 2),
+        ("check refused 9", 1),
+        ("check accepted, n = 1", 1),
+        ("check refused 9, its own coordinator", 1),
+        ("check refused 7, number 0", 1),
+        ("check refused 7, number over 16", 1),
+    ];
+    assert_eq!(checked(&corners), in_runs(&expected));
+}
+
+/// Random runs meet each corner of checks that a run can have, and not too seldom, and no other.
+#[test]
+fn checks_in_random_runs() {
+    let mut numbers = Numbers::new(2);
+    let mut corners = Corners::default();
+    for _ in 0..1200 {
+        let n = numbers.of(&[1, 2, 3, 4, 8, 16]);
+        let events = run(n, 500, &mut numbers);
+        assert!(run_difference(&Own, n, &events, Some(&mut corners)).is_none());
+    }
+    assert_eq!(corners.impossible(), [""; 0]);
+    let met = checked(&corners);
+    let names: Vec<&str> = met.iter().map(|(name, ..)| name.as_str()).collect();
+    let expected = [
+        "check refused 7",
+        "check refused 9",
+        "check refused 10",
+        "check refused 14",
+        "check refused 18",
+        "check refused 18, Reorganization, a member",
+        "check refused 18, Reorganization, a member, 14 too",
+        "check refused 18, Normal, a member",
+        "check refused 18, Normal, a member, 14 too",
+        "check refused 10, asking, Normal and its own coordinator",
+        "check refused 10, waiting, Normal and its own coordinator",
+        "check refused 10, inviting, 18 too, not Normal",
+        "check refused 10, collecting, 18 too, not Normal",
+        "check refused 10, handing, 18 too, not Normal",
+        "check refused 10, contacting, 18 too, a member",
+        "check refused 10, contacting, 18 too, not Normal and a member",
+        "check refused 10, forwarding, 18 too, not Normal and a member",
+        "check refused 10, accepting, 18 too, not Normal and a member",
+        "check accepted, n = 1",
+        "check accepted, n = 2",
+        "check accepted, n = 16",
+        "check accepted, node 1 asks 2",
+        "check accepted, another node asks 1",
+        "check accepted, with members",
+        "check accepted, the 64th message",
+        "check refused 9, its own coordinator",
+        "check refused 9, a member",
+        "check refused 9, no coordinator",
+        "check refused 7, number 0",
+        "check refused 7, number over n, up to 16",
+        "check refused 7, number over 16",
+    ];
+    assert_eq!(names, expected);
+    assert!(met.iter().all(|&(_, runs, _)| runs >= 20), "{met:?}");
+}
+
+/// What a check of node i meets on a table of two nodes that have recovered, or of one.
+fn checked_in_a_table(n: u8, i: u8, change: impl Fn(&mut Table)) -> Vec<String> {
+    let mut table = recovered(n);
+    change(&mut table);
+    let mut corners = Corners::default();
+    assert!(walk_difference(&Own, &table, &[Check(i)], None, Some(&mut corners)).is_none());
+    assert_eq!(corners.impossible(), [""; 0]);
+    let met = checked(&corners);
+    assert!(met.iter().all(|&(_, runs, tables)| (runs, tables) == (0, 1)), "{met:?}");
+    // The first is the count of the refusals of checks by number.
+    let names = met.into_iter().map(|(name, ..)| name.replacen("check ", "", 1));
+    names.filter(|name| name.contains(',')).collect()
+}
+
+#[test]
+fn checks_in_tables() {
+    let member = |node: &mut Node| (node.group, node.coordinator) = (group_number(7, 2), 2);
+    let full = |table: &mut Table| {
+        let body = Body::AreYouCoordinator;
+        table.messages = vec![Message { sender: 2, receiver: 1, call: 1, body }; 64];
+        table.traffic.sent[1][0] = 64;
+    };
+    let no_more = |table: &mut Table| {
+        (table.traffic.sent[0][1], table.traffic.lost[0][1]) = (MAX_COUNT, MAX_COUNT);
+    };
+    let nodes = [
+        (Status::Election, false, "Election, its own coordinator"),
+        (Status::Reorganization, false, "Reorganization, its own coordinator"),
+        (Status::Election, true, "Election, a member"),
+        (Status::Reorganization, true, "Reorganization, a member"),
+        (Status::Normal, true, "Normal, a member"),
+    ];
+    for (status, joined, words) in nodes {
+        let met = |change: &dyn Fn(&mut Table)| {
+            checked_in_a_table(2, 1, |table| {
+                table.nodes[0].status = status;
+                if joined {
+                    member(&mut table.nodes[0]);
+                }
+                change(table);
+            })
+        };
+        let refused = format!("refused 18, {words}");
+        let too = |number: u8| format!("{refused}, {number} too");
+        assert_eq!(met(&|_| {}), [refused.as_str()]);
+        let no_call = |table: &mut Table| table.nodes[0].last_call = MAX_CALL;
+        assert_eq!(met(&no_call), [refused.clone(), too(13)]);
+        assert_eq!(met(&full), [refused.clone(), too(14)]);
+        assert_eq!(met(&no_more), [refused.clone(), too(17)]);
+        let all = |table: &mut Table| {
+            no_call(table);
+            full(table);
+            no_more(table);
+        };
+        assert_eq!(met(&all), [refused.clone(), too(13), too(14), too(17)]);
+        let why = match (status, joined) {
+            (Status::Normal, _) => "a member",
+            (_, false) => "not Normal",
+            (_, true) => "not Normal and a member",
+        };
+        let busy = |table: &mut Table| table.nodes[0].activity = Activity::Collecting;
+        assert_eq!(met(&busy), [format!("refused 10, collecting, 18 too, {why}")]);
+        let broken = |table: &mut Table| table.nodes[1].members = only(2);
+        assert_eq!(met(&broken), ["refused 1, 18 too"]);
+    }
+    assert_eq!(
+        checked_in_a_table(2, 1, |table| table.nodes[0].activity = Activity::Contacting),
+        ["refused 10, contacting, Normal and its own coordinator"]
+    );
+    assert_eq!(
+        checked_in_a_table(2, 1, |table| table.nodes[1].members = only(2)),
+        ["refused 1, Normal and its own coordinator"]
+    );
+    let down_and_busy =
+        |node: &mut Node| (node.status, node.activity) = (Status::Down, Activity::Collecting);
+    assert_eq!(
+        checked_in_a_table(2, 1, |table| down_and_busy(&mut table.nodes[0])),
+        ["refused 1, Down and not idle"]
+    );
+    let accepted = |more: &[&str], change: fn(&mut Table)| {
+        let mut all = vec!["accepted, n = 2", "accepted, node 1 asks 2"];
+        all.extend(more);
+        assert_eq!(checked_in_a_table(2, 1, change), all);
+    };
+    accepted(&[], |_| {});
+    accepted(&["accepted, with members"], |table| table.nodes[0].members = only(2));
+    accepted(&["accepted, the last call number"], |table| {
+        table.nodes[0].last_call = MAX_CALL - 1;
+    });
+    accepted(&["accepted, the 64th message"], |table| {
+        let body = Body::AreYouCoordinator;
+        table.messages = vec![Message { sender: 2, receiver: 1, call: 1, body }; 63];
+        table.traffic.sent[1][0] = 63;
+    });
+    let both = |table: &mut Table| {
+        table.nodes[0].last_call = MAX_CALL;
+        full(table);
+    };
+    assert_eq!(checked_in_a_table(2, 1, both), ["refused 13, 14 too"]);
+    assert_eq!(
+        checked_in_a_table(16, 16, |_| {}),
+        ["accepted, n = 16", "accepted, another node asks 1"]
+    );
+    assert_eq!(checked_in_a_table(1, 1, |_| {}), ["accepted, n = 1"]);
+    assert_eq!(
+        checked_in_a_table(1, 1, |table| table.nodes[0].last_call = MAX_CALL),
+        ["accepted, n = 1", "accepted, n = 1, no call number left"]
+    );
+    for (status, words) in
+        [(Status::Election, "Election"), (Status::Reorganization, "Reorganization")]
+    {
+        assert_eq!(
+            checked_in_a_table(1, 1, |table| table.nodes[0].status = status),
+            [
+                format!("refused 18, {words}, its own coordinator"),
+                format!("refused 18, n = 1, {words}")
+            ]
+        );
+    }
+}
+
+/// Of the machine's own checks nothing is told; of others it is.
+#[test]
+fn wrong_checks_are_told() {
+    let told = |table: &Table, answer: Option<Result<(), u8>>, change: fn(&mut Table)| {
+        let before = Before::of(table, &Check(1));
+        let mut after = table.clone();
+        let right = step(&mut after, &Check(1));
+        change(&mut after);
+        let mut corners = Corners::default();
+        corners.event(Source::Table, &before, &Check(1), answer.unwrap_or(right), &after);
+        corners.impossible()
+    };
+    let (none, accepted): (fn(&mut Table), _) = (|_| {}, Some(Ok(())));
+    for (n, status, owner) in [
+        (3, Status::Normal, 1),
+        (3, Status::Normal, 2),
+        (3, Status::Election, 1),
+        (3, Status::Reorganization, 2),
+        (1, Status::Normal, 1),
+        (1, Status::Election, 1),
+    ] {
+        let mut table = recovered(n);
+        let node = &mut table.nodes[0];
+        (node.status, node.group, node.coordinator) = (status, group_number(7, owner), owner);
+        assert_eq!(told(&table, None, none), [""; 0]);
+        let right = (status, owner) == (Status::Normal, 1);
+        let by_answer =
+            |number: u8, change: fn(&mut Table)| told(&table, Some(Err(number)), change);
+        let has = |told: Vec<String>, words: &str| {
+            assert!(told.iter().any(|told| told == words), "{words}: {told:?}");
+        };
+        for number in [1, 7, 9, 10, 11, 13, 14, 17, 18] {
+            if right || number != 18 {
+                has(by_answer(number, none), OTHER_ANSWER);
+            }
+        }
+        if !right {
+            has(told(&table, accepted, none), MUST_NOT);
+            has(told(&table, accepted, none), OTHER_ANSWER);
+            assert_eq!(told(&table, None, |after| after.nodes[0].last_call += 1), [CHANGES]);
+            assert_eq!(told(&table, None, |after| after.nodes[0].task += 1), [CHANGES]);
+        } else if n == 1 {
+            assert_eq!(told(&table, None, |after| after.nodes[0].task += 1), [CHANGES_ALONE]);
+        } else {
+            let wrong: [fn(&mut Table); 7] = [
+                |after| after.messages.clear(),
+                |after| after.messages[0].receiver = 3,
+                |after| after.messages[0].call += 1,
+                |after| after.messages[0].body = Body::Reply { yes: true },
+                |after| after.nodes[0].activity = Activity::Asking { asked: 2, found: only(3) },
+                |after| after.nodes[0].last_call = 0,
+                |after| after.nodes[1].task = 9,
+            ];
+            for change in wrong {
+                has(told(&table, None, change), NO_QUESTION);
+            }
+        }
+    }
+    let mut corners = Corners::default();
+    let (table, event) = (recovered(2), Timeout(1));
+    corners.event(Source::Run, &Before::of(&table, &event), &event, Err(18), &table);
+    assert!(corners.impossible().contains(&"timeout refused 18".to_string()));
+}
+
+/// What a list of so many nodes and its text meet, and what is told of them.
+fn printed(
+    n: u8,
+    events: &[Event],
+    behind: &[u8],
+    text: Option<&str>,
+) -> (Vec<String>, Vec<String>) {
+    let list = [&write_list(n, events)[..], behind].concat();
+    let text = text.map_or(run_list(&list), |text| text.as_bytes().to_vec());
+    let mut corners = Corners::default();
+    corners.printed(&read_list(&list).unwrap(), &text);
+    let met = met(&corners, &["list, "]).into_iter().map(|(name, ..)| name);
+    (
+        met.map(|name| name.replacen("list, check refused 18 ", "", 1)).collect(),
+        corners.impossible(),
+    )
+}
+
+#[test]
+fn checks_in_lists() {
+    let all = k10_with_checks();
+    let met = |events: &[Event], behind: &[u8]| {
+        let (met, told) = printed(2, events, behind, None);
+        assert_eq!(told, [""; 0]);
+        met
+    };
+    // Up to the first check that is refused 18, and its next event.
+    let (early, next) = ("among the first 99 events", "and the next event accepted");
+    assert_eq!(met(&all[..12], &[]), [""; 0]);
+    assert_eq!(met(&all[..13], &[]), [early, "as the last event"]);
+    assert_eq!(met(&all[..13], &[0x19, 0, 0]), [early, "and stopped later"]);
+    assert_eq!(met(&all[..14], &[]), [early, next]);
+    assert_eq!(met(&all[..14], &[9]), [early, next, "and stopped later"]);
+    let later = [&all[..13], &[Tick(1), Crash(2)]].concat();
+    assert_eq!(met(&later, &[]), [early, "and a later event accepted, not the next"]);
+    // Refused events in front, so that it is the 99th or the 100th.
+    let late = |refused: usize| [&vec![Tick(1); refused], &all[..13]].concat();
+    assert_eq!(met(&late(86), &[]), [early, "as the last event"]);
+    assert_eq!(met(&late(87), &[]), ["behind them", "as the last event"]);
+}
+
+/// Of the right text nothing is told; of others it is.
+#[test]
+fn wrong_texts_of_checks_are_told() {
+    let otherwise = "list, check printed otherwise than by the grounds";
+    let another = "list, 18 printed for another event";
+    let events = &k10_with_checks()[..14];
+    let list = write_list(2, events);
+    let right = String::from_utf8(run_list(&list)).unwrap();
+    assert!(right.contains("refused 13 18\n"));
+    let told = |from: &str, to: &str| printed(2, events, &[], Some(&right.replace(from, to))).1;
+    assert_eq!(told("", ""), [""; 0]);
+    assert_eq!(told("refused 13 18\n", ""), [otherwise]);
+    assert_eq!(told("refused 13 18\n", "refused 13 10\n"), [otherwise]);
+    assert_eq!(told("refused 13 18\n", "refused 13 18\nrefused 14 18\n"), [another]);
+    assert_eq!(told("refused 13 18\n", "refused 12 18\n"), [otherwise, another]);
+    assert_eq!(told("refused 6 10\n", "refused 6 18\n"), [otherwise]);
 }

@@ -5,7 +5,8 @@ use peer::list::write_event;
 use peer::machine::{step, Event, Table};
 use peer::sha256::sha256;
 use peer::short::{alphabet, print, print_lists, read_input, Counts, REFUSAL};
-use peer::vectors::{read_hex, read_sums, read_wrong_inputs};
+use peer::vectors::{read_hex, read_sums, read_wrong_inputs, table_text};
+use std::collections::BTreeMap;
 use std::fs::File;
 use std::io::Write;
 use std::path::PathBuf;
@@ -138,6 +139,33 @@ fn no_other_event_is_accepted() {
             for &other in &others {
                 assert!(!accepted(n, &[&list[..], &[other]].concat()), "{list:?} {other:?}");
             }
+        }
+    }
+}
+
+/// T-06: "The lists of T-01 are too short to meet this and stay the same." No check on a table that a list of
+/// up to seven events leads to is refused 18; two nodes come to one by eight events, and not by fewer.
+#[test]
+fn too_short_for_ground_18() {
+    for n in 1..=3 {
+        let events = alphabet(n);
+        let mut tables = vec![Table::start(n)];
+        for length in 0..=if n == 2 { 8 } else { 7 } {
+            let refused = |table: &Table| {
+                (1..=n).any(|i| step(&mut table.clone(), &Event::Check(i)) == Err(18))
+            };
+            assert_eq!(tables.iter().any(refused), (n, length) == (2, 8), "{n} {length}");
+            // Each table that one event more leads to, once.
+            let mut next = BTreeMap::new();
+            for table in &tables {
+                for event in &events {
+                    let mut after = table.clone();
+                    if step(&mut after, event).is_ok() {
+                        next.insert(table_text(&after), after);
+                    }
+                }
+            }
+            tables = next.into_values().collect();
         }
     }
 }

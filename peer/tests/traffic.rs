@@ -3,9 +3,10 @@
 //! purpose. The boundary is that of this program's own machine, and of the proved library where it is
 //! linked.
 
+mod wrong_steps;
+
 use peer::compare::{list_difference, run_difference, walk_difference};
 use peer::drive::{any_manner, pick};
-use peer::fuzzing::Fuzz;
 use peer::history::beyond_calls;
 use peer::list::{write_event, write_list};
 use peer::machine::*;
@@ -15,7 +16,7 @@ use peer::proved::*;
 use peer::tables::in_range;
 use peer::traffic_corners::{need, BROKEN, WAYS};
 use peer::traffic_tables::{break_counts, count_waiting, pairs, raise_to_calls, to_send};
-use std::time::Duration;
+use wrong_steps::{found, Steps};
 use Event::*;
 
 fn message(sender: u8, receiver: u8, call: u32, body: Body) -> Message {
@@ -166,7 +167,7 @@ fn ground_17() {
         let waiting = u32::from((a, b) == (2, 1));
         set(&mut full, (a, b), [MAX_COUNT, 0, MAX_COUNT - waiting]);
     }
-    for event in [Crash(1), Timeout(1), Lose(2, 1), Check(3)] {
+    for event in [Crash(1), Timeout(1), Lose(2, 1)] {
         assert_eq!(step(&mut full.clone(), &event), Ok(()), "{event:?}");
     }
 }
@@ -412,31 +413,6 @@ fn own_machine() {
 #[test]
 fn proved_library() {
     Proved::linked().iter().for_each(boundary);
-}
-
-/// A library whose step is by another machine, which is given any table.
-struct Steps<M>(M);
-
-impl<M: Fn(&mut Table, &Event) -> Result<(), u8>> Library for Steps<M> {
-    fn print(&self, list: &[u8], out: &mut [u8]) -> Option<usize> {
-        Own.print(list, out)
-    }
-    fn step(&self, table: &[u8], field: &[u8], out: &mut [u8]) -> u8 {
-        step_by(&self.0, table, field, out)
-    }
-    fn fold(&self, list: &[u8]) -> u32 {
-        Own.fold(list)
-    }
-    fn recovery(&self, table: &[u8], node: u8, out: &mut [u8]) -> u8 {
-        Own.recovery(table, node, out)
-    }
-}
-
-/// How many differences the fuzzer finds, at most five.
-fn found(library: impl Library) -> u64 {
-    let mut fuzz = Fuzz::new(library, 1);
-    fuzz.go_on(Duration::from_secs(60));
-    fuzz.tell().1
 }
 
 /// Changes the counts after an accepted event: those before, and those after.

@@ -109,7 +109,7 @@ unfolding runFrom
 first-ranged e = ap (λ (s : State). inRange (after s e)) (start-is 2) ∙ stays-in-range .runs 2 (omega arith) (omega arith) (e ∷ [])
 
 computed : Computed
-unfolding pick onesIn ones leadingZeros bitAnd bitOr inviteNext merges handNext finishes forwardNext askedAll askAt askAfter checked timedOut ticked expired resumed onAreYouCoordinator onAreYouThere onInvitation onAccept onReady onReply received react activityInRange nodeInRange messageInRange waits oldest withoutOldest every reactionTo remaining judged firstOf
+unfolding pick onesIn ones leadingZeros bitAnd bitOr inviteNext merges handNext finishes forwardNext askedAll askAt askAfter checked timedOut ticked expired resumed onAreYouCoordinator onAreYouThere onInvitation onAccept onReady onReply received react activityInRange nodeInRange messageInRange waits oldest withoutOldest every reactionTo remaining grounds judged firstOf
 computed =
     record {
       again = ap (λ (s : State). nodeAt s 1 .group .number) (started (Recover 1 ∷ Crash 1 ∷ Recover 1 ∷ []) (omega arith));

@@ -1,17 +1,16 @@
 -- With its counts set aside a table does the same: where no count of what was sent is at its end, the counts decide nothing.
 use Prim.Native.Nat.{ℕ, zero, suc, _+_, _-_, _≤_, _<_}
 use native.Mathlib.Omega.{arith}
-use mathlib.Core.Bool.{Bool, true, false, not, _&&_}
+use mathlib.Core.Bool.{Bool, true, false, not}
 use mathlib.Core.Path.{_≡_, refl, sym, _∙_, ap}
 use mathlib.Core.List.{List, [], _∷_, _++_}
-use lib.Dec.{eqb}
 use lib.ListN.{length, getD, set, replicate}
 use borrow.Author.Tests.{ne-eqb}
 use Rattle.model.specs.Pick.{pick, pick-false, by-test}
-use Rattle.model.specs.Limits.{queueLimit, counterEnd, callEnd, trafficEnd}
+use Rattle.model.specs.Limits.{trafficEnd}
 use Rattle.model.specs.Counts.{pairPlace, noCounts}
-use Rattle.model.specs.State.{State, start, nodeAt, countsOf, allWaiting, countsAside, baseInRange, trafficInRange, inRange}
-use Rattle.model.specs.Step.{actor, reactionTo, remaining, sent, withSent, effect, wrongNumber, wrongTask, wrongStatus, wrongActivity, notCoordinator, noneWaits, forms, isCalling, isSending, pairAtEnd, Ground, ground, grounds, Result, refused, accepted, judged, step, kept, aside, after, runFrom, run}
+use Rattle.model.specs.State.{State, start, countsOf, allWaiting, countsAside, baseInRange, trafficInRange, inRange}
+use Rattle.model.specs.Step.{actor, reactionTo, remaining, sent, withSent, effect, pairAtEnd, Ground, ground, grounds, Result, refused, accepted, judged, step, kept, aside, after, runFrom, run}
 use Rattle.model.specs.History.{History, noted, historyFrom}
 use Rattle.model.specs.Claims.{BelowEnd, CountsDecideNothing}
 use Rattle.model.proofs.Judged.{by-step}
@@ -62,19 +61,18 @@ pub below : (l : List ℕ) (o : Outgoing) → BelowEnd l → pairAtEnd l o ≡ f
 below l Nothing h = refl
 below l (Send m) h = let p = pairPlace (m .sender) (m .receiver) in ne-eqb (getD l p 0) trafficEnd (λ q. omega (arith, q, h p))
 
--- ── the step by the grounds between the first and the last ──
+-- ── the step by the grounds between the first, 1, and the last, 17 ──
+abbrev pub later : List Ground → List Ground
+later [] = []
+later (g ∷ gs) = gs
+
+abbrev sooner : List Ground → List Ground
+sooner [] = []
+sooner (g ∷ []) = []
+sooner (g ∷ h ∷ gs) = g ∷ sooner (h ∷ gs)
+
 abbrev pub between : State → Event → List Ground
-between s e =
-    ground 7 (wrongNumber (s .n) e)
-    ∷ ground 8 (wrongTask e)
-    ∷ ground 9 (wrongStatus (nodeAt s (actor e) .status) e)
-    ∷ ground 10 (wrongActivity (nodeAt s (actor e) .activity) e)
-    ∷ ground 18 (notCoordinator (nodeAt s (actor e)) e)
-    ∷ ground 11 (noneWaits (s .queue) e)
-    ∷ ground 12 (forms (reactionTo s e .mark) && eqb (nodeAt s (actor e) .counter) counterEnd)
-    ∷ ground 13 (isCalling (reactionTo s e .outgoing) && eqb (nodeAt s (actor e) .last .number) callEnd)
-    ∷ ground 14 (isSending (reactionTo s e .outgoing) && eqb (length (remaining s e)) queueLimit)
-    ∷ []
+between s e = sooner (later (grounds s e))
 
 -- the result with the counts aside
 abbrev pub resultAside : State → Event → Result
@@ -112,7 +110,7 @@ unfolding effect
 result-aside s e r b = ap aside (by-between s e r b) ∙ aside-judged (effect s e) (reactionTo s e .mark) (between s e)
 
 same-aside : (s : State) (e : Event) → resultAside s e ≡ resultAside (countsAside s) e
-unfolding reactionTo remaining
+unfolding reactionTo remaining grounds
 same-aside s (Crash i) = refl
 same-aside s (Recover i) = refl
 same-aside s (Check i) = refl

@@ -2,23 +2,22 @@
 use Prim.Native.Nat.{ℕ, _+_, _-_, _≤_, _<_}
 use native.Mathlib.Omega.{arith}
 use mathlib.Core.Bool.{Bool, true, false, not, _&&_, _||_, true≢false}
-use mathlib.Core.Logic.{_⊎_, inl, inr, ⊎-elim}
-use mathlib.Core.Path.{_≡_, refl, sym, _∙_, ap, subst}
+use mathlib.Core.Logic.{_⊎_, inl, inr}
+use mathlib.Core.Path.{_≡_, refl, sym, _∙_, ap}
 use mathlib.Core.List.{List, [], _∷_, _++_, append-nil}
-use lib.Dec.{eqb, leb, ltb}
+use lib.Dec.{eqb, ltb}
 use lib.ListN.{length, set}
 use lib.Seq.{set-getD}
 use borrow.Author.Tests.{not-false, not-true, eqb-true, eqb-false, eq-eqb, ne-eqb, le-leb, ltb-true}
 use Rattle.model.specs.Pick.{pick, pick-true, pick-false}
 use Rattle.model.specs.Limits.{queueLimit, counterEnd, callEnd, trafficEnd}
 use Rattle.model.specs.Counts.{countAt}
-use Rattle.model.specs.Node.{isDown, isNormal, isIdle, nextCall, calling, asks}
+use Rattle.model.specs.Node.{isNormal, nextCall, calling, asks}
 use Rattle.model.specs.Procedures.{reaction, stays, askAt, askAfter}
 use Rattle.model.specs.React.{leads, checked, react}
-use Rattle.model.specs.Range.{isNode}
-use Rattle.model.specs.State.{State, startingNode, nodeAt, inRange}
-use Rattle.model.specs.Step.{actor, reactionTo, remaining, sent, withSent, effect, notCoordinator, forms, isCalling, isSending, pairAtEnd, Ground, ground, grounds, Result, refused, accepted, judged, step, run}
-use Rattle.model.specs.Claims.{firstOther, checkGrounds, withQuestion, withCheck, ReachesIdle, CheckRules}
+use Rattle.model.specs.State.{State, startingNode, nodeAt}
+use Rattle.model.specs.Step.{actor, reactionTo, remaining, sent, withSent, effect, notCoordinator, forms, isCalling, isSending, pairAtEnd, ground, grounds, Result, refused, accepted, judged, step, run}
+use Rattle.model.specs.Claims.{firstOther, checkGrounds, withCheck, ReachesIdle, CheckRules}
 use Rattle.model.proofs.Judged.{accepted-is, met, passed}
 use Rattle.model.proofs.Local.{both-left, both-right}
 use Rattle.model.proofs.Fields.{node-is}

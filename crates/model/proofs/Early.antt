@@ -3,28 +3,28 @@
 -- acts on an invitation its delivery: six events. None of these is idle but whoever is Normal and its own coordinator.
 use Prim.Native.Nat.{ℕ, _+_, _-_, _≤_}
 use native.Mathlib.Omega.{arith}
-use mathlib.Core.Bool.{Bool, true, false, not, _&&_, true≢false}
+use mathlib.Core.Bool.{Bool, true, false, true≢false}
 use mathlib.Core.Logic.{_⊎_, inl, inr, ⊎-elim}
 use mathlib.Core.Path.{_≡_, refl, sym, _∙_, ap, subst}
-use mathlib.Core.List.{List, [], _∷_, _++_}
+use mathlib.Core.List.{List, [], _∷_}
 use lib.Dec.{eqb}
-use lib.ListN.{length, replicate, getD-replicate}
+use lib.ListN.{length, getD-replicate}
 use lib.Seq.{getD-set-other}
 use borrow.Author.Tests.{not-false, eqb-true, eqb-false, eq-eqb}
 use Rattle.node_set.specs.NodeSet.{with}
 use Rattle.model.specs.Pick.{pick, by-test}
-use Rattle.model.specs.Node.{isDown, isNormal, isReorganization, isIdle, isCollecting, turned, calling, settled, tasked, merged, invited, joined}
+use Rattle.model.specs.Node.{isDown, isNormal, isIdle, isCollecting, tasked, merged, invited, joined}
 use Rattle.model.specs.Procedures.{reaction, stays, answers, recovers, inviteNext, merges, handNext, finishes, forwardNext, askedAll, askAt, askAfter}
 use Rattle.model.specs.React.{leads, checked, timedOut, ticked, expired, resumed, onAreYouCoordinator, onAreYouThere, onInvitation, onAccept, onReady, onReply, received, react}
 use Rattle.model.specs.Range.{isNode}
 use Rattle.model.specs.State.{State, startingNode, start, nodeAt, goes, waits, oldest}
-use Rattle.model.specs.Step.{actor, reactionTo, remaining, sent, effect, Result, refused, step, kept, after, runFrom, run}
+use Rattle.model.specs.Step.{actor, reactionTo, remaining, sent, effect, Result, kept, after, runFrom, run}
 use Rattle.model.proofs.Judged.{Clear, by-step}
 use Rattle.model.proofs.Local.{both-left, both-right}
 use Rattle.model.proofs.Numbers.{actor-in}
 use Rattle.model.proofs.Fields.{otherwise, other-is, oldest-goes, own-record}
 use Rattle.model.proofs.Whole.{All, all-map, all-append, all-without}
-use Rattle.model.specs.declared.Status.the-variants.{Down, Reorganization, Normal}
+use Rattle.model.specs.declared.Status.the-variants.{Reorganization, Normal}
 use Rattle.model.specs.declared.Activity.{Activity}
 use Rattle.model.specs.declared.Activity.the-variants.{Idle, Asking, Waiting, Inviting, Collecting, Handing, Contacting, Forwarding, Accepting}
 use Rattle.model.specs.declared.Node.{Node}
@@ -36,7 +36,6 @@ use Rattle.model.specs.declared.Outgoing.the-variants.{Nothing, Send}
 use Rattle.model.specs.declared.Mark.{Mark}
 use Rattle.model.specs.declared.Mark.the-variants.{Plain, Merges}
 use Rattle.model.specs.declared.Reaction.{Reaction}
-use Rattle.model.specs.declared.Input.{Input}
 use Rattle.model.specs.declared.Input.the-variants as Input
 use Rattle.model.specs.declared.Event.{Event}
 use Rattle.model.specs.declared.Event.the-variants.{Crash, Recover, Check, Timeout, Tick, Expire, Finish, Deliver, Lose}

@@ -16,7 +16,7 @@ use Rattle.model.specs.Counts.{pairPlace, senderAt, receiverAt, countAt,
 use Rattle.model.specs.Range.{isNode, isPair, nodeInRange, messageInRange, countInRange}
 use Rattle.model.specs.React.{react}
 use Rattle.model.specs.State.{State, startingNode, start, nodeAt, waits, goes, oldest, withoutOldest, howMany, every, upTo, addsUp, countsInRange, trafficInRange, inRange}
-use Rattle.model.specs.Step.{actor, reactionTo, remaining, sent, withSent, withDelivered, withLost, effect, wrongNumber, wrongTask, wrongStatus, noneWaits, isSending, pairAtEnd, Ground, grounds, Result, refused, accepted, judged, step, kept, after, runFrom, run}
+use Rattle.model.specs.Step.{actor, reactionTo, remaining, sent, withSent, withDelivered, withLost, effect, wrongNumber, wrongTask, wrongStatus, noneWaits, isSending, pairAtEnd, grounds, refused, step, kept, after, runFrom, run}
 use Rattle.model.specs.Claims.{StaysInRange}
 use Rattle.model.specs.Traffic.{sends, delivers, loses}
 use Rattle.model.proofs.Judged.{Clear, NotAtEnd, by-step, accepted-is, met, passed}
@@ -29,7 +29,6 @@ use Rattle.model.proofs.Range.{both, is-node, Place, OutgoingIn, Reacti
 use Rattle.model.specs.declared.Message.{Message}
 use Rattle.model.specs.declared.Outgoing.{Outgoing}
 use Rattle.model.specs.declared.Outgoing.the-variants.{Nothing, Send}
-use Rattle.model.specs.declared.Mark.{Mark}
 use Rattle.model.specs.declared.Input.{Input}
 use Rattle.model.specs.declared.Input.the-variants as Input
 use Rattle.model.specs.declared.Event.{Event}

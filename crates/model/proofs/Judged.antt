@@ -46,25 +46,45 @@ pub record Clear (s : State) (e : Event) : Type 0 where
 abbrev pub NotAtEnd : State → Event → Type 0
 NotAtEnd s e = pairAtEnd (s .sent) (reactionTo s e .outgoing) ≡ false
 
+-- whether the ground of number r applies; each number stands once in the table of grounds
+abbrev pub appliesOf : ℕ → List Ground → Bool
+appliesOf r [] = false
+appliesOf r (g ∷ gs) = pick (eqb (g .number) r) (g .applies) (appliesOf r gs)
+
+-- the ground of number q stands before that of number r
+abbrev before : ℕ → ℕ → List Ground → Bool
+before q r [] = false
+before q r (g ∷ gs) = not (eqb (g .number) r) && (eqb (g .number) q || before q r gs)
+
+none-of : (r : ℕ) (gs : List Ground) → NoneApplies gs → appliesOf r gs ≡ false
+none-of r [] c = refl
+none-of r (g ∷ gs) c = by-test (λ (t : Bool). t ≡ false) (λ _. c .0) (λ _. none-of r gs (c .1))
+
+-- none before 17 applies
+clear-by : (s : State) (e : Event) → ((r : ℕ) → before r 17 (grounds s e) ≡ true → appliesOf r (grounds s e) ≡ false) → Clear s e
+unfolding grounds pick
+clear-by s e f =
+    record {
+      in-range = not-false _ (f 1 refl);
+      number = f 7 refl;
+      task = f 8 refl;
+      status = f 9 refl;
+      activity = f 10 refl;
+      coordinator = f 18 refl;
+      waiting = f 11 refl;
+      counter = f 12 refl;
+      calls = f 13 refl;
+      room = f 14 refl;
+    }
+
+none-at-end : (s : State) (e : Event) → NoneApplies (grounds s e) → NotAtEnd s e
+unfolding grounds pick
+none-at-end s e c = none-of 17 (grounds s e) c
+
 -- what holds of every refusal, and of the effect where no ground applies, holds of the step
 pub by-step : (P : Result → Type 0) (s : State) (e : Event) → ((x : ℕ) → P (refused x)) → (Clear s e → NotAtEnd s e → P (accepted (effect s e) (reactionTo s e .mark))) → P (step s e)
-unfolding step grounds
-by-step P s e f g =
-    judged-by P _ _ f
-    (λ c. g
-    (record {
-      in-range = not-false _ (c .0);
-      number = c .1 .0;
-      task = c .1 .1 .0;
-      status = c .1 .1 .1 .0;
-      activity = c .1 .1 .1 .1 .0;
-      coordinator = c .1 .1 .1 .1 .1 .0;
-      waiting = c .1 .1 .1 .1 .1 .1 .0;
-      counter = c .1 .1 .1 .1 .1 .1 .1 .0;
-      calls = c .1 .1 .1 .1 .1 .1 .1 .1 .0;
-      room = c .1 .1 .1 .1 .1 .1 .1 .1 .1 .0;
-    })
-    (c .1 .1 .1 .1 .1 .1 .1 .1 .1 .1 .0))
+unfolding step
+by-step P s e f g = judged-by P _ (grounds s e) f (λ c. g (clear-by s e (λ r _. none-of r (grounds s e) c)) (none-at-end s e c))
 
 judged-none : (x : Result) (gs : List Ground) → NoneApplies gs → judged x gs ≡ x
 unfolding judged
@@ -78,9 +98,8 @@ unfolding step
 none-applies s e c = judged-none _ (grounds s e) c
 
 pub clear-accepts : (s : State) (e : Event) → Clear s e → NotAtEnd s e → step s e ≡ accepted (effect s e) (reactionTo s e .mark)
-unfolding grounds
-clear-accepts s e c d =
-    none-applies s e (ap not (c .in-range), (c .number, (c .task, (c .status, (c .activity, (c .coordinator, (c .waiting, (c .counter, (c .calls, (c .room, (d, tt)))))))))))
+unfolding step grounds judged pick
+clear-accepts s e c d = rw (c .in-range, c .number, c .task, c .status, c .activity, c .coordinator, c .waiting, c .counter, c .calls, c .room, d)
 
 -- what an accepted event is
 pub record Accepted (s : State) (e : Event) (u : State) (k : Mark) : Type 0 where
@@ -96,14 +115,9 @@ accepted-is s e u k =
     apart : (x : ℕ) → refused x ≡ accepted u k → ⊥
     apart x q = let z : _≡_ {A = ℕ} 0 1 = cc in omega arith
 
--- ── a refusal by its number; each number stands once in the table of grounds ──
+-- ── a refusal by its number ──
 
--- whether the ground of number r applies
-abbrev pub appliesOf : ℕ → List Ground → Bool
-appliesOf r [] = false
-appliesOf r (g ∷ gs) = pick (eqb (g .number) r) (g .applies) (appliesOf r gs)
-
--- no ground has the number r; one has, or none; the ground of number q stands before that of number r
+-- no ground has the number r; one has, or none
 abbrev absent : ℕ → List Ground → Bool
 absent r [] = true
 absent r (g ∷ gs) = not (eqb (g .number) r) && absent r gs
@@ -111,10 +125,6 @@ absent r (g ∷ gs) = not (eqb (g .number) r) && absent r gs
 abbrev once : ℕ → List Ground → Bool
 once r [] = true
 once r (g ∷ gs) = pick (eqb (g .number) r) (absent r gs) (once r gs)
-
-abbrev before : ℕ → ℕ → List Ground → Bool
-before q r [] = false
-before q r (g ∷ gs) = not (eqb (g .number) r) && (eqb (g .number) q || before q r gs)
 
 numbered-same : {x r : ℕ} → refused x ≡ refused r → eqb x r ≡ true
 numbered-same {x} {r} e = eq-eqb x r (cc)
@@ -167,20 +177,7 @@ passed s e q r b x = judged-passed _ _ q r (grounds s e) b x
 
 -- 17 is the last
 pub ended-clear : (s : State) (e : Event) → step s e ≡ refused 17 → Clear s e
-unfolding grounds pick
-ended-clear s e q =
-    record {
-      in-range = not-false _ (passed s e 1 17 refl q);
-      number = passed s e 7 17 refl q;
-      task = passed s e 8 17 refl q;
-      status = passed s e 9 17 refl q;
-      activity = passed s e 10 17 refl q;
-      coordinator = passed s e 18 17 refl q;
-      waiting = passed s e 11 17 refl q;
-      counter = passed s e 12 17 refl q;
-      calls = passed s e 13 17 refl q;
-      room = passed s e 14 17 refl q;
-    }
+ended-clear s e q = clear-by s e (λ r b. passed s e r 17 b q)
 
 -- the activity allows the input: ground 10 does not apply
 abbrev pub Allows : Activity → Input → Type 0

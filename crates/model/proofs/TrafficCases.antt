@@ -23,7 +23,7 @@ use Rattle.model.specs.Cases.{k10, past, only, withCounts, someWait, amo
 use Rattle.model.proofs.Fields.{parts, Counting, node-is, other-is, in-range-size, in-range-places, in-range-each, in-range-sum}
 use Rattle.model.proofs.Counts.{same-pair, upTo-all, pair-counting, is-count}
 use Rattle.model.proofs.InRange.{every-set, every-replicate, none-in}
-use Rattle.model.proofs.Aside.{in-range-base}
+use Rattle.model.proofs.Aside.{in-range-base, later}
 use Rattle.model.proofs.Local.{both-left, both-right}
 use Rattle.model.proofs.Waiting.{waiting-in}
 use Rattle.model.proofs.Cases.{two-counting, among-same}
@@ -98,10 +98,6 @@ module _ (s : State) (a b d l : ℕ) (r : inRange s ≡ true) (p : isPair (s .n)
       )
 
 -- ── a step from a table in range: by the grounds after the first ──
-abbrev later : List Ground → List Ground
-later [] = []
-later (g ∷ gs) = gs
-
 abbrev known : State → Event → Result
 known s e = judged (accepted (effect s e) (reactionTo s e .mark)) (later (grounds s e))
 

@@ -12,7 +12,7 @@ use Rattle.model.specs.Counts.{total}
 use Rattle.model.specs.Procedures.{inviteNext, merges, handNext, finishes, forwardNext, askedAll, askAt, askAfter}
 use Rattle.model.specs.React.{checked as isChecked, timedOut, ticked, expired, resumed, onAreYouCoordinator, onAreYouThere, onInvitation, onAccept, onReady, onReply, received, react}
 use Rattle.model.specs.State.{State, start, waits, oldest, withoutOldest, inRange}
-use Rattle.model.specs.Step.{reactionTo, remaining, effect, judged, Result, accepted, step, kept, after, runFrom}
+use Rattle.model.specs.Step.{reactionTo, remaining, effect, grounds, judged, Result, accepted, step, kept, after, runFrom}
 use Rattle.model.specs.Answers.{resultNumber}
 use Rattle.model.proofs.InRange.{stays-in-range, run-in}
 use Rattle.model.proofs.Aside.{Room, between, by-between, room-after, room-below, counting, run-counting, start-room}
@@ -29,7 +29,7 @@ use Rattle.event_list.specs.Cases.{nodes, recover, crash, check, expire, delive
 use Rattle.run_list.specs.Cases.{k10-list, ListCases}
 use Rattle.run_list.proofs.Laws.{left, lines-begun}
 
--- what an event comes to by the grounds 7 to 14
+-- what an event comes to by the grounds between 1 and 17
 abbrev known : State → Event → Result
 known s v = judged (accepted (effect s v) (reactionTo s v .mark)) (between s v)
 
@@ -59,7 +59,7 @@ quick-text l n i low high k =
     (ap₂ (λ (x : List (List ℕ)) (s : State). x ++ (endingLines (rest l 4 .ending) ++ tableLines s)) (quick-refused (start n) 1 (rest l 4 .events) g m) (run-counting (start n) (rest l 4 .events) g m)))
 
 pub list-cases : ListCases
-unfolding pick onesIn ones leadingZeros inviteNext merges handNext finishes forwardNext askedAll askAt askAfter isChecked timedOut ticked expired resumed onAreYouCoordinator onAreYouThere onInvitation onAccept onReady onReply received react waits oldest withoutOldest reactionTo remaining effect judged lengthOf cutShort checked eventOf nextAt nodesOf firstOf readFrom rest reading digits decimal row cabinetsLine refusedLine stoppedLine nodeLine messagesLine totalLine totalLines total nodeLines tableLines joined noteLines linesOf
+unfolding pick onesIn ones leadingZeros inviteNext merges handNext finishes forwardNext askedAll askAt askAfter isChecked timedOut ticked expired resumed onAreYouCoordinator onAreYouThere onInvitation onAccept onReady onReply received react waits oldest withoutOldest reactionTo remaining effect grounds judged lengthOf cutShort checked eventOf nextAt nodesOf firstOf readFrom rest reading digits decimal row cabinetsLine refusedLine stoppedLine nodeLine messagesLine totalLine totalLines total nodeLines tableLines joined noteLines linesOf
 list-cases =
     record {
       in-model = named-cases;
@@ -70,5 +70,7 @@ list-cases =
       k10 = quick-text k10-list 2 refl (omega arith) (omega arith) (omega arith);
       refused-stopped = quick-text (nodes 2 ++ (recover 1 ++ (recover 1 ++ (crash 2 ++ (recover 2 ++ (0x17 ∷ 0 ∷ [])))))) 2 refl (omega arith) (omega arith) (omega arith);
       totals-stopped = quick-text (nodes 2 ++ (recover 1 ++ (recover 2 ++ (check 2 ++ (deliver 2 1 ++ (lose 1 2 ++ (expire 2 ++ (check 2 ++ (deliver 2 1 ++ (0x17 ∷ 0 ∷ [])))))))))) 2 refl (omega arith) (omega arith) (omega arith);
+      turned-away = quick-text (k10-list ++ (check 1 ++ check 2)) 2 refl (omega arith) (omega arith) (omega arith);
+      check-alone = quick-text (nodes 1 ++ (recover 1 ++ check 1)) 1 refl (omega arith) (omega arith) (omega arith);
       failed-alone = refl;
     }
