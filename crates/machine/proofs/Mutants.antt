@@ -20,10 +20,10 @@ use Rattle.model.specs.Recovery.{recoveryRecords}
 use Rattle.model.specs.Procedures.{recovers, inviteNext, merges, handNext, finishes, forwardNext, askedAll, askAt, askAfter}
 use Rattle.model.specs.React.{checked, timedOut, ticked, expired, resumed, onAreYouCoordinator, onAreYouThere, onInvitation, onAccept, onReady, onReply, received, react}
 use Rattle.model.specs.Range.{activityInRange, nodeInRange, messageInRange}
-use Rattle.model.specs.State.{State, startingNode, start, nodeAt, waits, oldest, withoutOldest, allWaiting, countsAside, every, baseInRange, trafficInRange, inRange, firstOf, view, tableOf}
+use Rattle.model.specs.State.{State, startingNode, start, nodeAt, noMessage, waits, oldest, withoutOldest, allWaiting, countsAside, every, baseInRange, trafficInRange, inRange, firstOf, view, tableOf}
 use Rattle.model.specs.Step.{actor, reactionTo, remaining, sent, withSent, withDelivered, withLost, effect, wrongStatus, notCoordinator, forms, isCalling, isSending, pairAtEnd, grounds, judged, Result, refused, accepted, step, kept, aside, after, runFrom}
 use Rattle.model.specs.Answers.{answerNumber, resultNumber}
-use Rattle.model.specs.Claims.{isActive, Lacks, Sends, whomNow, whomStill, Below, Picked, InvitationReaches, Holds, recoversAtExpire, recordAfter, ReachesIdle}
+use Rattle.model.specs.Claims.{isActive, Lacks, Sends, whomNow, whomStill, Below, Picked, InvitationReaches, Holds, recoversAtExpire, recordAfter, CheckReaches, LeadsNot}
 use Rattle.model.proofs.Judged.{Clear, by-step, clear-accepts, accepted-is, met}
 use Rattle.model.proofs.Local.{both-right}
 use Rattle.model.proofs.Fields.{in-range-size, own-record}
@@ -55,8 +55,8 @@ use Rattle.model.specs.declared.Answer.the-variants.{Accepted, NotInRange, NotC
 use Rattle.machine.specs.declared.RecoveryAnswer.{RecoveryAnswer}
 use Rattle.machine.specs.Stepped.{Stepped, startingTable, RecoveryAnswered}
 use Rattle.machine.specs.Parts.{takes}
-use Rattle.machine.specs.Mutants.{mergingTable, handingTable, invitedTable, askingTable, collectingTable, invites, Moves, NoMutant, NoWrongTurning, NoLowerFirst, NoJoiningAgain, NoOtherRecovery, NoOtherCounts, LeadsNot, NoOtherChecks}
-use Rattle.machine.proofs.Laws.{start-is}
+use Rattle.machine.specs.Mutants.{mergingTable, handingTable, invitedTable, askingTable, collectingTable, invites, Moves, NoMutant, NoWrongTurning, NoLowerFirst, NoJoiningAgain, NoOtherRecovery, NoOtherCounts, NoOtherChecks}
+use Rattle.machine.proofs.Laws.{start-is, first-length}
 use Rattle.machine.proofs.Runs.{run-nodes, start-node, answer-known, by-number, accepted-alike, code-runs, code-fixes, folded-reached}
 use Rattle.machine.proofs.Recovering.{model-accepts, code-accepts, recovery-alike}
 use Rattle.machine.proofs.Still.{accepted-differs, reply-taken}
@@ -582,7 +582,7 @@ one-kept s i n = by (step s (Check i)) refl
     by (accepted u k) q =
         let c = accepted-is s (Check i) u k q .clear in
         let p = check-rules .passes s i u k q in
-        let y : ReachesIdle s i = record { in-range = c .in-range; number = not-false _ (c .number); not-down = c .status; idle = not-false _ (c .activity) } in
+        let y : CheckReaches s i = record { in-range = c .in-range; number = not-false _ (c .number); not-down = c .status; idle = not-false _ (c .activity) } in
         ap (kept s) (sym q ∙ check-rules .one s i y n (p .0) (p .1))
 
 pub no-other-checks : NoOtherChecks
@@ -592,11 +592,14 @@ no-other-checks =
       changes = λ l x h. h (x .same (no-pass l x));
       other-number = λ {t} {i} {r} l y x h.
           h (answer-known (r .answer) NotCoordinator
-          (x .answer ∙ ap resultNumber (⊎-elim (λ f. check-rules .not-normal (view t) i y f) (λ f. check-rules .not-own (view t) i y f) l)));
+          (x .answer ∙ ap resultNumber (check-rules .turned-away (view t) i y l)));
       other-event = λ {t} {e} {r} x f y. f (check-rules .eighteen (view t) e (is-eighteen x y) .0);
-      before-nine = λ {t} {i} {r} d x y. true≢false (sym d ∙ check-rules .eighteen (view t) (Check i) (is-eighteen x y) .1 .not-down);
-      before-ten = λ {t} {i} {r} d x y. true≢false (sym (check-rules .eighteen (view t) (Check i) (is-eighteen x y) .1 .idle) ∙ d);
-      coordinator = λ {t} {i} {r} a b x y. ⊎-elim (λ f. f a) (λ f. f b) (check-rules .eighteen (view t) (Check i) (is-eighteen x y) .2);
+      too-soon = λ {t} {i} {r} f x y. f (check-rules .eighteen (view t) (Check i) (is-eighteen x y) .1);
+      to-coordinator = λ {t} {i} {r} a b x y. ⊎-elim (λ f. f a) (λ f. f b) (check-rules .eighteen (view t) (Check i) (is-eighteen x y) .2);
+      turns-away = λ {t} {i} {r} n y a b l q m x h.
+          h (answer-known (r .answer) Accepted
+          (x .answer ∙ ap resultNumber (check-rules .asks (view t) i y n a b l (omega (arith, q, first-length (t .waiting) noMessage (t .messages))) m)));
+      asks-otherwise = λ {t} {i} {r} x y h. let q = accepted-alike .model-accepts x y in h (x .table ∙ ap (kept (view t)) q ∙ check-rules .leaves (view t) i _ _ q);
       one-away = λ {t} {i} {r} n y a b x h. h (answer-known (r .answer) Accepted (x .answer ∙ ap resultNumber (check-rules .one (view t) i y n a b)));
       one-changes = λ {t} {i} {r} n x h. h (x .table ∙ one-kept (view t) i n);
       early = λ n {es} {t} {e} {r} c few x y.

@@ -1,22 +1,21 @@
 -- "Try these impostors", "Wrong turnings in this protocol" and 02's T-02 to T-06: what no machine does that meets `Stepped`, or `RecoveryAnswered` (mutant: 01's impostor). A machine is here
 -- whatever answers an event e on a table t with an outcome r, as a function f from tables and events does with f t e; nothing is asked of how it comes to r, so it may also
 -- remember. Each field takes as little of the mutant's behaviour as shuts it out: one event, and one thing that is wrong then. The proofs are in proofs/Mutants.
-use Prim.Native.Nat.{ℕ, _+_, _≤_}
+use Prim.Native.Nat.{ℕ, _+_, _≤_, _<_}
 use mathlib.Core.Bool.{Bool, true, false, not, _||_}
 use mathlib.Core.Path.{_≡_}
-use mathlib.Core.Logic.{_⊎_}
 use mathlib.Core.List.{List, [], _∷_, _++_, map}
 use lib.Dec.{eqb, ltb}
 use lib.ListN.{length, replicate}
 use Rattle.node_set.specs.NodeSet.{has}
-use Rattle.model.specs.Limits.{nodeLimit, counterEnd, trafficEnd}
+use Rattle.model.specs.Limits.{nodeLimit, queueLimit, counterEnd, callEnd, trafficEnd}
 use Rattle.model.specs.Counts.{countAt, oneMore}
-use Rattle.model.specs.Node.{isDown, isNormal, isIdle, hasOpenCall, groupOf, replies}
+use Rattle.model.specs.Node.{isDown, isNormal, hasOpenCall, groupOf, replies}
 use Rattle.model.specs.Range.{isNode}
 use Rattle.model.specs.State.{State, nodeAt, waits, oldest, allWaiting, trafficInRange, inRange, view, tableOf}
 use Rattle.model.specs.Step.{actor, reactionTo, remaining, grounds}
 use Rattle.model.specs.Answers.{answerNumber}
-use Rattle.model.specs.Claims.{isActive, Lacks, FirstApplies, whomNow, whomStill, whomAside, InvitationReaches, Owns, Holds, withPlainReply, MaySend, recoversAtExpire, recordAfter, ReachesIdle}
+use Rattle.model.specs.Claims.{isActive, Lacks, FirstApplies, whomNow, whomStill, whomAside, InvitationReaches, Owns, Holds, withPlainReply, MaySend, recoversAtExpire, recordAfter, firstOther, withCheck, CheckReaches, LeadsNot}
 use Rattle.model.specs.Cases.{setOf, none, node, invitedOnce}
 use Rattle.model.specs.declared.Mark.the-variants.{Merges}
 use Rattle.model.specs.declared.Status.the-variants.{Election, Reorganization, Normal}
@@ -116,7 +115,7 @@ pub record Moves (t : Table) (e : Event) : Type 0 where
 pub record NoMutant : Type 0 where
   -- "a machine that turns every event away", "one that returns the same table always": not at the first event, where it is a recovery
   pub first-moves : (n i : ℕ) → n ≤ nodeLimit → 1 ≤ i → i ≤ n → Moves (startingTable n) (Recover i)
-  -- "one that answers 'accepted' and moves nothing": not at any event on any table, but where 01 says that nothing changes
+  -- "one that answers 'accepted' and moves nothing": not at any event on any table, but where 01 says, and T-06 leaves it so, that nothing changes
   pub accepted-still : (t : Table) (e : Event) {r : Outcome} → mayRest (view t) e ≡ false → Stepped t e r → r .answer ≡ Accepted
       → view (r .table) .nodes ≡ view t .nodes → view (r .table) .queue ≡ view t .queue → ⊥
   -- "one that works on the first event and then idles": in every table in range, whatever came before it, a node that is up can crash, and one that is Down can
@@ -323,10 +322,6 @@ pub record NoOtherCounts : Type 0 where
 
 -- ── 02, T-06: checks only by a coordinator ──
 
--- node i is not Normal, or not its own coordinator
-abbrev pub LeadsNot : State → ℕ → Type 0
-LeadsNot s i = (nodeAt s i .status ≡ Normal → ⊥) ⊎ (nodeAt s i .coordinator ≡ i → ⊥)
-
 -- No machine that meets `Stepped` is:
 pub record NoOtherChecks : Type 0 where
   -- one that lets such a check pass, on any table: the machine of 01, which answered "accepted" and changed nothing, for one
@@ -334,16 +329,20 @@ pub record NoOtherChecks : Type 0 where
   -- or one that changes something at it
   pub changes : {t : Table} {i : ℕ} {r : Outcome} → LeadsNot (view t) i → Stepped t (Check i) r → (r .table ≡ t → ⊥) → ⊥
   -- or one that gives it another number, where the table is in range and i a node that is idle and not Down
-  pub other-number : {t : Table} {i : ℕ} {r : Outcome} → LeadsNot (view t) i → ReachesIdle (view t) i → Stepped t (Check i) r → (r .answer ≡ NotCoordinator → ⊥) → ⊥
+  pub other-number : {t : Table} {i : ℕ} {r : Outcome} → LeadsNot (view t) i → CheckReaches (view t) i → Stepped t (Check i) r → (r .answer ≡ NotCoordinator → ⊥) → ⊥
   -- one that gives 18 to another event
   pub other-event : {t : Table} {e : Event} {r : Outcome} → Stepped t e r → (e ≡ Check (actor e) → ⊥) → r .answer ≡ NotCoordinator → ⊥
-  -- or before 9, before 10, or to a coordinator
-  pub before-nine : {t : Table} {i : ℕ} {r : Outcome} → isDown (nodeAt (view t) i .status) ≡ true → Stepped t (Check i) r → r .answer ≡ NotCoordinator → ⊥
-  pub before-ten : {t : Table} {i : ℕ} {r : Outcome} → isIdle (nodeAt (view t) i .activity) ≡ false → Stepped t (Check i) r → r .answer ≡ NotCoordinator → ⊥
-  pub coordinator : {t : Table} {i : ℕ} {r : Outcome} → nodeAt (view t) i .status ≡ Normal → nodeAt (view t) i .coordinator ≡ i
+  -- or before 1, 7, 9 or 10, or to a coordinator
+  pub too-soon : {t : Table} {i : ℕ} {r : Outcome} → (CheckReaches (view t) i → ⊥) → Stepped t (Check i) r → r .answer ≡ NotCoordinator → ⊥
+  pub to-coordinator : {t : Table} {i : ℕ} {r : Outcome} → nodeAt (view t) i .status ≡ Normal → nodeAt (view t) i .coordinator ≡ i
       → Stepped t (Check i) r → r .answer ≡ NotCoordinator → ⊥
+  -- one that turns the check of a coordinator away, where the call number and the message are to be had
+  pub turns-away : {t : Table} {i : ℕ} {r : Outcome} → 1 < t .n → CheckReaches (view t) i → nodeAt (view t) i .status ≡ Normal → nodeAt (view t) i .coordinator ≡ i
+      → nodeAt (view t) i .last .number < callEnd → t .waiting < queueLimit → MaySend (view t) i (firstOther i) → Stepped t (Check i) r → (r .answer ≡ Accepted → ⊥) → ⊥
+  -- one that lets a check pass and asks another cabinet, or not at all, or changes anything else
+  pub asks-otherwise : {t : Table} {i : ℕ} {r : Outcome} → Stepped t (Check i) r → r .answer ≡ Accepted → (view (r .table) ≡ withCheck (view t) i → ⊥) → ⊥
   -- one that with n = 1 turns away the check of a coordinator, or does something at any check
-  pub one-away : {t : Table} {i : ℕ} {r : Outcome} → t .n ≡ 1 → ReachesIdle (view t) i → nodeAt (view t) i .status ≡ Normal → nodeAt (view t) i .coordinator ≡ i
+  pub one-away : {t : Table} {i : ℕ} {r : Outcome} → t .n ≡ 1 → CheckReaches (view t) i → nodeAt (view t) i .status ≡ Normal → nodeAt (view t) i .coordinator ≡ i
       → Stepped t (Check i) r → (r .answer ≡ Accepted → ⊥) → ⊥
   pub one-changes : {t : Table} {i : ℕ} {r : Outcome} → t .n ≡ 1 → Stepped t (Check i) r → (view (r .table) ≡ view t → ⊥) → ⊥
   -- one that gives 18 to one of the first seven events from the starting table

@@ -17,7 +17,7 @@ use Rattle.model.specs.Range.{activityInRange, nodeInRange, messageInRan
 use Rattle.model.specs.State.{State, startingNode, start, nodeAt, allWaiting, countsAside, baseInRange, waits, oldest, withoutOldest, howMany, countsOf, every, upTo, countsInRange, trafficInRange, inRange}
 use Rattle.model.specs.Step.{reactionTo, remaining, effect, wrongNumber, wrongTask, wrongStatus, wrongActivity, notCoordinator, noneWaits, Ground, grounds, Result, refused, accepted, judged, step, kept, aside, after, runFrom, run}
 use Rattle.model.specs.History.{History, blank, updated, noted, historyFrom, history}
-use Rattle.model.specs.Cases.{NamedCases, WrongTurnings, FurtherCases, printedFields, among, queued, pair, filled, anyCall, collecting, k10, foundThree, setOf, none, node, three, joinsFormer, inFormerGroup, newMerges, afterMerge, bothInvite, invitedByBoth, joinsNew, inNewGroup, invitedOnce, InvitedTwice, HeldGroupCases, RecoveryCases, acceptedInvitation, CheckCases, RangeCases}
+use Rattle.model.specs.Cases.{NamedCases, WrongTurnings, FurtherCases, printedFields, among, queued, pair, filled, anyCall, collecting, k10, foundThree, setOf, none, node, three, joinsFormer, inFormerGroup, newMerges, afterMerge, bothInvite, invitedByBoth, joinsNew, inNewGroup, invitedOnce, InvitedTwice, HeldGroupCases, RecoveryCases, acceptedInvitation, onlyOne, CheckCases, RangeCases}
 use Rattle.model.proofs.Locality.{step-is-local}
 use Rattle.model.proofs.InRange.{start-in, run-in, stays-in-range}
 use Rattle.model.proofs.Waiting.{waiting-in}
@@ -376,10 +376,11 @@ check-cases =
             idle = ap (λ (s : State). isIdle (nodeAt s 1 .activity)) recovered;
           })
           (ap (λ (s : State). s .n) recovered) (ap (λ (s : State). nodeAt s 1 .status) recovered) (ap (λ (s : State). nodeAt s 1 .coordinator) recovered);
-      one-normal = one-step _ _ _ _ refl;
+      one-at-end = check-rules .one (onlyOne Normal 16777215 Idle) 1 (record { in-range = waiting-in _ _ _ refl; number = refl; not-down = refl; idle = refl }) refl refl refl;
       one-election = one-refused _ _ _ _ _ refl refl;
       one-reorganization = one-refused _ _ _ _ _ refl refl;
       one-down = one-refused _ _ _ _ _ refl refl;
+      one-busy = one-refused _ _ _ _ _ refl refl;
       range-first = not-in-range _ _ _ _ refl;
       number-first = one-refused _ _ _ _ _ refl refl;
       down-own = one-refused _ _ _ _ _ refl refl;
@@ -392,12 +393,10 @@ check-cases =
       busy-reorganization = one-refused _ _ _ _ _ refl refl;
       busy-member = one-refused _ _ _ _ _ refl refl;
       busy-asking = one-refused _ _ _ _ _ refl refl;
-      busy-waiting = one-refused _ _ _ _ _ refl refl;
       calls-end = one-refused _ _ _ _ _ refl refl;
       full = one-refused _ _ _ _ _ refl refl;
       run-accepted = from-two acceptedInvitation (Check 1) _ (omega arith) refl;
       run-member = member-turned-away;
-      run-collecting = from-two collecting (Check 2) _ (omega arith) refl;
       run-coordinator = ap (λ (s : State). nodeAt s 2 .activity) (after-two k10 (Check 2) (omega arith));
       skipped = step-is-local .refused-skips 2 k10 (Check 1) (Check 2 ∷ []) 18 member-turned-away;
       number = refl;

@@ -2,13 +2,13 @@
 use Prim.Native.Nat.{ℕ, _+_, _-_, _≤_, _<_}
 use native.Mathlib.Omega.{arith}
 use mathlib.Core.Bool.{Bool, true, false, not, _&&_, _||_, true≢false}
-use mathlib.Core.Logic.{_⊎_, inl, inr}
+use mathlib.Core.Logic.{inl, inr}
 use mathlib.Core.Path.{_≡_, refl, sym, _∙_, ap}
 use mathlib.Core.List.{List, [], _∷_, _++_, append-nil}
 use lib.Dec.{eqb, ltb}
 use lib.ListN.{length, set}
 use lib.Seq.{set-getD}
-use borrow.Author.Tests.{not-false, not-true, eqb-true, eqb-false, eq-eqb, ne-eqb, le-leb, ltb-true}
+use borrow.Author.Tests.{not-false, not-true, eqb-true, eqb-false, eq-eqb, ne-eqb, le-leb, lt-ltb, ltb-true}
 use Rattle.model.specs.Pick.{pick, pick-true, pick-false}
 use Rattle.model.specs.Limits.{queueLimit, counterEnd, callEnd, trafficEnd}
 use Rattle.model.specs.Counts.{countAt}
@@ -17,8 +17,8 @@ use Rattle.model.specs.Procedures.{reaction, stays, askAt, askAfter}
 use Rattle.model.specs.React.{leads, checked, react}
 use Rattle.model.specs.State.{State, startingNode, nodeAt}
 use Rattle.model.specs.Step.{actor, reactionTo, remaining, sent, withSent, effect, notCoordinator, forms, isCalling, isSending, pairAtEnd, ground, grounds, Result, refused, accepted, judged, step, run}
-use Rattle.model.specs.Claims.{firstOther, checkGrounds, withCheck, ReachesIdle, CheckRules}
-use Rattle.model.proofs.Judged.{accepted-is, met, passed}
+use Rattle.model.specs.Claims.{MaySend, firstOther, checkGrounds, withQuestion, withCheck, CheckReaches, LeadsNot, CheckRules}
+use Rattle.model.proofs.Judged.{judged-by, accepted-is, met, passed}
 use Rattle.model.proofs.Local.{both-left, both-right}
 use Rattle.model.proofs.Fields.{node-is}
 use Rattle.model.proofs.Early.{early-leads}
@@ -117,6 +117,11 @@ module _ (s : State) (i : ℕ) where
       (λ _. one-ground 10 _ _ _ _ refl
       (λ _. one-ground 18 _ _ _ _ (not-both (isNormal (nodeAt s i .status)) (eqb (nodeAt s i .coordinator) i)) (λ _. pick-false _ _ ∙ ends-claimed)))))
 
+leaves : (s : State) (i : ℕ) (u : State) (k : Mark) → step s (Check i) ≡ accepted u k → u ≡ withCheck s i
+leaves s i u k q =
+    judged-by (λ (r : Result). r ≡ accepted u k → u ≡ withCheck s i) (accepted (withCheck s i) Plain) (checkGrounds s i)
+    (λ r e. absurd (let z : _≡_ {A = ℕ} 0 1 = cc in omega arith)) (λ _ e. cc) (sym (checks s i) ∙ q)
+
 -- ── statuses ──
 normal-is : (t : Status) → isNormal t ≡ true → t ≡ Normal
 normal-is Down e = absurd (true≢false (sym e))
@@ -135,18 +140,34 @@ or-true true = refl
 or-true false = refl
 
 -- ── one check ──
-module _ (s : State) (i : ℕ) (x : ReachesIdle s i) where
-  turned-away : not (isNormal (nodeAt s i .status)) || not (eqb (nodeAt s i .coordinator) i) ≡ true → step s (Check i) ≡ refused 18
+module _ (s : State) (i : ℕ) (x : CheckReaches s i) where
+  by-eighteen : not (isNormal (nodeAt s i .status)) || not (eqb (nodeAt s i .coordinator) i) ≡ true → step s (Check i) ≡ refused 18
   unfolding judged
-  turned-away e = checks s i ∙ rw (x .in-range, x .number, x .not-down, x .idle, e, pick-false, pick-false, pick-false, pick-false, pick-true)
+  by-eighteen e = checks s i ∙ rw (x .in-range, x .number, x .not-down, x .idle, e, pick-false, pick-false, pick-false, pick-false, pick-true)
 
-  not-normal : (nodeAt s i .status ≡ Normal → ⊥) → step s (Check i) ≡ refused 18
-  not-normal d = turned-away (ap (λ (t : Bool). not t || not (eqb (nodeAt s i .coordinator) i)) (not-normal-is (nodeAt s i .status) d))
-
-  not-own : (nodeAt s i .coordinator ≡ i → ⊥) → step s (Check i) ≡ refused 18
-  not-own d =
-      turned-away
+  turned-away : LeadsNot s i → step s (Check i) ≡ refused 18
+  turned-away (inl d) = by-eighteen (ap (λ (t : Bool). not t || not (eqb (nodeAt s i .coordinator) i)) (not-normal-is (nodeAt s i .status) d))
+  turned-away (inr d) =
+      by-eighteen
       (ap (λ (t : Bool). not (isNormal (nodeAt s i .status)) || not t) (ne-eqb (nodeAt s i .coordinator) i d) ∙ or-true (not (isNormal (nodeAt s i .status))))
+
+  asking : 1 < s .n → nodeAt s i .status ≡ Normal → nodeAt s i .coordinator ≡ i → nodeAt s i .last .number < callEnd → length (s .queue) < queueLimit → MaySend s i (firstOther i)
+      → step s (Check i) ≡ accepted (withQuestion s i) Plain
+  unfolding judged pick
+  asking n a b l q m =
+      checks s i
+      ∙ rw (
+        x .in-range,
+        x .number,
+        x .not-down,
+        x .idle,
+        lt-ltb 1 (s .n) n,
+        ap isNormal a,
+        eq-eqb (nodeAt s i .coordinator) i b,
+        ne-eqb (nodeAt s i .last .number) callEnd (λ e. omega arith),
+        ne-eqb (length (s .queue)) queueLimit (λ e. omega arith),
+        ne-eqb (countAt (s .sent) i (firstOther i)) trafficEnd m,
+      )
 
   one : s .n ≡ 1 → nodeAt s i .status ≡ Normal → nodeAt s i .coordinator ≡ i → step s (Check i) ≡ accepted s Plain
   unfolding judged pick
@@ -171,7 +192,7 @@ module _ (s : State) where
   only-check (Deliver a b) t = absurd (true≢false (sym t))
   only-check (Lose a b) t = absurd (true≢false (sym t))
 
-  reaches : (i : ℕ) → step s (Check i) ≡ refused 18 → ReachesIdle s i
+  reaches : (i : ℕ) → step s (Check i) ≡ refused 18 → CheckReaches s i
   unfolding grounds pick
   reaches i q =
       record {
@@ -181,22 +202,21 @@ module _ (s : State) where
         idle = not-false _ (passed s (Check i) 10 18 refl q);
       }
 
-  which : (i : ℕ) (c : Node) → leads i c ≡ false → (c .status ≡ Normal → ⊥) ⊎ (c .coordinator ≡ i → ⊥)
-  which i c f = by (isNormal (c .status)) refl
+  which : (i : ℕ) → leads i (nodeAt s i) ≡ false → LeadsNot s i
+  which i f = by (isNormal (nodeAt s i .status)) refl
     where
-      by : (t : Bool) → isNormal (c .status) ≡ t → (c .status ≡ Normal → ⊥) ⊎ (c .coordinator ≡ i → ⊥)
-      by true e = inr (λ q. true≢false (sym (ap (λ (t : Bool). t && eqb (c .coordinator) i) e ∙ eq-eqb (c .coordinator) i q) ∙ f))
+      by : (t : Bool) → isNormal (nodeAt s i .status) ≡ t → LeadsNot s i
+      by true e = inr (λ q. true≢false (sym (ap (λ (t : Bool). t && eqb (nodeAt s i .coordinator) i) e ∙ eq-eqb (nodeAt s i .coordinator) i q) ∙ f))
       by false e = inl (λ q. true≢false (sym (ap isNormal q) ∙ e))
 
   not-leading : (e : Event) → step s e ≡ refused 18 → (e ≡ Check (actor e)) × (leads (actor e) (nodeAt s (actor e)) ≡ false)
   unfolding grounds pick
   not-leading e q = only-check e (met s e 18 refl q)
 
-  eighteen : (e : Event) → step s e ≡ refused 18
-      → (e ≡ Check (actor e)) × ReachesIdle s (actor e) × ((nodeAt s (actor e) .status ≡ Normal → ⊥) ⊎ (nodeAt s (actor e) .coordinator ≡ actor e → ⊥))
+  eighteen : (e : Event) → step s e ≡ refused 18 → (e ≡ Check (actor e)) × CheckReaches s (actor e) × LeadsNot s (actor e)
   eighteen e q =
       let x = not-leading e q in
-      (x .0, reaches (actor e) (ap (step s) (sym (x .0)) ∙ q), which (actor e) (nodeAt s (actor e)) (x .1))
+      (x .0, reaches (actor e) (ap (step s) (sym (x .0)) ∙ q), which (actor e) (x .1))
 
 not-early : (n : ℕ) (es : List Event) (e : Event) → length es ≤ 6 → step (run n es) e ≡ refused 18 → ⊥
 not-early n es e few q =
@@ -206,4 +226,4 @@ not-early n es e few q =
     true≢false (sym (early-leads n es few (actor e) (p .low) (p .high) (y .not-down) (y .idle)) ∙ x .1)
 
 pub check-rules : CheckRules
-check-rules = record { checks = checks; not-normal = not-normal; not-own = not-own; passes = passes; one = one; eighteen = eighteen; not-early = not-early }
+check-rules = record { checks = checks; leaves = leaves; turned-away = turned-away; passes = passes; asks = asking; one = one; eighteen = eighteen; not-early = not-early }

@@ -24,7 +24,7 @@ use Rattle.model.specs.declared.Input.the-variants as Input
 use Rattle.model.specs.declared.Event.{Event}
 use Rattle.model.specs.declared.Event.the-variants.{Crash, Recover, Check, Timeout, Tick, Expire, Finish, Deliver, Lose}
 
-judged-by : (P : Result → Type 0) (r : Result) (gs : List Ground) → ((x : ℕ) → P (refused x)) → (NoneApplies gs → P r) → P (judged r gs)
+pub judged-by : (P : Result → Type 0) (r : Result) (gs : List Ground) → ((x : ℕ) → P (refused x)) → (NoneApplies gs → P r) → P (judged r gs)
 unfolding judged
 judged-by P r [] f g = g tt
 judged-by P r (x ∷ gs) f g = by-test P (λ _. f (x .number)) (λ q. judged-by P r gs f (λ c. g (q, c)))

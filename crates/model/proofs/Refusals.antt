@@ -4,7 +4,7 @@ use native.Mathlib.Omega.{arith}
 use mathlib.Core.Bool.{Bool, true, false, _&&_, _||_}
 use mathlib.Core.Logic.{_⊎_, inl, inr, ⊎-elim}
 use mathlib.Core.Path.{_≡_, refl, sym, _∙_, ap, subst}
-use mathlib.Core.List.{List, [], _∷_, _++_}
+use mathlib.Core.List.{List, [], _∷_, _++_, map}
 use lib.Dec.{eqb, leb}
 use borrow.Author.Tests.{eqb-true, leb-true}
 use Rattle.model.specs.Pick.{pick, pick-true, pick-false, by-test}
@@ -111,8 +111,12 @@ first-given s e r f = ap (judged _) (f .whole) ∙ judged-first _ (f .before) (f
 none-accepts : (s : State) (e : Event) → NoneApplies (grounds s e) → Accepts s e
 none-accepts s e c = record { state = _; mark = _; is = none-applies s e c }
 
+order : (s : State) (e : Event) → map (λ g. g .number) (grounds s e) ≡ 1 ∷ 7 ∷ 8 ∷ 9 ∷ 10 ∷ 18 ∷ 11 ∷ 12 ∷ 13 ∷ 14 ∷ 17 ∷ []
+unfolding grounds
+order s e = refl
+
 pub refuses-by-ground : RefusesByGround
-refuses-by-ground = record { first = first; first-given = first-given; none = none; none-accepts = none-accepts; numbers = numbers; never-zero = never-zero; zero-accepts = zero-accepts; delivery-never-full = delivery-never-full }
+refuses-by-ground = record { order = order; first = first; first-given = first-given; none = none; none-accepts = none-accepts; numbers = numbers; never-zero = never-zero; zero-accepts = zero-accepts; delivery-never-full = delivery-never-full }
 
 -- so the number of a result is small
 pub result-small : (s : State) (e : Event) → resultNumber (step s e) ≤ 18

@@ -137,9 +137,12 @@ queued k = replicate k (asks 2 1 (callNo 1))
 
 -- ── lists of events ──
 
--- K10's events, and those up to where node 2 collects (K6)
+-- K10's events; those up to where node 1 has accepted, and is in Reorganization (T-06); and one more, after which node 2 collects (K6)
+abbrev pub acceptedInvitation : List Event
+acceptedInvitation = Recover 1 ∷ Recover 2 ∷ Check 2 ∷ Deliver 2 1 ∷ Deliver 1 2 ∷ Deliver 2 1 ∷ Deliver 1 2 ∷ Deliver 2 1 ∷ []
+
 abbrev pub collecting : List Event
-collecting = Recover 1 ∷ Recover 2 ∷ Check 2 ∷ Deliver 2 1 ∷ Deliver 1 2 ∷ Deliver 2 1 ∷ Deliver 1 2 ∷ Deliver 2 1 ∷ Deliver 1 2 ∷ []
+collecting = acceptedInvitation ++ (Deliver 1 2 ∷ [])
 
 abbrev pub k10 : List Event
 k10 = collecting ++ (Finish 2 (taskNo 100) ∷ Deliver 2 1 ∷ Deliver 1 2 ∷ [])
@@ -234,7 +237,7 @@ pub record NamedCases : Type 0 where
   -- "K11 with 64 waiting, a check that must ask: 14; a delivery passes."
   pub k11-refused : step (pair Normal none Idle (queued 64)) (Check 1) ≡ refused 14
   pub k11-passes : countsAside (after (pair Normal none Idle (queued 64)) (Deliver 2 1)) ≡ pair Normal none Idle (queued 63 ++ (replies 1 2 (callNo 1) true ∷ []))
-  -- with 63 waiting it asks; with 64, a check that must not ask meets 18 (T-06)
+  -- with 63 waiting it asks; with 64, a check in Reorganization meets 18 (T-06), and not 14
   pub k11-room : after (pair Normal none Idle (queued 63)) (Check 1) .queue ≡ queued 63 ++ (asks 1 2 (callNo 4) ∷ [])
   pub k11-turned-away : step (pair Reorganization none Idle (queued 64)) (Check 2) ≡ refused 18
   -- "K12 Accept reaching its group's owner in Reorganization: members unchanged."
@@ -798,12 +801,13 @@ pub record TrafficCases : Type 0 where
   -- the counts of the other pairs do not matter, nor does this one where nothing is sent
   pub other-pair : step (past 1 2 33554430 0 (pair Normal none Idle [])) (Check 2)
       ≡ accepted (past 1 2 33554430 0 (beside (node Normal 2 33 2 100 none 3 (Asking 1 none)) (asks 2 1 (callNo 3) ∷ []))) Plain
-  pub member-at-end : step (past 2 1 33554430 0 (beside (follower Normal 32 100 none 2 Idle) [])) (Check 2) ≡ refused 18
   pub nothing-sent : step (past 2 1 33554430 0 (pair Normal none Idle [])) (Crash 2) ≡ accepted (past 2 1 33554430 0 (pair Down none Idle [])) Plain
   pub lose-at-end : step (past 2 1 33554429 0 (pair Down none Idle (queued 1))) (Lose 2 1) ≡ accepted (past 2 1 33554429 1 (pair Down none Idle [])) Plain
   -- nor the count of what is delivered, whose reply goes the other way
   pub deliver-at-end : step (past 2 1 33554429 0 (pair Normal none Idle (queued 1))) (Deliver 2 1)
       ≡ accepted (past 2 1 33554430 0 (pair Normal none Idle (replies 1 2 (callNo 1) true ∷ []))) Plain
+  -- a check of a member meets 18 (T-06), and not 17
+  pub member-at-end : step (past 2 1 33554430 0 (beside (follower Normal 32 100 none 2 Idle) [])) (Check 2) ≡ refused 18
   -- "after 14": 12 before 13 before 14 before 17
   pub ends-twelve : step (endingAfter 33554366 1048575 16777215 64) (Tick 2) ≡ refused 12
   pub ends-thirteen : step (endingAfter 33554366 1048574 16777215 64) (Tick 2) ≡ refused 13
@@ -848,13 +852,9 @@ pub record TrafficCases : Type 0 where
 
 -- ── 02, T-06: checks only by a coordinator. Node 2 of two, which leads its group 33 or follows node 1 ──
 
--- K10 up to where node 1 has accepted: it is in Reorganization, and idle
-abbrev pub acceptedInvitation : List Event
-acceptedInvitation = Recover 1 ∷ Recover 2 ∷ Check 2 ∷ Deliver 2 1 ∷ Deliver 1 2 ∷ Deliver 2 1 ∷ Deliver 1 2 ∷ Deliver 2 1 ∷ []
-
--- one node alone, its own coordinator
-abbrev pub onlyOne : Status → State
-onlyOne s = allWaiting 1 (filled s 16 1 100 none 0 Idle ∷ []) []
+-- one node alone, its own coordinator, with the last call number l
+abbrev pub onlyOne : Status → ℕ → Activity → State
+onlyOne s l a = allWaiting 1 (filled s 16 1 100 none l a ∷ []) []
 
 pub record CheckCases : Type 0 where
   -- "A check shall be turned away unless the cabinet is Normal and its own coordinator.": it is both, and asks, with members or without
@@ -869,19 +869,22 @@ pub record CheckCases : Type 0 where
   -- neither
   pub election-member : step (beside (follower Election 32 100 none 2 Idle) []) (Check 2) ≡ refused 18
   pub reorganization-member : step (beside (follower Reorganization 32 100 none 2 Idle) []) (Check 2) ≡ refused 18
-  -- "With n = 1 such a check still passes without effect.": such a check
+  -- "With n = 1 such a check still passes without effect.", also with the last call number, as it needs no call
   pub one : step (run 1 (Recover 1 ∷ [])) (Check 1) ≡ accepted (run 1 (Recover 1 ∷ [])) Plain
-  pub one-normal : aside (step (onlyOne Normal) (Check 1)) ≡ accepted (onlyOne Normal) Plain
-  pub one-election : step (onlyOne Election) (Check 1) ≡ refused 18
-  pub one-reorganization : step (onlyOne Reorganization) (Check 1) ≡ refused 18
-  pub one-down : step (onlyOne Down) (Check 1) ≡ refused 9
+  pub one-at-end : step (onlyOne Normal 16777215 Idle) (Check 1) ≡ accepted (onlyOne Normal 16777215 Idle) Plain
+  -- another check does not
+  pub one-election : step (onlyOne Election 0 Idle) (Check 1) ≡ refused 18
+  pub one-reorganization : step (onlyOne Reorganization 0 Idle) (Check 1) ≡ refused 18
+  pub one-down : step (onlyOne Down 0 Idle) (Check 1) ≡ refused 9
+  pub one-busy : step (onlyOne Normal 0 Collecting) (Check 1) ≡ refused 10
   -- "in the state place directly after 10", so 1, 7, 9 and 10 come first: a table that is not in range, no such node
   pub range-first : step (beside (follower Normal 33 100 none 2 Idle) []) (Check 2) ≡ refused 1
   pub number-first : step (beside (follower Normal 32 100 none 2 Idle) []) (Check 3) ≡ refused 7
   -- a Down one: its own coordinator, led by another
   pub down-own : step (pair Down none Idle []) (Check 2) ≡ refused 9
   pub down-member : step (beside (follower Down 32 100 none 2 Idle) []) (Check 2) ≡ refused 9
-  -- a busy one that is not Normal, by each activity that one can have; a busy member; and one that is Normal and its own coordinator
+  -- a busy one that is not Normal, by each activity that it can have in a run; a busy member; and one that is Normal and its own coordinator (waiting:
+  -- FurtherCases.activity-check)
   pub busy-inviting : step (pair Election none (Inviting none none 1) []) (Check 2) ≡ refused 10
   pub busy-collecting : step (pair Election none Collecting []) (Check 2) ≡ refused 10
   pub busy-handing : step (pair Reorganization none (Handing none 1) []) (Check 2) ≡ refused 10
@@ -890,14 +893,12 @@ pub record CheckCases : Type 0 where
   pub busy-reorganization : step (beside (follower Reorganization 32 100 none 2 Contacting) []) (Check 2) ≡ refused 10
   pub busy-member : step (beside (follower Normal 32 100 none 2 Contacting) []) (Check 2) ≡ refused 10
   pub busy-asking : step (pair Normal none (Asking 1 none) []) (Check 2) ≡ refused 10
-  pub busy-waiting : step (pair Normal none (Waiting 1 (setOf (1 ∷ []))) []) (Check 2) ≡ refused 10
-  -- and before the ends of the ranges (17: TrafficCases.member-at-end): the last call number, 64 waiting
+  -- and 13 and 14 behind it (17: TrafficCases.member-at-end): the last call number, 64 waiting
   pub calls-end : step (beside (follower Normal 32 100 none 16777215 Idle) []) (Check 2) ≡ refused 18
   pub full : step (beside (follower Normal 32 100 none 2 Idle) (queued 64)) (Check 2) ≡ refused 18
-  -- of a run: K10's node 1 has accepted, in nine events; it has its task; node 2 checks again
+  -- of a run, K10: node 1 has accepted, after eight events; it has its task; node 2 checks again
   pub run-accepted : step (run 2 acceptedInvitation) (Check 1) ≡ refused 18
   pub run-member : step (run 2 k10) (Check 1) ≡ refused 18
-  pub run-collecting : step (run 2 collecting) (Check 2) ≡ refused 10
   pub run-coordinator : nodeAt (after (run 2 k10) (Check 2)) 2 .activity ≡ Asking 1 none
   -- "it skips the event": what follows it is done as if it were not there
   pub skipped : run 2 (k10 ++ (Check 1 ∷ Check 2 ∷ [])) ≡ run 2 (k10 ++ (Check 2 ∷ []))

@@ -3,7 +3,7 @@ use Prim.Native.Nat.{ℕ, _+_, _-_, _^_, _≤_, _<_}
 use mathlib.Core.Bool.{Bool, true, false, not, _&&_, _||_}
 use mathlib.Core.Path.{_≡_}
 use mathlib.Core.Logic.{_⊎_}
-use mathlib.Core.List.{List, [], _∷_, _++_}
+use mathlib.Core.List.{List, [], _∷_, _++_, map}
 use lib.Dec.{eqb, ltb}
 use lib.ListN.{length, getD, set}
 use Rattle.node_set.specs.NodeSet.{has, without}
@@ -218,6 +218,8 @@ pub record FirstApplies (gs : List Ground) (r : ℕ) : Type 0 where
   pub none-before : NoneApplies before
 
 pub record RefusesByGround : Type 0 where
+  -- the order of the grounds: 01's, with 18 "directly after 10" (T-06) and 17 "after 14" (T-05)
+  pub order : (s : State) (e : Event) → map (λ g. g .number) (grounds s e) ≡ 1 ∷ 7 ∷ 8 ∷ 9 ∷ 10 ∷ 18 ∷ 11 ∷ 12 ∷ 13 ∷ 14 ∷ 17 ∷ []
   -- "the first that applies is given, and none without its ground", over the table of grounds: a refusal's number is that of the first ground that applies
   pub first : (s : State) (e : Event) (r : ℕ) → step s e ≡ refused r → FirstApplies (grounds s e) r
   pub first-given : (s : State) (e : Event) (r : ℕ) → FirstApplies (grounds s e) r → step s e ≡ refused r
@@ -593,7 +595,7 @@ checkGrounds s i =
     ∷ ground 18 (not (isNormal (nodeAt s i .status)) || not (eqb (nodeAt s i .coordinator) i))
     -- a call and a message are needed, but not with n = 1: "a call is needed, last call number 16,777,215"
     ∷ ground 13 (ltb 1 (s .n) && eqb (nodeAt s i .last .number) callEnd)
-    -- "a message is needed with 64 waiting"
+    -- "a message is needed, 64 wait"
     ∷ ground 14 (ltb 1 (s .n) && eqb (length (s .queue)) queueLimit)
     -- T-05: "a message must be sent and its pair's sent count is 33,554,430"
     ∷ ground 17 (ltb 1 (s .n) && eqb (countAt (s .sent) i (firstOther i)) trafficEnd)
@@ -624,25 +626,33 @@ withQuestion s i = record {
 abbrev pub withCheck : State → ℕ → State
 withCheck s i = pick (ltb 1 (s .n)) (withQuestion s i) s
 
--- check i is at the right place but for 18: the table is in range, and i is a node that is not Down and is idle
-pub record ReachesIdle (s : State) (i : ℕ) : Type 0 where
+-- check i meets none of 1, 7, 9 and 10: the table is in range, and i is a node that is not Down, and idle
+pub record CheckReaches (s : State) (i : ℕ) : Type 0 where
   pub in-range : inRange s ≡ true
   pub number : isNode (s .n) i ≡ true
   pub not-down : isDown (nodeAt s i .status) ≡ false
   pub idle : isIdle (nodeAt s i .activity) ≡ true
 
--- Every check, on every table.
+-- node i is not Normal, or not its own coordinator
+abbrev pub LeadsNot : State → ℕ → Type 0
+LeadsNot s i = (nodeAt s i .status ≡ Normal → ⊥) ⊎ (nodeAt s i .coordinator ≡ i → ⊥)
+
 pub record CheckRules : Type 0 where
-  -- all of check i as one equation: it is refused by these grounds, in this order, and by nothing else; and what it leaves
+  -- all of check i on any table, as one equation: it is refused by these grounds, in this order, and by nothing else; and what it leaves
   pub checks : (s : State) (i : ℕ) → step s (Check i) ≡ judged (accepted (withCheck s i) Plain) (checkGrounds s i)
+  -- so an accepted one leaves this
+  pub leaves : (s : State) (i : ℕ) (u : State) (k : Mark) → step s (Check i) ≡ accepted u k → u ≡ withCheck s i
   -- "A check shall be turned away unless the cabinet is Normal and its own coordinator."
-  pub not-normal : (s : State) (i : ℕ) → ReachesIdle s i → (nodeAt s i .status ≡ Normal → ⊥) → step s (Check i) ≡ refused 18
-  pub not-own : (s : State) (i : ℕ) → ReachesIdle s i → (nodeAt s i .coordinator ≡ i → ⊥) → step s (Check i) ≡ refused 18
+  pub turned-away : (s : State) (i : ℕ) → CheckReaches s i → LeadsNot s i → step s (Check i) ≡ refused 18
   pub passes : (s : State) (i : ℕ) (u : State) (k : Mark) → step s (Check i) ≡ accepted u k → (nodeAt s i .status ≡ Normal) × (nodeAt s i .coordinator ≡ i)
+  -- "unless": such a check asks, where the call number and the message are to be had
+  pub asks : (s : State) (i : ℕ) → CheckReaches s i → 1 < s .n → nodeAt s i .status ≡ Normal → nodeAt s i .coordinator ≡ i
+      → nodeAt s i .last .number < callEnd → length (s .queue) < queueLimit → MaySend s i (firstOther i) → step s (Check i) ≡ accepted (withQuestion s i) Plain
   -- "With n = 1 such a check still passes without effect."
-  pub one : (s : State) (i : ℕ) → ReachesIdle s i → s .n ≡ 1 → nodeAt s i .status ≡ Normal → nodeAt s i .coordinator ≡ i → step s (Check i) ≡ accepted s Plain
+  pub one : (s : State) (i : ℕ) → CheckReaches s i → s .n ≡ 1 → nodeAt s i .status ≡ Normal → nodeAt s i .coordinator ≡ i → step s (Check i) ≡ accepted s Plain
   -- "Checks: 18, check at a cabinet that is not Normal or not its own coordinator": no other event meets it, and no other check
   pub eighteen : (s : State) (e : Event) → step s e ≡ refused 18
-      → (e ≡ Check (actor e)) × ReachesIdle s (actor e) × ((nodeAt s (actor e) .status ≡ Normal → ⊥) ⊎ (nodeAt s (actor e) .coordinator ≡ actor e → ⊥))
-  -- "The lists of T-01 are too short to meet this": they have at most seven events, and none of the first seven of a run meets it
+      → (e ≡ Check (actor e)) × CheckReaches s (actor e) × LeadsNot s (actor e)
+  -- "The lists of T-01 are too short to meet this": they have at most seven events, and none of the first seven of a run meets it (that they "stay the same" is said of
+  -- the lists themselves, by short_lists_text)
   pub not-early : (n : ℕ) (es : List Event) (e : Event) → length es ≤ 6 → step (run n es) e ≡ refused 18 → ⊥

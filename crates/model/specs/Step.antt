@@ -40,7 +40,7 @@ actor (Finish i t) = i
 actor (Deliver a b) = b
 actor (Lose a b) = b
 
--- what the event's node does
+-- what the event's node does, where the event is accepted
 unfoldable pub reactionTo : State → Event → Reaction
 reactionTo s (Crash i) = react (s .n) i (nodeAt s i) Input.Crash
 reactionTo s (Recover i) = react (s .n) i (nodeAt s i) Input.Recover

@@ -61,7 +61,7 @@ lostIn n es a b = tally (loses a b) (start n) es
 
 -- ── of all pairs together ──
 
--- how many messages the event sends
+-- how many messages the event sends, where it is accepted
 abbrev pub sendsAny : State → Event → ℕ
 sendsAny s e = length (sent (reactionTo s e .outgoing))
 

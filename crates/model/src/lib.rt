@@ -145,7 +145,7 @@ pub struct Reaction {
     pub mark: Mark,
 }
 
-// What a step answers: accepted, or the ground of its refusal. the numbers of 01 and 02 are in specs/Answers.
+// What a step answers: accepted, or the ground of its refusal. The numbers of 01 and 02 are in specs/Answers.
 pub enum Answer {
     Accepted,
     NotInRange,

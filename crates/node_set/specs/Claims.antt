@@ -6,7 +6,7 @@ use mathlib.Core.Path.{_≡_}
 use Rattle.node_set.specs.NodeSet.{has, with, without, highest, count, upTo, within}
 
 pub record SetLaws (n : ℕ) : Type 0 where
-  -- "s has no node above n" is what it says, of any mask of 16 bits
+  -- `within n s` says that s has no node above n, of any mask of 16 bits
   pub none-above : (s j : ℕ) → within n s ≡ true → n < j → has s j ≡ false
   pub within-all : (s : ℕ) → s < 2 ^ 16 → ((j : ℕ) → n < j → has s j ≡ false) → within n s ≡ true
   -- sets that have the same nodes are the same

@@ -39,7 +39,7 @@ record Texts : Type 0 where
   stopped : textOf (nodes 2 ++ (0x11 ∷ [])) ≡ bytes "cabinets 2\nstopped 4 3\n1 0 0 0 0 0 0\n2 0 0 0 0 0 0\nmessages 0\nsent 0\ndelivered 0\nlost 0\n"
 
 texts : Texts
-unfolding pick onesIn ones leadingZeros react reactionTo remaining effect judged lengthOf cutShort checked eventOf nextAt nodesOf firstOf readFrom rest reading digits decimal row cabinetsLine refusedLine stoppedLine nodeLine messagesLine totalLine totalLines total nodeLines tableLines joined noteLines
+unfolding pick onesIn ones leadingZeros react reactionTo remaining effect grounds judged lengthOf cutShort checked eventOf nextAt nodesOf firstOf readFrom rest reading digits decimal row cabinetsLine refusedLine stoppedLine nodeLine messagesLine totalLine totalLines total nodeLines tableLines joined noteLines
 texts = record { refused = quick-text (nodes 2 ++ (recover 1 ++ recover 1)) 2 refl (omega arith) (omega arith) (omega arith); stopped = quick-text (nodes 2 ++ (0x11 ∷ [])) 2 refl (omega arith) (omega arith) (omega arith) }
 
 -- the buffer begins with the text x

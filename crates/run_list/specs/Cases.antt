@@ -36,7 +36,7 @@ pub record ListCases : Type 0 where
   -- T-05: three totals that differ, of a table with a message that waits, behind a stop
   pub totals-stopped : textOf (nodes 2 ++ (recover 1 ++ (recover 2 ++ (check 2 ++ (deliver 2 1 ++ (lose 1 2 ++ (expire 2 ++ (check 2 ++ (deliver 2 1 ++ (0x17 ∷ 0 ∷ []))))))))))
       ≡ bytes "cabinets 2\nstopped 39 3\n1 3 1 16 1 1 0\n2 3 2 17 2 1 0\nmessages 1\nsent 4\ndelivered 2\nlost 1\n"
-  -- 02, T-06: behind K10 a check by its member is refused with 18 and skipped, and one by its coordinator is done; with n = 1 a check passes without effect
+  -- 02, T-06: behind K10 a check by its member is refused with 18 and skipped, and one by its coordinator is done; with n = 1 such a check passes without effect
   pub turned-away : textOf (k10-list ++ (check 1 ++ check 2)) ≡ bytes "cabinets 2\nrefused 13 18\n1 3 2 33 100 1 0\n2 3 2 33 100 2 1\nmessages 1\nsent 9\ndelivered 8\nlost 0\n"
   pub check-alone : textOf (nodes 1 ++ (recover 1 ++ check 1)) ≡ bytes "cabinets 1\n1 3 1 16 1 1 0\nmessages 0\nsent 0\ndelivered 0\nlost 0\n"
   -- "if the whole list or the first field failed, that line is all that is printed"

@@ -11,3 +11,4 @@ pub mod Cases
 pub mod Refuses
 pub mod Decides
 pub mod Legal
+pub mod Stay

@@ -1,23 +1,26 @@
 -- What is claimed of the lists and of their text. The proofs are in proofs/.
-use Prim.Native.Nat.{ℕ, _^_, _≤_, _<_}
+use Prim.Native.Nat.{ℕ, zero, suc, _^_, _≤_, _<_}
 use mathlib.Core.Bool.{true}
 use mathlib.Core.Path.{_≡_}
 use mathlib.Core.Logic.{_⊎_}
 use mathlib.Core.List.{List, [], _∷_, _++_, map}
+use lib.Dec.{eqb}
 use lib.ListN.{length, take}
+use Rattle.model.specs.Pick.{pick}
 use Rattle.model.specs.State.{State, start}
-use Rattle.model.specs.Step.{step, runFrom}
+use Rattle.model.specs.Step.{Result, refused, accepted, step, runFrom}
 use Rattle.model.specs.Claims.{Accepts}
 use Rattle.model.specs.declared.TaskNo.{TaskNo}
+use Rattle.model.specs.declared.Mark.the-variants.{Plain}
 use Rattle.model.specs.declared.Event.{Event}
 use Rattle.model.specs.declared.Event.the-variants.{Crash, Recover, Check, Timeout, Tick, Expire, Finish, Deliver, Lose}
 use Rattle.event_list.specs.Format.{eventTag, lengthOf, eventOf}
 use Rattle.listing.specs.Ascii.{bytes}
 use Rattle.listing.specs.Decimal.{Denotes}
 use Rattle.listing.specs.Printing.{joined}
-use Rattle.short_lists_text.specs.Rows.{Among, All, Ascending}
+use Rattle.short_lists_text.specs.Rows.{Among, All, Ascending, concatMap}
 use Rattle.short_lists_text.specs.Order.{tag, contents, BytesBefore, Before, ListBefore}
-use Rattle.short_lists_text.specs.Lists.{listsFrom, isAccepted, Legal}
+use Rattle.short_lists_text.specs.Lists.{alphabet, continued, listsFrom, isAccepted, Legal}
 use Rattle.short_lists_text.specs.Text.{numbersOf, eventText, eventsText, listLine, countLine, linesOf, textOf}
 
 -- the lists of m events from s
@@ -162,3 +165,21 @@ pub record ListLinesDetermine : Type 0 where
   pub once : (m : ℕ) (s : State) (x : List ℕ) (before after : List (List ℕ)) → map listLine (listsFrom m s) ≡ before ++ (x ∷ after) → (Among x before → ⊥) × (Among x after → ⊥)
   -- from the text the lists can be told
   pub text : (ls ms : List (List Event)) → All (All SmallNumbers) ls → All (All SmallNumbers) ms → joined (linesOf ls) ≡ joined (linesOf ms) → ls ≡ ms
+
+-- ── 02, T-06: "The lists of T-01 are too short to meet this and stay the same." ──
+
+-- what the step came to before T-06: a check that meets 18 now was accepted then, and nothing changed (01: "Otherwise, or with n = 1, nothing changes.")
+abbrev pub formerResult : State → Result → Result
+formerResult s (refused r) = pick (eqb r 18) (accepted s Plain) (refused r)
+formerResult s (accepted u mark) = accepted u mark
+
+-- all lists of m events from s that were accepted so
+unfoldable pub formerLists : ℕ → State → List (List Event)
+formerLists zero s = [] ∷ []
+formerLists (suc m) s = concatMap (λ e. continued e (formerResult s (step s e)) (formerLists m)) (alphabet (s .n))
+
+pub record ListsStay : Type 0 where
+  -- up to seven events, for every n
+  pub lists : (n m : ℕ) → m ≤ 7 → formerLists m (start n) ≡ listsFrom m (start n)
+  -- and so all that is printed of them
+  pub texts : (n m : ℕ) → 1 ≤ n → n ≤ 3 → m ≤ 7 → textOf (n ∷ m ∷ []) ≡ joined (linesOf (formerLists m (start n)))
