@@ -1,6 +1,6 @@
--- The first seven events of a run meet no 18 (02, T-06): what nodes and messages can be after k events, for k up to 6. One lemma a procedure.
--- A message needs a recovery and a check before it, a reply a second recovery and a delivery more, an invitation and whoever found somebody the delivery of a reply, and whoever
--- acts on an invitation its delivery: six events. None of these is idle but whoever is Normal and its own coordinator.
+-- No event among the first seven of a run meets 18 (02, T-06): what nodes and messages can be after k events, for k up to 6. One lemma a procedure.
+-- A message takes a recovery and a check; a reply takes a second recovery and a delivery more; an invitation, or a node that has found another, the delivery of a reply more; and
+-- a node that acts on an invitation its delivery more, which makes six. Up to there only a node that is Normal and its own coordinator is idle.
 use Prim.Native.Nat.{ℕ, _+_, _-_, _≤_}
 use native.Mathlib.Omega.{arith}
 use mathlib.Core.Bool.{Bool, true, false, true≢false}
@@ -94,6 +94,18 @@ runs-more k i c (Handing r w) x = (x .0, omega (arith, x .1))
 runs-more k i c Contacting x = absurd x
 runs-more k i c (Forwarding r w a l) x = omega (arith, x)
 runs-more k i c (Accepting a l) x = omega (arith, x)
+
+-- whoever is idle, and not Down, leads
+idle-leads : (k i : ℕ) (c : Node) (a : Activity) → isIdle a ≡ true → Runs k i c a → (leads i c ≡ true) × (1 ≤ k)
+idle-leads k i c Idle q x = x
+idle-leads k i c (Asking j f) q x = absurd (true≢false (sym q))
+idle-leads k i c (Waiting t f) q x = absurd (true≢false (sym q))
+idle-leads k i c (Inviting f o w) q x = absurd (true≢false (sym q))
+idle-leads k i c Collecting q x = absurd (true≢false (sym q))
+idle-leads k i c (Handing r w) q x = absurd (true≢false (sym q))
+idle-leads k i c Contacting q x = absurd (true≢false (sym q))
+idle-leads k i c (Forwarding r w a l) q x = absurd (true≢false (sym q))
+idle-leads k i c (Accepting a l) q x = absurd (true≢false (sym q))
 
 -- another record of the same node
 runs-same : (k i : ℕ) (c d : Node) (a : Activity) → (leads i c ≡ true → leads i d ≡ true) → (c .coordinator ≡ i → d .coordinator ≡ i) → Runs k i c a → Runs k i d a
@@ -253,29 +265,15 @@ module _ (k n i : ℕ) (c : Node) (few : k ≤ 5) where
       y = inr x
 
   -- an idle node checks, or has a timeout
-  checked-after : (a : Activity) → isIdle a ≡ true → Runs k i c a → NodeAfter k i c → Q (checked n i c)
+  checked-after : isIdle (c .activity) ≡ true → Runs k i c (c .activity) → Q (checked n i c)
   unfolding checked
-  checked-after Idle q x y = by-test Q (λ _. ask-after-after (k + 1) i n c 0 0 (x .0) (omega (arith, x .1)) (inl refl)) (λ _. kept-after y)
-  checked-after (Asking j f) q x y = absurd (true≢false (sym q))
-  checked-after (Waiting t f) q x y = absurd (true≢false (sym q))
-  checked-after (Inviting f o w) q x y = absurd (true≢false (sym q))
-  checked-after Collecting q x y = absurd (true≢false (sym q))
-  checked-after (Handing r w) q x y = absurd (true≢false (sym q))
-  checked-after Contacting q x y = absurd (true≢false (sym q))
-  checked-after (Forwarding r w a l) q x y = absurd (true≢false (sym q))
-  checked-after (Accepting a l) q x y = absurd (true≢false (sym q))
+  checked-after q x =
+      let y = idle-leads k i c (c .activity) q x in
+      by-test Q (λ _. ask-after-after (k + 1) i n c 0 0 (y .0) (omega (arith, y .1)) (inl refl)) (λ _. kept-after (inr x))
 
-  timed-after : (a : Activity) → isIdle a ≡ true → Runs k i c a → NodeAfter k i c → Q (timedOut i c)
+  timed-after : isIdle (c .activity) ≡ true → Runs k i c (c .activity) → Q (timedOut i c)
   unfolding timedOut
-  timed-after Idle q x y = by-test Q (λ _. kept-after y) (λ f. absurd (true≢false (sym (own (x .0)) ∙ f)))
-  timed-after (Asking j f) q x y = absurd (true≢false (sym q))
-  timed-after (Waiting t f) q x y = absurd (true≢false (sym q))
-  timed-after (Inviting f o w) q x y = absurd (true≢false (sym q))
-  timed-after Collecting q x y = absurd (true≢false (sym q))
-  timed-after (Handing r w) q x y = absurd (true≢false (sym q))
-  timed-after Contacting q x y = absurd (true≢false (sym q))
-  timed-after (Forwarding r w a l) q x y = absurd (true≢false (sym q))
-  timed-after (Accepting a l) q x y = absurd (true≢false (sym q))
+  timed-after q x = by-test Q (λ _. kept-after (inr x)) (λ f. absurd (true≢false (sym (own (idle-leads k i c (c .activity) q x .0)) ∙ f)))
 
   -- a collecting node finishes
   finished-after : (t : TaskNo) (a : Activity) → isCollecting a ≡ true → Runs k i c a → Q (finishes i c t)
@@ -346,12 +344,12 @@ module _ (k : ℕ) (s : State) (few : k ≤ 5) (x : TableAfter k s) where
   event-after (Recover i) c = record { reaction = recovered-after (k + 1) i (nodeAt s i) (omega arith); runs = inl refl }
   event-after (Check i) c =
       record {
-        reaction = checked-after k (s .n) i (nodeAt s i) few (nodeAt s i .activity) (not-false _ (c .activity)) (awake (Check i) c (c .status)) (here (Check i) c);
+        reaction = checked-after k (s .n) i (nodeAt s i) few (not-false _ (c .activity)) (awake (Check i) c (c .status));
         runs = inr (c .status);
       }
   event-after (Timeout i) c =
       record {
-        reaction = timed-after k (s .n) i (nodeAt s i) few (nodeAt s i .activity) (not-false _ (c .activity)) (awake (Timeout i) c (c .status)) (here (Timeout i) c);
+        reaction = timed-after k (s .n) i (nodeAt s i) few (not-false _ (c .activity)) (awake (Timeout i) c (c .status));
         runs = inr (c .status);
       }
   event-after (Tick i) c =
@@ -468,20 +466,9 @@ start-after n =
     down : (i : ℕ) → 1 ≤ i → i ≤ n → isDown (nodeAt (start n) i .status) ≡ true
     down i l h = ap (λ (c : Node). isDown (c .status)) (getD-replicate n (i - 1) startingNode startingNode (omega arith))
 
-idle-leads : (k i : ℕ) (c : Node) (a : Activity) → isIdle a ≡ true → Runs k i c a → leads i c ≡ true
-idle-leads k i c Idle q x = x .0
-idle-leads k i c (Asking j f) q x = absurd (true≢false (sym q))
-idle-leads k i c (Waiting t f) q x = absurd (true≢false (sym q))
-idle-leads k i c (Inviting f o w) q x = absurd (true≢false (sym q))
-idle-leads k i c Collecting q x = absurd (true≢false (sym q))
-idle-leads k i c (Handing r w) q x = absurd (true≢false (sym q))
-idle-leads k i c Contacting q x = absurd (true≢false (sym q))
-idle-leads k i c (Forwarding r w a l) q x = absurd (true≢false (sym q))
-idle-leads k i c (Accepting a l) q x = absurd (true≢false (sym q))
-
 -- after at most six events whoever is idle, and not Down, is Normal and its own coordinator
 pub early-leads : (n : ℕ) (es : List Event) → length es ≤ 6 → (i : ℕ) → 1 ≤ i → i ≤ run n es .n → isDown (nodeAt (run n es) i .status) ≡ false → isIdle (nodeAt (run n es) i .activity) ≡ true
     → leads i (nodeAt (run n es) i) ≡ true
 early-leads n es few i l h d q =
     let x = run-after 0 (start n) es (omega (arith, few)) (start-after n) in
-    idle-leads _ i (nodeAt (run n es) i) (nodeAt (run n es) i .activity) q (running _ i (nodeAt (run n es) i) (x .nodes i l h) d)
+    idle-leads _ i (nodeAt (run n es) i) (nodeAt (run n es) i .activity) q (running _ i (nodeAt (run n es) i) (x .nodes i l h) d) .0
