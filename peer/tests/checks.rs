@@ -1,7 +1,7 @@
 //! T-06 of document 02, "Checks only by a coordinator": ground 18 by hand and its order, what is printed, the
 //! random tables of the fuzzer, and libraries that are wrong on purpose.
 
-mod wrong_steps;
+mod wrong_libraries;
 
 use peer::check_corners::lowest_other;
 use peer::compare::list_difference;
@@ -10,11 +10,11 @@ use peer::list::{write_list, List};
 use peer::machine::*;
 use peer::numbers::Numbers;
 use peer::print::{print_table, run_list};
-use peer::proved::{fitting, Library, Own, Proved};
+use peer::proved::{Library, Proved};
 use peer::tables::to_check;
 use peer::traffic_tables::{count_waiting, pairs};
 use peer::tuned;
-use wrong_steps::{found, Steps};
+use wrong_libraries::{found, Steps, Texts};
 use Event::*;
 use Status::*;
 
@@ -459,33 +459,21 @@ fn wrong_grounds_are_found() {
 /// List programs that do not skip the event as others are skipped are found by a short list.
 #[test]
 fn wrong_texts_are_found() {
-    /// Prints a list in its own way, by its events and whether one before was refused 18.
-    struct Prints(fn(&mut String, &mut Table, usize, &Event, bool));
-    impl Library for Prints {
-        fn print(&self, list: &[u8], out: &mut [u8]) -> Option<usize> {
-            let List { n, events, .. } = peer::list::read_list(list).unwrap();
-            let mut table = Table::start(n);
-            let mut text = format!("cabinets {n}\n");
-            let mut met = false;
-            for (k, event) in events.iter().enumerate() {
-                let answer = step(&mut table.clone(), event);
-                (self.0)(&mut text, &mut table, k + 1, event, met);
-                met |= answer == Err(18);
-            }
-            print_table(&mut text, &table);
-            let length = fitting(text.as_bytes(), out.len());
-            out[..length].copy_from_slice(&text.as_bytes()[..length]);
-            (length == text.len()).then_some(length)
+    /// What is done with an event: the text so far, the table, the event's number, the event, and
+    /// whether one before it was refused 18.
+    type Each = fn(&mut String, &mut Table, usize, &Event, bool);
+    fn text_by(each: Each, list: &[u8]) -> String {
+        let List { n, events, .. } = peer::list::read_list(list).unwrap();
+        let mut table = Table::start(n);
+        let mut text = format!("cabinets {n}\n");
+        let mut met = false;
+        for (k, event) in events.iter().enumerate() {
+            let answer = step(&mut table.clone(), event);
+            each(&mut text, &mut table, k + 1, event, met);
+            met |= answer == Err(18);
         }
-        fn step(&self, table: &[u8], field: &[u8], out: &mut [u8]) -> u8 {
-            Own.step(table, field, out)
-        }
-        fn fold(&self, list: &[u8]) -> u32 {
-            Own.fold(list)
-        }
-        fn recovery(&self, table: &[u8], node: u8, out: &mut [u8]) -> u8 {
-            Own.recovery(table, node, out)
-        }
+        print_table(&mut text, &table);
+        text
     }
     fn right(text: &mut String, table: &mut Table, e: usize, event: &Event, _: bool) {
         if let Err(r) = step(table, event) {
@@ -495,15 +483,16 @@ fn wrong_texts_are_found() {
     let mut events = k10();
     events.extend([Check(1), Check(2)]);
     let list = write_list(2, &events);
-    assert_eq!(list_difference(&Prints(right), &list), None);
-    let stops = Prints(|text, table, e, event, met| {
+    let difference = |each: Each| list_difference(&Texts(|list: &[u8]| text_by(each, list)), &list);
+    assert_eq!(difference(right), None);
+    let stops: Each = |text, table, e, event, met| {
         if !met {
             right(text, table, e, event, met);
         }
-    });
-    assert!(list_difference(&stops, &list).is_some());
-    let says_nothing = Prints(|_, table, _, event, _| {
+    };
+    assert!(difference(stops).is_some());
+    let says_nothing: Each = |_, table, _, event, _| {
         let _ = step(table, event);
-    });
-    assert!(list_difference(&says_nothing, &list).is_some());
+    };
+    assert!(difference(says_nothing).is_some());
 }

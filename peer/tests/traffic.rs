@@ -3,7 +3,7 @@
 //! purpose. The boundary is that of this program's own machine, and of the proved library where it is
 //! linked.
 
-mod wrong_steps;
+mod wrong_libraries;
 
 use peer::compare::{list_difference, run_difference, walk_difference};
 use peer::drive::{any_manner, pick};
@@ -16,7 +16,7 @@ use peer::proved::*;
 use peer::tables::in_range;
 use peer::traffic_corners::{need, BROKEN, WAYS};
 use peer::traffic_tables::{break_counts, count_waiting, pairs, raise_to_calls, to_send};
-use wrong_steps::{found, Steps};
+use wrong_libraries::{found, Steps, Texts};
 use Event::*;
 
 fn message(sender: u8, receiver: u8, call: u32, body: Body) -> Message {
@@ -649,38 +649,21 @@ fn forgotten_rules_are_found() {
 #[test]
 fn wrong_totals_are_found() {
     /// Takes the lines of the totals, with the number of messages, and gives others.
-    struct Prints(fn(u64, [u64; 3]) -> String);
-    impl Library for Prints {
-        fn print(&self, list: &[u8], out: &mut [u8]) -> Option<usize> {
-            let text = String::from_utf8(run_list(list)).unwrap();
-            let other = match text.find("messages ") {
-                None => text,
-                Some(at) => {
-                    let number = |line: &str| line.split(' ').nth(1).unwrap().parse().unwrap();
-                    let last: Vec<u64> = text[at..].lines().map(number).collect();
-                    format!("{}{}", &text[..at], (self.0)(last[0], [last[1], last[2], last[3]]))
-                }
-            };
-            let length = fitting(other.as_bytes(), out.len());
-            out[..length].copy_from_slice(&other.as_bytes()[..length]);
-            (length == other.len()).then_some(length)
-        }
-        fn step(&self, table: &[u8], field: &[u8], out: &mut [u8]) -> u8 {
-            Own.step(table, field, out)
-        }
-        fn fold(&self, list: &[u8]) -> u32 {
-            Own.fold(list)
-        }
-        fn recovery(&self, table: &[u8], node: u8, out: &mut [u8]) -> u8 {
-            Own.recovery(table, node, out)
-        }
+    type Last = fn(u64, [u64; 3]) -> String;
+    fn text_by(last: Last, list: &[u8]) -> String {
+        let text = String::from_utf8(run_list(list)).unwrap();
+        let Some(at) = text.find("messages ") else { return text };
+        let number = |line: &str| line.split(' ').nth(1).unwrap().parse().unwrap();
+        let numbers: Vec<u64> = text[at..].lines().map(number).collect();
+        format!("{}{}", &text[..at], last(numbers[0], [numbers[1], numbers[2], numbers[3]]))
     }
     fn lines(waiting: u64, [sent, delivered, lost]: [u64; 3]) -> String {
         format!("messages {waiting}\nsent {sent}\ndelivered {delivered}\nlost {lost}\n")
     }
     let list = write_list(2, &[Recover(1), Recover(2), Check(2), Deliver(2, 1), Lose(1, 2)]);
-    assert_eq!(list_difference(&Prints(lines), &list), None);
-    let wrong: [fn(u64, [u64; 3]) -> String; 6] = [
+    let difference = |last: Last| list_difference(&Texts(|list: &[u8]| text_by(last, list)), &list);
+    assert_eq!(difference(lines), None);
+    let wrong: [Last; 6] = [
         |waiting, _| format!("messages {waiting}\n"),
         |waiting, [sent, delivered, lost]| lines(waiting, [sent, delivered + lost, 0]),
         |waiting, [sent, delivered, lost]| lines(waiting, [sent, lost + 1, delivered]),
@@ -689,7 +672,7 @@ fn wrong_totals_are_found() {
         |waiting, totals| format!("{}\n", lines(waiting, totals)),
     ];
     for (k, wrong) in wrong.into_iter().enumerate() {
-        assert!(list_difference(&Prints(wrong), &list).is_some(), "{k}");
+        assert!(difference(wrong).is_some(), "{k}");
     }
 }
 
