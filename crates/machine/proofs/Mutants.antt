@@ -23,7 +23,7 @@ use Rattle.model.specs.Range.{activityInRange, nodeInRange, messageInRange}
 use Rattle.model.specs.State.{State, startingNode, start, nodeAt, noMessage, waits, oldest, withoutOldest, allWaiting, countsAside, every, baseInRange, trafficInRange, inRange, firstOf, view, tableOf}
 use Rattle.model.specs.Step.{actor, reactionTo, remaining, sent, withSent, withDelivered, withLost, effect, wrongStatus, notCoordinator, forms, isCalling, isSending, pairAtEnd, grounds, judged, Result, refused, accepted, step, kept, aside, after, runFrom}
 use Rattle.model.specs.Answers.{answerNumber, resultNumber}
-use Rattle.model.specs.Claims.{isActive, Lacks, Sends, whomNow, whomStill, Below, Picked, InvitationReaches, Holds, recoversAtExpire, recordAfter, CheckReaches, LeadsNot}
+use Rattle.model.specs.Claims.{isActive, Lacks, Sends, whomNow, whomStill, Below, Picked, InvitationReaches, Holds, recoversAtExpire, recordAfter, CheckReaches, DoesNotLead}
 use Rattle.model.proofs.Judged.{Clear, by-step, clear-accepts, accepted-is, met}
 use Rattle.model.proofs.Local.{both-right}
 use Rattle.model.proofs.Fields.{in-range-size, own-record}
@@ -568,7 +568,7 @@ no-other-counts =
 is-eighteen : {t : Table} {e : Event} {r : Outcome} → Stepped t e r → r .answer ≡ NotCoordinator → step (view t) e ≡ refused 18
 is-eighteen {t} {e} {r} x y = by-number (step (view t) e) 18 (omega arith) (sym (ap answerNumber y) ∙ x .answer)
 
-no-pass : {t : Table} {i : ℕ} {r : Outcome} → LeadsNot (view t) i → Stepped t (Check i) r → r .answer ≡ Accepted → ⊥
+no-pass : {t : Table} {i : ℕ} {r : Outcome} → DoesNotLead (view t) i → Stepped t (Check i) r → r .answer ≡ Accepted → ⊥
 no-pass {t} {i} {r} l x y =
     let p = check-rules .passes (view t) i _ _ (accepted-alike .model-accepts x y) in
     ⊎-elim (λ f. f (p .0)) (λ f. f (p .1)) l

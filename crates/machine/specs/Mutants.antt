@@ -15,7 +15,7 @@ use Rattle.model.specs.Range.{isNode}
 use Rattle.model.specs.State.{State, nodeAt, waits, oldest, allWaiting, trafficInRange, inRange, view, tableOf}
 use Rattle.model.specs.Step.{actor, reactionTo, remaining, grounds}
 use Rattle.model.specs.Answers.{answerNumber}
-use Rattle.model.specs.Claims.{isActive, Lacks, FirstApplies, whomNow, whomStill, whomAside, InvitationReaches, Owns, Holds, withPlainReply, MaySend, recoversAtExpire, recordAfter, firstOther, withCheck, CheckReaches, LeadsNot}
+use Rattle.model.specs.Claims.{isActive, Lacks, FirstApplies, whomNow, whomStill, whomAside, InvitationReaches, Owns, Holds, withPlainReply, MaySend, recoversAtExpire, recordAfter, firstOther, withCheck, CheckReaches, DoesNotLead}
 use Rattle.model.specs.Cases.{setOf, none, node, invitedOnce}
 use Rattle.model.specs.declared.Mark.the-variants.{Merges}
 use Rattle.model.specs.declared.Status.the-variants.{Election, Reorganization, Normal}
@@ -324,19 +324,19 @@ pub record NoOtherCounts : Type 0 where
 
 -- No machine that meets `Stepped` is:
 pub record NoOtherChecks : Type 0 where
-  -- one that lets such a check pass, on any table: the machine of 01, which answered "accepted" and changed nothing, for one
-  pub passes : {t : Table} {i : ℕ} {r : Outcome} → LeadsNot (view t) i → Stepped t (Check i) r → r .answer ≡ Accepted → ⊥
-  -- or one that changes something at it
-  pub changes : {t : Table} {i : ℕ} {r : Outcome} → LeadsNot (view t) i → Stepped t (Check i) r → (r .table ≡ t → ⊥) → ⊥
-  -- or one that gives it another number, where the table is in range and i a node that is idle and not Down
-  pub other-number : {t : Table} {i : ℕ} {r : Outcome} → LeadsNot (view t) i → CheckReaches (view t) i → Stepped t (Check i) r → (r .answer ≡ NotCoordinator → ⊥) → ⊥
+  -- one that lets the check of a node pass which is not Normal, or not its own coordinator: 01's own, which answered accepted and changed nothing, for one
+  pub passes : {t : Table} {i : ℕ} {r : Outcome} → DoesNotLead (view t) i → Stepped t (Check i) r → r .answer ≡ Accepted → ⊥
+  -- or changes something at it
+  pub changes : {t : Table} {i : ℕ} {r : Outcome} → DoesNotLead (view t) i → Stepped t (Check i) r → (r .table ≡ t → ⊥) → ⊥
+  -- or gives it another number, where the table is in range and i a node that is idle and not Down
+  pub other-number : {t : Table} {i : ℕ} {r : Outcome} → DoesNotLead (view t) i → CheckReaches (view t) i → Stepped t (Check i) r → (r .answer ≡ NotCoordinator → ⊥) → ⊥
   -- one that gives 18 to another event
   pub other-event : {t : Table} {e : Event} {r : Outcome} → Stepped t e r → (e ≡ Check (actor e) → ⊥) → r .answer ≡ NotCoordinator → ⊥
   -- or before 1, 7, 9 or 10, or to a coordinator
   pub too-soon : {t : Table} {i : ℕ} {r : Outcome} → (CheckReaches (view t) i → ⊥) → Stepped t (Check i) r → r .answer ≡ NotCoordinator → ⊥
   pub to-coordinator : {t : Table} {i : ℕ} {r : Outcome} → nodeAt (view t) i .status ≡ Normal → nodeAt (view t) i .coordinator ≡ i
       → Stepped t (Check i) r → r .answer ≡ NotCoordinator → ⊥
-  -- one that turns the check of a coordinator away, where the call number and the message are to be had
+  -- one that turns the check of a coordinator away, where 13, 14 and 17 do not apply
   pub turns-away : {t : Table} {i : ℕ} {r : Outcome} → 1 < t .n → CheckReaches (view t) i → nodeAt (view t) i .status ≡ Normal → nodeAt (view t) i .coordinator ≡ i
       → nodeAt (view t) i .last .number < callEnd → t .waiting < queueLimit → MaySend (view t) i (firstOther i) → Stepped t (Check i) r → (r .answer ≡ Accepted → ⊥) → ⊥
   -- one that lets a check pass and asks another cabinet, or not at all, or changes anything else

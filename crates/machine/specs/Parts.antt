@@ -142,7 +142,7 @@ abbrev pub Room : Outgoing → ℕ → Type 0
 Room Nothing left = Unit {0}
 Room (Send m) left = left < 64
 
--- ── the grounds in four groups ──
+-- ── the grounds but 1, in four groups ──
 
 -- the number of the first ground that applies, or 0
 unfoldable pub first : List Ground → ℕ

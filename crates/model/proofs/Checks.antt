@@ -2,7 +2,7 @@
 use Prim.Native.Nat.{ℕ, _+_, _-_, _≤_, _<_}
 use native.Mathlib.Omega.{arith}
 use mathlib.Core.Bool.{Bool, true, false, not, _&&_, _||_, true≢false}
-use mathlib.Core.Logic.{inl, inr}
+use mathlib.Core.Logic.{_⊎_, inl, inr, ⊎-elim}
 use mathlib.Core.Path.{_≡_, refl, sym, _∙_, ap}
 use mathlib.Core.List.{List, [], _∷_, _++_, append-nil}
 use lib.Dec.{eqb, ltb}
@@ -17,11 +17,12 @@ use Rattle.model.specs.Procedures.{reaction, stays, askAt, askAfter}
 use Rattle.model.specs.React.{leads, checked, react}
 use Rattle.model.specs.State.{State, startingNode, nodeAt}
 use Rattle.model.specs.Step.{actor, reactionTo, remaining, sent, withSent, effect, notCoordinator, forms, isCalling, isSending, pairAtEnd, ground, grounds, Result, refused, accepted, judged, step, run}
-use Rattle.model.specs.Claims.{MaySend, firstOther, checkGrounds, withQuestion, withCheck, CheckReaches, LeadsNot, CheckRules}
+use Rattle.model.specs.Claims.{MaySend, firstOther, checkGrounds, withQuestion, withCheck, CheckReaches, DoesNotLead, CheckRules}
 use Rattle.model.proofs.Judged.{judged-by, accepted-is, met, passed}
 use Rattle.model.proofs.Local.{both-left, both-right}
-use Rattle.model.proofs.Fields.{node-is}
+use Rattle.model.proofs.Fields.{IsNode, node-is}
 use Rattle.model.proofs.Early.{early-leads}
+use Rattle.model.proofs.Members.{NodeRests, idle-rests, run-rests}
 use Rattle.model.specs.declared.Status.{Status}
 use Rattle.model.specs.declared.Status.the-variants.{Down, Election, Reorganization, Normal}
 use Rattle.model.specs.declared.Activity.the-variants.{Asking}
@@ -145,7 +146,7 @@ module _ (s : State) (i : ℕ) (x : CheckReaches s i) where
   unfolding judged
   by-eighteen e = checks s i ∙ rw (x .in-range, x .number, x .not-down, x .idle, e, pick-false, pick-false, pick-false, pick-false, pick-true)
 
-  turned-away : LeadsNot s i → step s (Check i) ≡ refused 18
+  turned-away : DoesNotLead s i → step s (Check i) ≡ refused 18
   turned-away (inl d) = by-eighteen (ap (λ (t : Bool). not t || not (eqb (nodeAt s i .coordinator) i)) (not-normal-is (nodeAt s i .status) d))
   turned-away (inr d) =
       by-eighteen
@@ -202,10 +203,10 @@ module _ (s : State) where
         idle = not-false _ (passed s (Check i) 10 18 refl q);
       }
 
-  which : (i : ℕ) → leads i (nodeAt s i) ≡ false → LeadsNot s i
+  which : (i : ℕ) → leads i (nodeAt s i) ≡ false → DoesNotLead s i
   which i f = by (isNormal (nodeAt s i .status)) refl
     where
-      by : (t : Bool) → isNormal (nodeAt s i .status) ≡ t → LeadsNot s i
+      by : (t : Bool) → isNormal (nodeAt s i .status) ≡ t → DoesNotLead s i
       by true e = inr (λ q. true≢false (sym (ap (λ (t : Bool). t && eqb (nodeAt s i .coordinator) i) e ∙ eq-eqb (nodeAt s i .coordinator) i q) ∙ f))
       by false e = inl (λ q. true≢false (sym (ap isNormal q) ∙ e))
 
@@ -213,7 +214,7 @@ module _ (s : State) where
   unfolding grounds pick
   not-leading e q = only-check e (met s e 18 refl q)
 
-  eighteen : (e : Event) → step s e ≡ refused 18 → (e ≡ Check (actor e)) × CheckReaches s (actor e) × LeadsNot s (actor e)
+  eighteen : (e : Event) → step s e ≡ refused 18 → (e ≡ Check (actor e)) × CheckReaches s (actor e) × DoesNotLead s (actor e)
   eighteen e q =
       let x = not-leading e q in
       (x .0, reaches (actor e) (ap (step s) (sym (x .0)) ∙ q), which (actor e) (x .1))
@@ -225,5 +226,24 @@ not-early n es e few q =
     let p = node-is (run n es .n) (actor e) (y .number) in
     true≢false (sym (early-leads n es few (actor e) (p .low) (p .high) (y .not-down) (y .idle)) ∙ x .1)
 
+members-only : (n : ℕ) (es : List Event) (i : ℕ) → step (run n es) (Check i) ≡ refused 18
+    → (nodeAt (run n es) i .coordinator ≡ i → ⊥) × ((nodeAt (run n es) i .status ≡ Reorganization) ⊎ (nodeAt (run n es) i .status ≡ Normal))
+members-only n es i q = by (run-rests n es i (p .low) (p .high))
+  where
+    y : CheckReaches (run n es) i
+    y = reaches (run n es) i q
+
+    p : IsNode (run n es .n) i
+    p = node-is (run n es .n) i (y .number)
+
+    idle : (nodeAt (run n es) i .status ≡ Normal) ⊎ ((nodeAt (run n es) i .status ≡ Reorganization) × (nodeAt (run n es) i .coordinator ≡ i → ⊥))
+        → (nodeAt (run n es) i .coordinator ≡ i → ⊥) × ((nodeAt (run n es) i .status ≡ Reorganization) ⊎ (nodeAt (run n es) i .status ≡ Normal))
+    idle (inl e) = (⊎-elim (λ d. absurd (d e)) (λ d. d) (which (run n es) i (not-leading (run n es) (Check i) q .1)), inr e)
+    idle (inr e) = (e .1, inl (e .0))
+
+    by : NodeRests i (nodeAt (run n es) i) → (nodeAt (run n es) i .coordinator ≡ i → ⊥) × ((nodeAt (run n es) i .status ≡ Reorganization) ⊎ (nodeAt (run n es) i .status ≡ Normal))
+    by (inl d) = absurd (true≢false (sym d ∙ y .not-down))
+    by (inr r) = idle (idle-rests i (nodeAt (run n es) i .status) (nodeAt (run n es) i .coordinator) (nodeAt (run n es) i .activity) (y .idle) r)
+
 pub check-rules : CheckRules
-check-rules = record { checks = checks; leaves = leaves; turned-away = turned-away; passes = passes; asks = asking; one = one; eighteen = eighteen; not-early = not-early }
+check-rules = record { checks = checks; leaves = leaves; turned-away = turned-away; passes = passes; asks = asking; one = one; eighteen = eighteen; members-only = members-only; not-early = not-early }

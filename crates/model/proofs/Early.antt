@@ -1,6 +1,7 @@
 -- No event among the first seven of a run meets 18 (02, T-06): what nodes and messages can be after k events, for k up to 6. One lemma a procedure.
 -- A message takes a recovery and a check; a reply takes a second recovery and a delivery more; an invitation, or a node that has found another, the delivery of a reply more; and
--- a node that acts on an invitation its delivery more, which makes six. Up to there only a node that is Normal and its own coordinator is idle.
+-- a node that acts on an invitation its delivery more, which makes six. Up to there, of the nodes that are not Down only those that are Normal and
+-- their own coordinators are idle.
 use Prim.Native.Nat.{ℕ, _+_, _-_, _≤_}
 use native.Mathlib.Omega.{arith}
 use mathlib.Core.Bool.{Bool, true, false, true≢false}

@@ -15,6 +15,7 @@ pub mod InRange
 pub mod Waiting
 pub mod Aside
 pub mod Early
+pub mod Members
 pub mod Checks
 pub mod Cases
 pub mod TrafficCases

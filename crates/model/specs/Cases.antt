@@ -869,10 +869,10 @@ pub record CheckCases : Type 0 where
   -- neither
   pub election-member : step (beside (follower Election 32 100 none 2 Idle) []) (Check 2) ≡ refused 18
   pub reorganization-member : step (beside (follower Reorganization 32 100 none 2 Idle) []) (Check 2) ≡ refused 18
-  -- "With n = 1 such a check still passes without effect.", also with the last call number, as it needs no call
+  -- "With n = 1 such a check still passes without effect.", also with the last call number at its end, as it needs no call
   pub one : step (run 1 (Recover 1 ∷ [])) (Check 1) ≡ accepted (run 1 (Recover 1 ∷ [])) Plain
   pub one-at-end : step (onlyOne Normal 16777215 Idle) (Check 1) ≡ accepted (onlyOne Normal 16777215 Idle) Plain
-  -- another check does not
+  -- a check in another status does not, nor one of a busy node
   pub one-election : step (onlyOne Election 0 Idle) (Check 1) ≡ refused 18
   pub one-reorganization : step (onlyOne Reorganization 0 Idle) (Check 1) ≡ refused 18
   pub one-down : step (onlyOne Down 0 Idle) (Check 1) ≡ refused 9
@@ -893,7 +893,7 @@ pub record CheckCases : Type 0 where
   pub busy-reorganization : step (beside (follower Reorganization 32 100 none 2 Contacting) []) (Check 2) ≡ refused 10
   pub busy-member : step (beside (follower Normal 32 100 none 2 Contacting) []) (Check 2) ≡ refused 10
   pub busy-asking : step (pair Normal none (Asking 1 none) []) (Check 2) ≡ refused 10
-  -- and 13 and 14 behind it (17: TrafficCases.member-at-end): the last call number, 64 waiting
+  -- and 13 and 14 behind it (17: TrafficCases.member-at-end): the last call number at its end, 64 waiting
   pub calls-end : step (beside (follower Normal 32 100 none 16777215 Idle) []) (Check 2) ≡ refused 18
   pub full : step (beside (follower Normal 32 100 none 2 Idle) (queued 64)) (Check 2) ≡ refused 18
   -- of a run, K10: node 1 has accepted, after eight events; it has its task; node 2 checks again

@@ -634,8 +634,8 @@ pub record CheckReaches (s : State) (i : ℕ) : Type 0 where
   pub idle : isIdle (nodeAt s i .activity) ≡ true
 
 -- node i is not Normal, or not its own coordinator
-abbrev pub LeadsNot : State → ℕ → Type 0
-LeadsNot s i = (nodeAt s i .status ≡ Normal → ⊥) ⊎ (nodeAt s i .coordinator ≡ i → ⊥)
+abbrev pub DoesNotLead : State → ℕ → Type 0
+DoesNotLead s i = (nodeAt s i .status ≡ Normal → ⊥) ⊎ (nodeAt s i .coordinator ≡ i → ⊥)
 
 pub record CheckRules : Type 0 where
   -- all of check i on any table, as one equation: it is refused by these grounds, in this order, and by nothing else; and what it leaves
@@ -643,16 +643,19 @@ pub record CheckRules : Type 0 where
   -- so an accepted one leaves this
   pub leaves : (s : State) (i : ℕ) (u : State) (k : Mark) → step s (Check i) ≡ accepted u k → u ≡ withCheck s i
   -- "A check shall be turned away unless the cabinet is Normal and its own coordinator."
-  pub turned-away : (s : State) (i : ℕ) → CheckReaches s i → LeadsNot s i → step s (Check i) ≡ refused 18
+  pub turned-away : (s : State) (i : ℕ) → CheckReaches s i → DoesNotLead s i → step s (Check i) ≡ refused 18
   pub passes : (s : State) (i : ℕ) (u : State) (k : Mark) → step s (Check i) ≡ accepted u k → (nodeAt s i .status ≡ Normal) × (nodeAt s i .coordinator ≡ i)
-  -- "unless": such a check asks, where the call number and the message are to be had
+  -- "unless": such a check asks, where 13, 14 and 17 do not apply
   pub asks : (s : State) (i : ℕ) → CheckReaches s i → 1 < s .n → nodeAt s i .status ≡ Normal → nodeAt s i .coordinator ≡ i
       → nodeAt s i .last .number < callEnd → length (s .queue) < queueLimit → MaySend s i (firstOther i) → step s (Check i) ≡ accepted (withQuestion s i) Plain
   -- "With n = 1 such a check still passes without effect."
   pub one : (s : State) (i : ℕ) → CheckReaches s i → s .n ≡ 1 → nodeAt s i .status ≡ Normal → nodeAt s i .coordinator ≡ i → step s (Check i) ≡ accepted s Plain
   -- "Checks: 18, check at a cabinet that is not Normal or not its own coordinator": no other event meets it, and no other check
   pub eighteen : (s : State) (e : Event) → step s e ≡ refused 18
-      → (e ≡ Check (actor e)) × CheckReaches s (actor e) × LeadsNot s (actor e)
+      → (e ≡ Check (actor e)) × CheckReaches s (actor e) × DoesNotLead s (actor e)
+  -- "sent check events to members": in a run it is met at members alone. Another is the coordinator of the cabinet, which is in Reorganization or Normal
+  pub members-only : (n : ℕ) (es : List Event) (i : ℕ) → step (run n es) (Check i) ≡ refused 18
+      → (nodeAt (run n es) i .coordinator ≡ i → ⊥) × ((nodeAt (run n es) i .status ≡ Reorganization) ⊎ (nodeAt (run n es) i .status ≡ Normal))
   -- "The lists of T-01 are too short to meet this": they have at most seven events, and none of the first seven of a run meets it (that they "stay the same" is said of
   -- the lists themselves, by short_lists_text)
   pub not-early : (n : ℕ) (es : List Event) (e : Event) → length es ≤ 6 → step (run n es) e ≡ refused 18 → ⊥

@@ -1,4 +1,4 @@
--- "Named cases": K1 to K13 jointly, with K1 and K10 also from the bytes of a list to the printed text; and a text with refusals.
+-- "Named cases": K1 to K13 jointly, with K1 and K10 also from the bytes of a list to the printed text; and texts with refusals, with totals (T-05) and with checks (T-06).
 use Prim.Native.Nat.{ℕ}
 use mathlib.Core.Path.{_≡_}
 use mathlib.Core.List.{List, [], _∷_, _++_}

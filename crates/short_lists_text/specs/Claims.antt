@@ -168,7 +168,8 @@ pub record ListLinesDetermine : Type 0 where
 
 -- ── 02, T-06: "The lists of T-01 are too short to meet this and stay the same." ──
 
--- what the step came to before T-06: a check that meets 18 now was accepted then, and nothing changed (01: "Otherwise, or with n = 1, nothing changes.")
+-- what the step came to before T-06, read off 01: a check that meets 18 now was accepted, and nothing changed ("Otherwise, or with n = 1, nothing changes."). That no
+-- other event's step changed is not stated; the gate compares the sums of the texts.
 abbrev pub formerResult : State → Result → Result
 formerResult s (refused r) = pick (eqb r 18) (accepted s Plain) (refused r)
 formerResult s (accepted u mark) = accepted u mark
