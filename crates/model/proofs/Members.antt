@@ -12,7 +12,7 @@ use borrow.Author.Tests.{not-false, eqb-true, eqb-false}
 use Rattle.node_set.specs.NodeSet.{with}
 use Rattle.model.specs.Pick.{pick, by-test}
 use Rattle.model.specs.Node.{isDown, isNormal, isIdle, ownerOf, merged, tasked, invited}
-use Rattle.model.specs.Procedures.{stays, recovers, inviteNext, merges, handNext, finishes, forwardNext, askedAll, askAt, askAfter}
+use Rattle.model.specs.Procedures.{stays, inviteNext, merges, handNext, finishes, forwardNext, askedAll, askAt, askAfter}
 use Rattle.model.specs.React.{leads, checked, timedOut, ticked, expired, resumed, onAreYouCoordinator, onAreYouThere, onInvitation, onAccept, onReady, onReply, received, react}
 use Rattle.model.specs.State.{State, startingNode, start, nodeAt, oldest}
 use Rattle.model.specs.Step.{actor, reactionTo, effect, Result, kept, after, runFrom, run}
@@ -21,11 +21,10 @@ use Rattle.model.proofs.Local.{both-left}
 use Rattle.model.proofs.Numbers.{actor-in}
 use Rattle.model.proofs.Fields.{Busy, node-facts, in-range-node, own-record}
 use Rattle.model.specs.declared.Status.{Status}
-use Rattle.model.specs.declared.Status.the-variants.{Down, Election, Reorganization, Normal}
+use Rattle.model.specs.declared.Status.the-variants.{Reorganization, Normal}
 use Rattle.model.specs.declared.Activity.{Activity}
 use Rattle.model.specs.declared.Activity.the-variants.{Idle, Asking, Waiting, Inviting, Collecting, Handing, Contacting, Forwarding, Accepting}
 use Rattle.model.specs.declared.Node.{Node}
-use Rattle.model.specs.declared.TaskNo.{TaskNo}
 use Rattle.model.specs.declared.CallNo.{CallNo}
 use Rattle.model.specs.declared.Message.{Message}
 use Rattle.model.specs.declared.Mark.{Mark}
