@@ -10,7 +10,6 @@ use mathlib.Core.Path.{_≡_, refl, sym, _∙_, ap, subst}
 use mathlib.Core.List.{List, [], _∷_}
 use lib.Dec.{eqb}
 use lib.ListN.{length, getD-replicate}
-use lib.Seq.{getD-set-other}
 use borrow.Author.Tests.{not-false, eqb-true, eqb-false, eq-eqb}
 use Rattle.node_set.specs.NodeSet.{with}
 use Rattle.model.specs.Pick.{pick, by-test}
@@ -23,7 +22,7 @@ use Rattle.model.specs.Step.{actor, reactionTo, remaining, sent, effect,
 use Rattle.model.proofs.Judged.{Clear, by-step}
 use Rattle.model.proofs.Local.{both-left, both-right}
 use Rattle.model.proofs.Numbers.{actor-in}
-use Rattle.model.proofs.Fields.{otherwise, other-is, oldest-goes, own-record}
+use Rattle.model.proofs.Fields.{otherwise, other-is, oldest-goes, other-record, each-record}
 use Rattle.model.proofs.Whole.{All, all-map, all-append, all-without}
 use Rattle.model.specs.declared.Status.the-variants.{Reorganization, Normal}
 use Rattle.model.specs.declared.Activity.{Activity}
@@ -384,26 +383,12 @@ module _ (k : ℕ) (s : State) (few : k ≤ 5) (x : TableAfter k s) where
   event-after (Lose a b) c = record { reaction = record { node = node-more k b (nodeAt s b) (here (Lose a b) c); outgoing = tt }; runs = inl refl }
 
   module _ (e : Event) (c : Clear s e) where
-    -- another node is as it was
-    other : (j : ℕ) → 1 ≤ j → (j ≡ actor e → ⊥) → nodeAt (effect s e) j ≡ nodeAt s j
-    unfolding effect
-    other j l d = getD-set-other (s .nodes) (actor e - 1) (j - 1) (reactionTo s e .node) startingNode (λ z. d (omega (arith, l, z, actor-in (s .n) e (c .number) .0)))
-
     -- one that ran before
     ran : (j : ℕ) → 1 ≤ j → j ≤ s .n → (j ≡ actor e → ⊥) → isDown (nodeAt (effect s e) j .status) ≡ false → isDown (nodeAt s j .status) ≡ false
-    ran j l h d q = sym (ap (λ (y : Node). isDown (y .status)) (other j l d)) ∙ q
+    ran j l h d q = sym (ap (λ (y : Node). isDown (y .status)) (other-record s e c j l d)) ∙ q
 
     some-ran : (j : ℕ) → 1 ≤ j → j ≤ s .n → (j ≡ actor e → ⊥) → isDown (nodeAt (effect s e) j .status) ≡ false → 1 ≤ k
     some-ran j l h d q = runs-some k j (nodeAt s j) (nodeAt s j .activity) (running k j (nodeAt s j) (x .nodes j l h) (ran j l h d q))
-
-    nodes-after : (j : ℕ) → 1 ≤ j → j ≤ s .n → NodeAfter (k + 1) j (nodeAt (effect s e) j)
-    nodes-after j l h = by (eqb j (actor e)) refl
-      where
-        by : (t : Bool) → eqb j (actor e) ≡ t → NodeAfter (k + 1) j (nodeAt (effect s e) j)
-        by true q =
-            subst (λ (i : ℕ). NodeAfter (k + 1) i (nodeAt (effect s e) i)) (sym (eqb-true j (actor e) q))
-            (subst (NodeAfter (k + 1) (actor e)) (sym (own-record s e c)) (event-after e c .reaction .node))
-        by false q = subst (NodeAfter (k + 1) j) (sym (other j l (eqb-false j (actor e) q))) (node-more k j (nodeAt s j) (x .nodes j l h))
 
     sent-after : (o : Outgoing) → OutgoingAfter (k + 1) (actor e) o → All (MessageAfter (k + 1)) (sent o)
     sent-after Nothing y = tt
@@ -431,7 +416,7 @@ module _ (k : ℕ) (s : State) (few : k ≤ 5) (x : TableAfter k s) where
     unfolding effect
     effect-after =
         record {
-          nodes = nodes-after;
+          nodes = each-record (NodeAfter (k + 1)) s e c (event-after e c .reaction .node) (λ j l h. node-more k j (nodeAt s j) (x .nodes j l h));
           messages = all-append (MessageAfter (k + 1)) (remaining s e) (sent (reactionTo s e .outgoing))
               (all-map (message-more k) (remaining s e) (remaining-all (MessageAfter k) s e (x .messages)))
               (sent-after (reactionTo s e .outgoing) (event-after e c .reaction .outgoing));

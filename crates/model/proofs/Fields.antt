@@ -7,7 +7,7 @@ use mathlib.Core.Path.{_≡_, refl, sym, _∙_, ap, subst}
 use mathlib.Core.List.{List, [], _∷_}
 use lib.Dec.{eqb, leb}
 use lib.ListN.{length, getD}
-use lib.Seq.{getD-set-same}
+use lib.Seq.{getD-set-same, getD-set-other}
 use borrow.Author.Tests.{eqb-true, eqb-false, leb-true, not-true}
 use Rattle.node_set.specs.NodeSet.{has, within}
 use Rattle.model.specs.Pick.{by-test}
@@ -357,3 +357,18 @@ unfolding effect
 own-record s e c =
     let k = actor-in (s .n) e (c .number) in
     getD-set-same (s .nodes) (actor e - 1) (reactionTo s e .node) startingNode (omega (arith, k .0, k .1, in-range-size s (c .in-range) .2))
+
+-- and the others have theirs
+pub other-record : (s : State) (e : Event) → Clear s e → (j : ℕ) → 1 ≤ j → (j ≡ actor e → ⊥) → nodeAt (effect s e) j ≡ nodeAt s j
+unfolding effect
+other-record s e c j l d =
+    getD-set-other (s .nodes) (actor e - 1) (j - 1) (reactionTo s e .node) startingNode (λ z. d (omega (arith, l, z, actor-in (s .n) e (c .number) .0)))
+
+-- so what holds of the new record, and of the others as they were, holds of all
+pub each-record : (P : ℕ → Node → Type 0) (s : State) (e : Event) → Clear s e → P (actor e) (reactionTo s e .node)
+    → ((j : ℕ) → 1 ≤ j → j ≤ s .n → P j (nodeAt s j)) → (j : ℕ) → 1 ≤ j → j ≤ s .n → P j (nodeAt (effect s e) j)
+each-record P s e c x y j l h = by (eqb j (actor e)) refl
+  where
+    by : (t : Bool) → eqb j (actor e) ≡ t → P j (nodeAt (effect s e) j)
+    by true q = subst (λ (i : ℕ). P i (nodeAt (effect s e) i)) (sym (eqb-true j (actor e) q)) (subst (P (actor e)) (sym (own-record s e c)) x)
+    by false q = subst (P j) (sym (other-record s e c j l (eqb-false j (actor e) q))) (y j l h)

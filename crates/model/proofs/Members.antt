@@ -5,10 +5,8 @@ use mathlib.Core.Bool.{Bool, true, false, true≢false}
 use mathlib.Core.Logic.{_⊎_, inl, inr, ⊎-elim}
 use mathlib.Core.Path.{_≡_, refl, sym, _∙_, ap, subst}
 use mathlib.Core.List.{List, [], _∷_}
-use lib.Dec.{eqb}
 use lib.ListN.{getD-replicate}
-use lib.Seq.{getD-set-other}
-use borrow.Author.Tests.{not-false, eqb-true, eqb-false}
+use borrow.Author.Tests.{not-false, eqb-false}
 use Rattle.node_set.specs.NodeSet.{with}
 use Rattle.model.specs.Pick.{pick, by-test}
 use Rattle.model.specs.Node.{isDown, isNormal, isIdle, ownerOf, merged, tasked, invited}
@@ -19,7 +17,7 @@ use Rattle.model.specs.Step.{actor, reactionTo, effect, Result, kept, af
 use Rattle.model.proofs.Judged.{Clear, by-step}
 use Rattle.model.proofs.Local.{both-left}
 use Rattle.model.proofs.Numbers.{actor-in}
-use Rattle.model.proofs.Fields.{Busy, node-facts, in-range-node, own-record}
+use Rattle.model.proofs.Fields.{Busy, node-facts, in-range-node, each-record}
 use Rattle.model.specs.declared.Status.{Status}
 use Rattle.model.specs.declared.Status.the-variants.{Reorganization, Normal}
 use Rattle.model.specs.declared.Activity.{Activity}
@@ -215,16 +213,7 @@ module _ (s : State) (x : AllRest s) where
 
   effect-rests : (e : Event) → Clear s e → AllRest (effect s e)
   unfolding effect
-  effect-rests e c i l h = by (eqb i (actor e)) refl
-    where
-      by : (t : Bool) → eqb i (actor e) ≡ t → NodeRests i (nodeAt (effect s e) i)
-      by true q =
-          subst (λ (j : ℕ). NodeRests j (nodeAt (effect s e) j)) (sym (eqb-true i (actor e) q))
-          (subst (NodeRests (actor e)) (sym (own-record s e c)) (event-rests e c))
-      by false q =
-          subst (NodeRests i)
-          (sym (getD-set-other (s .nodes) (actor e - 1) (i - 1) (reactionTo s e .node) startingNode (λ z. eqb-false i (actor e) q (omega (arith, l, z, actor-in (s .n) e (c .number) .0)))))
-          (x i l h)
+  effect-rests e c = each-record NodeRests s e c (event-rests e c) x
 
 -- ── runs ──
 from-rest : (s : State) (es : List Event) → AllRest s → AllRest (runFrom s es)

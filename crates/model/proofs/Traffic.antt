@@ -7,7 +7,6 @@ use mathlib.Core.Path.{_≡_, refl, sym, _∙_, ap, subst}
 use mathlib.Core.List.{List, [], _∷_}
 use lib.Dec.{eqb, ltb}
 use lib.ListN.{length, getD, set, replicate, getD-replicate}
-use lib.Seq.{getD-set-same, getD-set-other}
 use borrow.Author.Tests.{eqb-true, eqb-false, eq-eqb, ne-eqb, not-false}
 use Rattle.model.specs.Pick.{pick}
 use Rattle.model.specs.Limits.{callEnd, trafficEnd}
@@ -20,7 +19,7 @@ use Rattle.model.specs.Traffic.{sends, delivers, loses, ofAccepted, tall
 use Rattle.model.specs.Claims.{TrafficAgrees, TrafficRules}
 use Rattle.model.proofs.Judged.{Clear, by-step, accepted-is, met, ended-clear}
 use Rattle.model.proofs.Local.{both-right}
-use Rattle.model.proofs.Fields.{node-facts, message-facts, Counting, CountFacts, count-facts, every-at, oldest-goes, in-range-size, in-range-places, in-range-each, in-range-node, in-range-sum}
+use Rattle.model.proofs.Fields.{node-facts, message-facts, Counting, CountFacts, count-facts, every-at, oldest-goes, in-range-size, in-range-places, in-range-each, in-range-node, in-range-sum, own-record, other-record}
 use Rattle.model.proofs.Range.{OutgoingIn}
 use Rattle.model.proofs.Counts.{none-counted, many-append, many-without, pair-counting}
 use Rattle.model.proofs.InRange.{EventIn, event-in, event-counted, start-in, run-in}
@@ -234,12 +233,10 @@ module _ (s : State) (e : Event) (c : Clear s e) where
 
   -- the record that is stored, and the others
   here : nodeAt (effect s e) (actor e) ≡ reactionTo s e .node
-  unfolding effect
-  here = getD-set-same (s .nodes) (actor e - 1) (reactionTo s e .node) startingNode (omega (arith, inside .place .low, inside .place .high, in-range-size s (c .in-range) .2))
+  here = own-record s e c
 
   there : (j : ℕ) → 1 ≤ j → (j ≡ actor e → ⊥) → nodeAt (effect s e) j ≡ nodeAt s j
-  unfolding effect
-  there j l d = getD-set-other (s .nodes) (actor e - 1) (j - 1) (reactionTo s e .node) startingNode (λ z. d (omega (arith, inside .place .low)))
+  there = other-record s e c
 
   -- a call takes a new number
   grows : (j b : ℕ) → 1 ≤ j → nodeAt s j .last .number + howMany (isCallTo j b) (sent (reactionTo s e .outgoing)) ≤ nodeAt (effect s e) j .last .number
