@@ -24,7 +24,7 @@ use Rattle.model.specs.State.{State, startingNode, start, nodeAt, noMessage, wa
 use Rattle.model.specs.Step.{actor, reactionTo, remaining, sent, withSent, withDelivered, withLost, effect, wrongStatus, notCoordinator, forms, isCalling, isSending, pairAtEnd, grounds, judged, Result, refused, accepted, step, kept, aside, after, runFrom}
 use Rattle.model.specs.Answers.{answerNumber, resultNumber}
 use Rattle.model.specs.Claims.{isActive, Lacks, Sends, whomNow, whomStill, Below, Picked, InvitationReaches, Holds, recoversAtExpire, recordAfter, CheckReaches, DoesNotLead}
-use Rattle.model.proofs.Judged.{Clear, by-step, clear-accepts, accepted-is, met}
+use Rattle.model.proofs.Judged.{Clear, by-step, clear-accepts, accepted-apart, accepted-is, refused-same, met}
 use Rattle.model.proofs.Local.{both-right}
 use Rattle.model.proofs.Fields.{in-range-size, own-record}
 use Rattle.model.proofs.InRange.{delivery-never-full, stays-in-range}
@@ -425,9 +425,6 @@ no-lower-first =
 
 -- ── an invitation that arrives twice ──
 
-accepted-not-refused : {u : State} {k : Mark} {r : ℕ} → accepted u k ≡ refused r → ⊥
-accepted-not-refused q = let z : _≡_ {A = ℕ} 1 0 = cc in omega arith
-
 records-kept : (s : State) (a b : ℕ) → oldest a b (s .queue) .kind ≡ 3 → Holds s a b → after s (Deliver a b) .nodes ≡ s .nodes
 records-kept s a b k g =
     by-step (λ (q : Result). kept s q .nodes ≡ s .nodes) s (Deliver a b) (λ _. refl)
@@ -435,7 +432,7 @@ records-kept s a b k g =
     let w : InvitationReaches s a b = record { in-range = c .in-range; not-down = c .status; kind = k } in
     ap (λ (q : Result). kept s q .nodes)
     (sym (clear-accepts s (Deliver a b) c d)
-    ∙ invitation-rules .held s a b w (λ m. accepted-not-refused (sym (clear-accepts s (Deliver a b) c d) ∙ invitation-rules .held-end s a b w g m)) g))
+    ∙ invitation-rules .held s a b w (λ m. accepted-apart (sym (clear-accepts s (Deliver a b) c d) ∙ invitation-rules .held-end s a b w g m)) g))
 
 pub no-joining-again : NoJoiningAgain
 no-joining-again =
@@ -494,9 +491,6 @@ effect-counts {t} {e} x a = accepted-is (view t) e _ _ (accepted-alike .model-ac
 -- of the counts after any event: as they were, or the effect's
 by-counts : (f : State → List ℕ) (l : List ℕ) {t : Table} {e : Event} {r : Outcome} → Stepped t e r → f (view t) ≡ l → f (effect (view t) e) ≡ l → f (view (r .table)) ≡ l
 by-counts f l {t} {e} x p q = ap f (x .table) ∙ by-step (λ (y : Result). f (kept (view t) y) ≡ l) (view t) e (λ _. p) (λ _ _. q)
-
-refused-same : {a b : ℕ} → refused a ≡ refused b → a ≡ b
-refused-same q = cc
 
 -- only deliver and lose are counted as such
 no-delivery : (l : List ℕ) (e : Event) → takes e ≡ false → withDelivered l e ≡ l

@@ -176,7 +176,7 @@ or-left : (x y : Bool) → x ≡ true → (x || y) ≡ true
 or-left true y e = refl
 or-left false y e = absurd (true≢false (sym e))
 
-or-right : (x y : Bool) → y ≡ true → (x || y) ≡ true
+pub or-right : (x y : Bool) → y ≡ true → (x || y) ≡ true
 or-right true y e = refl
 or-right false y e = e
 

@@ -18,9 +18,10 @@ use Rattle.model.specs.React.{leads, checked, react}
 use Rattle.model.specs.State.{State, startingNode, nodeAt}
 use Rattle.model.specs.Step.{actor, reactionTo, remaining, sent, withSent, effect, notCoordinator, forms, isCalling, isSending, pairAtEnd, ground, grounds, Result, refused, accepted, judged, step, run}
 use Rattle.model.specs.Claims.{MaySend, firstOther, checkGrounds, withQuestion, withCheck, CheckReaches, DoesNotLead, CheckRules}
-use Rattle.model.proofs.Judged.{judged-by, accepted-is, met, passed}
+use Rattle.model.proofs.Judged.{judged-by, accepted-apart, accepted-is, met, passed}
 use Rattle.model.proofs.Local.{both-left, both-right}
 use Rattle.model.proofs.Fields.{IsNode, node-is}
+use Rattle.model.proofs.CallOrder.{or-right}
 use Rattle.model.proofs.Early.{early-leads}
 use Rattle.model.proofs.Members.{NodeRests, idle-rests, run-rests}
 use Rattle.model.specs.declared.Status.{Status}
@@ -121,7 +122,7 @@ module _ (s : State) (i : ℕ) where
 leaves : (s : State) (i : ℕ) (u : State) (k : Mark) → step s (Check i) ≡ accepted u k → u ≡ withCheck s i
 leaves s i u k q =
     judged-by (λ (r : Result). r ≡ accepted u k → u ≡ withCheck s i) (accepted (withCheck s i) Plain) (checkGrounds s i)
-    (λ r e. absurd (let z : _≡_ {A = ℕ} 0 1 = cc in omega arith)) (λ _ e. cc) (sym (checks s i) ∙ q)
+    (λ r e. absurd (accepted-apart (sym e))) (λ _ e. cc) (sym (checks s i) ∙ q)
 
 -- ── statuses ──
 normal-is : (t : Status) → isNormal t ≡ true → t ≡ Normal
@@ -136,10 +137,6 @@ not-normal-is Election d = refl
 not-normal-is Reorganization d = refl
 not-normal-is Normal d = absurd (d refl)
 
-or-true : (t : Bool) → t || true ≡ true
-or-true true = refl
-or-true false = refl
-
 -- ── one check ──
 module _ (s : State) (i : ℕ) (x : CheckReaches s i) where
   by-eighteen : not (isNormal (nodeAt s i .status)) || not (eqb (nodeAt s i .coordinator) i) ≡ true → step s (Check i) ≡ refused 18
@@ -150,7 +147,7 @@ module _ (s : State) (i : ℕ) (x : CheckReaches s i) where
   turned-away (inl d) = by-eighteen (ap (λ (t : Bool). not t || not (eqb (nodeAt s i .coordinator) i)) (not-normal-is (nodeAt s i .status) d))
   turned-away (inr d) =
       by-eighteen
-      (ap (λ (t : Bool). not (isNormal (nodeAt s i .status)) || not t) (ne-eqb (nodeAt s i .coordinator) i d) ∙ or-true (not (isNormal (nodeAt s i .status))))
+      (ap (λ (t : Bool). not (isNormal (nodeAt s i .status)) || not t) (ne-eqb (nodeAt s i .coordinator) i d) ∙ or-right (not (isNormal (nodeAt s i .status))) true refl)
 
   asking : 1 < s .n → nodeAt s i .status ≡ Normal → nodeAt s i .coordinator ≡ i → nodeAt s i .last .number < callEnd → length (s .queue) < queueLimit → MaySend s i (firstOther i)
       → step s (Check i) ≡ accepted (withQuestion s i) Plain

@@ -101,6 +101,9 @@ pub clear-accepts : (s : State) (e : Event) → Clear s e → NotAtEnd s e → s
 unfolding step grounds judged pick
 clear-accepts s e c d = rw (c .in-range, c .number, c .task, c .status, c .activity, c .coordinator, c .waiting, c .counter, c .calls, c .room, d)
 
+pub accepted-apart : {u : State} {k : Mark} {r : ℕ} → accepted u k ≡ refused r → ⊥
+accepted-apart e = let z : _≡_ {A = ℕ} 0 1 = cc in omega arith
+
 -- what an accepted event is
 pub record Accepted (s : State) (e : Event) (u : State) (k : Mark) : Type 0 where
   pub clear : Clear s e
@@ -110,10 +113,7 @@ pub record Accepted (s : State) (e : Event) (u : State) (k : Mark) : Type 0 wher
 
 pub accepted-is : (s : State) (e : Event) (u : State) (k : Mark) → step s e ≡ accepted u k → Accepted s e u k
 accepted-is s e u k =
-    by-step (λ r. r ≡ accepted u k → Accepted s e u k) s e (λ x q. absurd (apart x q)) (λ c d q. record { clear = c; not-at-end = d; state = (cc); mark = (cc) })
-  where
-    apart : (x : ℕ) → refused x ≡ accepted u k → ⊥
-    apart x q = let z : _≡_ {A = ℕ} 0 1 = cc in omega arith
+    by-step (λ r. r ≡ accepted u k → Accepted s e u k) s e (λ x q. absurd (accepted-apart (sym q))) (λ c d q. record { clear = c; not-at-end = d; state = (cc); mark = (cc) })
 
 -- ── a refusal by its number ──
 
@@ -126,11 +126,11 @@ abbrev once : ℕ → List Ground → Bool
 once r [] = true
 once r (g ∷ gs) = pick (eqb (g .number) r) (absent r gs) (once r gs)
 
-numbered-same : {x r : ℕ} → refused x ≡ refused r → eqb x r ≡ true
-numbered-same {x} {r} e = eq-eqb x r (cc)
+pub refused-same : {a b : ℕ} → refused a ≡ refused b → a ≡ b
+refused-same q = cc
 
-accepted-apart : {u : State} {k : Mark} {r : ℕ} → accepted u k ≡ refused r → ⊥
-accepted-apart e = let z : _≡_ {A = ℕ} 0 1 = cc in omega arith
+numbered-same : {x r : ℕ} → refused x ≡ refused r → eqb x r ≡ true
+numbered-same {x} {r} e = eq-eqb x r (refused-same e)
 
 judged-absent : (u : State) (k : Mark) (r : ℕ) (gs : List Ground) → absent r gs ≡ true → judged (accepted u k) gs ≡ refused r → ⊥
 unfolding judged
