@@ -13,7 +13,7 @@ use Rattle.model.specs.State.{State, noMessage, startingNode, inRange, tableOf}
 use Rattle.model.proofs.Refusals.{refuses-by-ground, result-small}
 use Rattle.model.proofs.InRange.{stays-in-range}
 use Rattle.model.proofs.Fields.{in-range-places}
-use Rattle.machine.proofs.Laws.{first-length}
+use Rattle.model.proofs.Lists.{first-length}
 use Rattle.event_list.specs.Format.{twoBytes, stopNumber, lengthOf, cutShort, checked, nextAt}
 use Rattle.event_list.specs.declared.Stop.{Stop}
 use Rattle.event_list.specs.declared.Stop.the-variants.{TooLong, CutShort, WrongTag, WrongLength, WrongCount}

@@ -8,7 +8,8 @@ use lib.ListN.{length, take, set, replicate}
 use lib.Seq.{take-suc-set, take-all}
 use Rattle.model.specs.State.{startingNode, noMessage, firstOf, view, tableOf}
 use Rattle.model.specs.declared.Table.{Table}
-use Rattle.machine.proofs.Laws.{Sized, first-length}
+use Rattle.model.proofs.Lists.{first-length}
+use Rattle.machine.proofs.Laws.{Sized}
 
 module _ {A : Type 0} (d : A) where
   -- l, of length k, with d from i on

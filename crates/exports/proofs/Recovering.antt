@@ -10,7 +10,8 @@ use borrow.Author.Tests.{not-true, lt-ltb, le-ltb, ltb-true, eq-eqb, ne-eqb}
 use Rattle.model.specs.Pick.{pick, pick-true, pick-false, by-test}
 use Rattle.model.specs.Recovery.{recoveryRecords}
 use Rattle.model.specs.State.{State, nodeAt, inRange}
-use Rattle.model.specs.Step.{grounds, judged, step, kept}
+use Rattle.model.specs.Grounds.{judged}
+use Rattle.model.specs.Step.{grounds, step, kept}
 use Rattle.model.specs.Answers.{answerNumber, resultNumber}
 use Rattle.model.specs.Claims.{Accepts, recordAfter}
 use Rattle.model.proofs.Refusals.{refuses-by-ground, result-small}

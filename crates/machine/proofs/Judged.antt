@@ -10,7 +10,8 @@ use lib.ListN.{length, getD}
 use Rattle.model.specs.State.{startingNode, nodeAt, noMessage, inRange, view}
 use Rattle.model.specs.Limits.{trafficEnd}
 use Rattle.model.specs.Pick.{pick, pick-true, pick-false}
-use Rattle.model.specs.Step.{actor, reactionTo, isSending, pairAtEnd, effect, Ground, accepted, step}
+use Rattle.model.specs.Grounds.{Ground, first}
+use Rattle.model.specs.Step.{actor, reactionTo, isSending, pairAtEnd, effect, accepted, step}
 use Rattle.model.proofs.Judged.{Clear}
 use Rattle.model.proofs.Range.{OutgoingIn}
 use Rattle.model.proofs.InRange.{event-in}
@@ -27,10 +28,11 @@ use Rattle.model.specs.declared.Event.{Event}
 use Rattle.model.specs.declared.Event.the-variants.{Crash, Recover, Check, Timeout, Tick, Expire, Finish, Deliver, Lose}
 use Rattle.node_step.specs.Fits.{FitsInput}
 use Rattle.machine.specs.declared.Verdict.{Verdict}
-use Rattle.machine.specs.Parts.{placeFor, sentPlace, withLast, stored, Left, Room, first, numberGrounds, stateGrounds, endGrounds, isAccepted, reactsTo, inputOf, loses, FitsMessage, leftOf, judgedGrounds, Judging, Judged}
+use Rattle.machine.specs.Parts.{placeFor, sentPlace, withLast, stored, Left, Room, numberGrounds, stateGrounds, endGrounds, isAccepted, reactsTo, inputOf, loses, FitsMessage, leftOf, judgedGrounds, Judging, Judged}
 use Rattle.machine.specs.Stepped.{Stepped}
 use Rattle.machine.proofs.Laws.{Sized}
-use Rattle.machine.proofs.Parts.{Numbered, first-clear, first-met, accepted-zero, refused-some, numbers-refuse, state-refuses, ends-refuse, last-refuses, step-accepts, all-clear}
+use Rattle.model.proofs.Grounds.{Numbered, first-clear, first-met}
+use Rattle.machine.proofs.Parts.{accepted-zero, refused-some, numbers-refuse, state-refuses, ends-refuse, last-refuses, step-accepts, all-clear}
 use Rattle.machine.proofs.Places.{small, actor-is, node-read, node-fits, found-is, reaction-is, message-ok, left-is, place-below, left-counts, room-is, last-is, clear-is, effect-is}
 
 -- ── the reaction by what the node is told ──

@@ -1,13 +1,12 @@
 -- Laws of lists for the table's loops, and what a table's arrays are: the first n records and the first waiting places.
-use Prim.Native.Nat.{ℕ, zero, suc, _+_, _-_, _≤_, _<_}
-use native.Mathlib.Nat.{not-suc-le-zero}
+use Prim.Native.Nat.{ℕ, suc, _+_, _-_, _≤_, _<_}
 use native.Mathlib.Numerals.{add-one}
 use native.Mathlib.Omega.{arith}
 use mathlib.Core.Path.{_≡_, refl, sym, _∙_, ap}
 use mathlib.Core.List.{List, [], _∷_, _++_, append-nil}
 use mathlib.Core.Bool.{Bool, true, false, _&&_}
 use mathlib.Core.Logic.{_⊎_, ⊎-elim}
-use lib.ListN.{length, getD, take, drop, set, length-map, length-set, length-take, replicate, drop-of-length-le}
+use lib.ListN.{length, getD, take, drop, set, length-map, length-set, length-take, drop-of-length-le}
 use lib.Seq.{drop-cons, drop-set-lt, take-set-lt, take-suc-set, take-take, append-snoc, getD-take, length-take-le, take-all}
 use mir.Val.{Val}
 use denote.Laws.{Is}
@@ -16,7 +15,7 @@ use denote.Struct.Declared.{row}
 use borrow.Author.Tests.{le-leb, eq-eqb}
 use Rattle.model.specs.Counts.{noCounts}
 use Rattle.model.specs.Range.{nodeInRange, messageInRange}
-use Rattle.model.specs.Pick.{pick, pick-true, pick-false}
+use Rattle.model.specs.Pick.{pick-true, pick-false}
 use Rattle.model.specs.State.{State, startingNode, start, noMessage, every, trafficInRange, inRange, firstOf, view, goes}
 use Rattle.model.specs.declared.Node.{Node}
 use Rattle.model.specs.declared.Message.{Message}
@@ -24,6 +23,7 @@ use Rattle.model.specs.declared.Table.{Table}
 use Rattle.model.proofs.Node as node
 use Rattle.model.proofs.Message as message
 use Rattle.model.proofs.Table as T
+use Rattle.model.proofs.Lists.{first-take, first-length, first-set, first-replicate, left-turn, left-end}
 use Rattle.machine.specs.Stepped.{startingTable}
 use Rattle.machine.specs.Parts.{place, without, Left}
 
@@ -53,18 +53,6 @@ pub messages-long : (ms : List Message) {vs : List Val} → Is (Array (row messa
 messages-long ms g = g .1 .0 .1
 
 -- ── the first k of a list ──
-pub first-take : {A : Type 0} (k : ℕ) (d : A) (l : List A) → k ≤ length l → firstOf k d l ≡ take k l
-unfolding firstOf
-first-take zero d l h = refl
-first-take (suc k) d [] h = absurd (not-suc-le-zero h)
-first-take {A} (suc k) d (x ∷ l) h = ap (λ (r : List A). x ∷ r) (first-take k d l (omega arith))
-
-pub first-length : {A : Type 0} (k : ℕ) (d : A) (l : List A) → length (firstOf k d l) ≡ k
-unfolding firstOf
-first-length zero d l = refl
-first-length (suc k) d [] = ap suc (first-length k d [])
-first-length (suc k) d (x ∷ l) = ap suc (first-length k d l)
-
 pub queue-is : (w : ℕ) (ms : List Message) → length ms ≡ 64 → w ≤ 64 → firstOf w noMessage ms ≡ take w ms
 queue-is w ms long h = first-take w noMessage ms (omega arith)
 
@@ -90,35 +78,6 @@ pub traffic-of : (t : Table)
     ≡ trafficInRange (view t)
 unfolding trafficInRange
 traffic-of t = refl
-
--- ── loops over the first w elements of an array: what is left at k, by the element at k ──
-module _ {A : Type 0} (l : List A) (w : ℕ) (h : w ≤ length l) (k : ℕ) where
-  left-turn : k < w → (d : A) → drop k (take w l) ≡ getD l k d ∷ drop (k + 1) (take w l)
-  left-turn p d =
-      let q : k < length (take w l) = simp length-take-le (omega arith) in
-      rw (add-one, drop-cons (take w l) k d, getD-take)
-
-  left-end : w ≤ k → drop k (take w l) ≡ []
-  left-end p =
-      let q : length (take w l) ≤ k = simp length-take-le (omega arith) in
-      rw drop-of-length-le
-
-  -- r is the test's result in the code, and d what the read takes past the end
-  module _ (f : ℕ → A → Bool) (i : ℕ) where
-    module _ (p : k < w) (d : A) (r : Bool) (e : r ≡ f i (getD l k d)) where
-      every-turn : every f i (drop k (take w l)) ≡ r && every f (i + 1) (drop (k + 1) (take w l))
-      unfolding every
-      every-turn = rw (left-turn p d, ← e)
-
-      pub every-hit : r ≡ true → every f i (drop k (take w l)) ≡ every f (i + 1) (drop (k + 1) (take w l))
-      every-hit y = rw (every-turn, y)
-
-      pub every-miss : r ≡ false → every f i (drop k (take w l)) ≡ false
-      every-miss y = rw (every-turn, y)
-
-    pub every-end : w ≤ k → every f i (drop k (take w l)) ≡ true
-    unfolding every
-    every-end p = rw (left-end p)
 
 module _ (a b : ℕ) (l : List Message) (w : ℕ) (h : w ≤ length l) (k : ℕ) where
   module _ (p : k < w) (d : Message) (r : Bool) (e : r ≡ goes a b (getD l k d)) where
@@ -172,9 +131,6 @@ left-queue w k left l x = ⊎-elim (λ y. rw (← y .1) (without-last l left)) (
 pub left-few : (w k left : ℕ) → Left w k left → w ≤ 64 → left ≤ 64
 left-few w k left x h = ⊎-elim (λ y. omega arith) (λ y. omega arith) x
 
-pub nodes-set : (n at : ℕ) (l : List Node) (c : Node) → at < n → n ≤ length l → firstOf n startingNode (set l at c) ≡ set (firstOf n startingNode l) at c
-nodes-set n at l c h k = rw (first-take n startingNode (set l at c) (simp length-set k), first-take n startingNode l k) (take-set-lt n l at c h)
-
 -- states by their nodes and messages, with the same counts
 pub state-is : (n : ℕ) (a b c : List ℕ) {xs ys : List Node} {q r : List Message} → xs ≡ ys → q ≡ r
     → _≡_ {A = State} (record { n = n; nodes = xs; queue = q; sent = a; delivered = b; lost = c }) (record { n = n; nodes = ys; queue = r; sent = a; delivered = b; lost = c })
@@ -188,26 +144,20 @@ module _ (t : Table) (s : Sized t) (small : t .n ≤ 16) (short : t .waiting ≤
   pub stored-quiet : _≡_ {A = State} (record { n = t .n; nodes = firstOf (t .n) startingNode (set (t .nodes) at c); queue = firstOf left noMessage ms; sent = a; delivered = b; lost = d })
       (record { n = t .n; nodes = set (view t .nodes) at c; queue = without k (view t .queue) ++ []; sent = a; delivered = b; lost = d })
   stored-quiet =
-      state-is (t .n) a b d (nodes-set (t .n) at (t .nodes) c h (omega (arith, s .nodes)))
+      state-is (t .n) a b d (first-set (t .n) at startingNode (t .nodes) c h (omega (arith, s .nodes)))
       (first-take left noMessage ms (omega (arith, left-few (t .waiting) k left x short)) ∙ taken ∙ sym (append-nil _))
 
   pub stored-sent : left < 64 → (m : Message)
       → _≡_ {A = State} (record { n = t .n; nodes = firstOf (t .n) startingNode (set (t .nodes) at c); queue = firstOf (left + 1) noMessage (set ms left m); sent = a; delivered = b; lost = d })
       (record { n = t .n; nodes = set (view t .nodes) at c; queue = without k (view t .queue) ++ (m ∷ []); sent = a; delivered = b; lost = d })
   stored-sent room m =
-      state-is (t .n) a b d (nodes-set (t .n) at (t .nodes) c h (omega (arith, s .nodes)))
+      state-is (t .n) a b d (first-set (t .n) at startingNode (t .nodes) c h (omega (arith, s .nodes)))
       (first-take (left + 1) noMessage (set ms left m) (simp length-set (omega arith)) ∙ one-more ∙ ap (λ (q : List Message). q ++ (m ∷ [])) taken)
     where
       one-more : take (left + 1) (set ms left m) ≡ take left ms ++ (m ∷ [])
       one-more = rw (add-one left) (take-suc-set ms left m (omega arith))
 
 -- ── the starting table ──
-pub first-replicate : {A : Type 0} (k w : ℕ) (d : A) → firstOf k d (replicate w d) ≡ replicate k d
-unfolding firstOf
-first-replicate zero w d = refl
-first-replicate {A} (suc k) zero d = ap (λ (r : List A). d ∷ r) (first-replicate k zero d)
-first-replicate {A} (suc k) (suc w) d = ap (λ (r : List A). d ∷ r) (first-replicate k w d)
-
 pub start-is : (n : ℕ) → view (startingTable n) ≡ start n
 unfolding firstOf
 start-is n = state-is n noCounts noCounts noCounts (first-replicate n 16 startingNode) refl

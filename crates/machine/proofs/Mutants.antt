@@ -15,15 +15,16 @@ use Rattle.node_set.specs.NodeSet.{has}
 use Rattle.model.specs.Pick.{pick, by-test}
 use Rattle.model.specs.Limits.{queueLimit, counterEnd, callEnd, trafficEnd}
 use Rattle.model.specs.Counts.{pairPlace, countAt, noCounts}
-use Rattle.model.specs.Node.{isDown, isReorganization, isNormal, replies}
+use Rattle.model.specs.Node.{isDown, isReorganization, isNormal, replies, isActive}
 use Rattle.model.specs.Recovery.{recoveryRecords}
 use Rattle.model.specs.Procedures.{recovers, inviteNext, merges, handNext, finishes, forwardNext, askedAll, askAt, askAfter}
 use Rattle.model.specs.React.{checked, timedOut, ticked, expired, resumed, onAreYouCoordinator, onAreYouThere, onInvitation, onAccept, onReady, onReply, received, react}
 use Rattle.model.specs.Range.{activityInRange, nodeInRange, messageInRange}
 use Rattle.model.specs.State.{State, startingNode, start, nodeAt, noMessage, waits, oldest, withoutOldest, allWaiting, countsAside, every, baseInRange, trafficInRange, inRange, firstOf, view, tableOf}
-use Rattle.model.specs.Step.{actor, reactionTo, remaining, sent, withSent, withDelivered, withLost, effect, wrongStatus, notCoordinator, forms, isCalling, isSending, pairAtEnd, grounds, judged, Result, refused, accepted, step, kept, aside, after, runFrom}
+use Rattle.model.specs.Grounds.{judged}
+use Rattle.model.specs.Step.{actor, reactionTo, remaining, sent, withSent, withDelivered, withLost, effect, wrongStatus, notCoordinator, forms, isCalling, isSending, pairAtEnd, grounds, Result, refused, accepted, step, kept, aside, after, runFrom}
 use Rattle.model.specs.Answers.{answerNumber, resultNumber}
-use Rattle.model.specs.Claims.{isActive, Lacks, Sends, whomNow, whomStill, Below, Picked, InvitationReaches, Holds, recoversAtExpire, recordAfter, CheckReaches, DoesNotLead}
+use Rattle.model.specs.Claims.{Lacks, Sends, whomNow, whomStill, Below, Picked, InvitationReaches, Holds, recoversAtExpire, recordAfter, CheckReaches, DoesNotLead}
 use Rattle.model.proofs.Judged.{Clear, by-step, clear-accepts, accepted-apart, accepted-is, refused-same, met}
 use Rattle.model.proofs.Local.{both-right}
 use Rattle.model.proofs.Fields.{in-range-size, own-record}
@@ -56,7 +57,8 @@ use Rattle.machine.specs.declared.RecoveryAnswer.{RecoveryAnswer}
 use Rattle.machine.specs.Stepped.{Stepped, startingTable, RecoveryAnswered}
 use Rattle.machine.specs.Parts.{takes}
 use Rattle.machine.specs.Mutants.{mergingTable, handingTable, invitedTable, askingTable, collectingTable, invites, Moves, NoMutant, NoWrongTurning, NoLowerFirst, NoJoiningAgain, NoOtherRecovery, NoOtherCounts, NoOtherChecks}
-use Rattle.machine.proofs.Laws.{start-is, first-length}
+use Rattle.model.proofs.Lists.{first-length}
+use Rattle.machine.proofs.Laws.{start-is}
 use Rattle.machine.proofs.Runs.{run-nodes, start-node, answer-known, by-number, accepted-alike, code-runs, code-fixes, folded-reached}
 use Rattle.machine.proofs.Recovering.{model-accepts, code-accepts, recovery-alike}
 use Rattle.machine.proofs.Still.{accepted-differs, reply-taken}

@@ -11,10 +11,11 @@ use lib.ListN.{length, getD, take, drop, length-append, length-take, length-drop
 use borrow.Author.Tests.{lt-ltb, le-ltb, ltb-true}
 use Rattle.model.specs.Pick.{pick, pick-true, pick-false, by-test}
 use Rattle.model.specs.State.{State, startingNode, nodeAt, noMessage, goes, waits, oldest, withoutOldest, inRange, view}
-use Rattle.model.specs.Step.{actor, reactionTo, remaining, noneWaits, pairAtEnd, effect, Ground, ground, grounds, Result, refused, accepted, judged, step, kept, after}
+use Rattle.model.specs.Grounds.{Ground, ground, judged, first}
+use Rattle.model.specs.Step.{actor, reactionTo, remaining, noneWaits, pairAtEnd, effect, grounds, Result, refused, accepted, step, kept, after}
 use Rattle.model.specs.React.{react}
 use Rattle.model.specs.Answers.{answerNumber, resultNumber}
-use Rattle.model.proofs.Judged.{appliesOf}
+use Rattle.model.proofs.Grounds.{first-clear, first-met, judged-clear, judged-first}
 use Rattle.model.proofs.Local.{both-left, both-right}
 use Rattle.model.specs.declared.Input.the-variants.{Receive}
 use Rattle.model.specs.declared.Node.{Node}
@@ -27,7 +28,7 @@ use Rattle.model.specs.declared.Answer.the-variants.{Accepted, NotInRange, Wron
 use Rattle.model.specs.declared.Outcome.{Outcome}
 use Rattle.model.specs.declared.Event.{Event}
 use Rattle.model.specs.declared.Event.the-variants.{Crash, Recover, Check, Timeout, Tick, Expire, Finish, Deliver, Lose}
-use Rattle.machine.specs.Parts.{place, without, takes, sender, placeFor, first, numberGrounds, stateGrounds, endGrounds, lastGrounds, isAccepted, reactsTo}
+use Rattle.machine.specs.Parts.{place, without, takes, sender, placeFor, numberGrounds, stateGrounds, endGrounds, lastGrounds, isAccepted, reactsTo}
 use Rattle.machine.specs.Stepped.{Stepped}
 use Rattle.machine.proofs.Laws.{without-none}
 
@@ -121,72 +122,6 @@ reaction-place s (Finish i x) m h = refl
 reaction-place s (Deliver a b) m h = ap (λ (x : Message). react (s .n) b (nodeAt s b) (Receive x)) (oldest-place a b (s .queue) ∙ sym (h refl))
 reaction-place s (Lose a b) m h = refl
 
--- ── the first ground that applies ──
-
--- the grounds' numbers are not 0: of a list of grounds by `refl`
-abbrev numbered : List Ground → Bool
-numbered [] = true
-numbered (g ∷ gs) = ltb 0 (g .number) && numbered gs
-
-abbrev pub Numbered : List Ground → Type 0
-Numbered gs = numbered gs ≡ true
-
--- where none applies, the first does not, and none of the others
-not-first : (g : Ground) (gs : List Ground) → Numbered (g ∷ gs) → first (g ∷ gs) ≡ 0 → (g .applies ≡ false) × (first gs ≡ 0)
-unfolding first pick
-not-first g gs n = by (g .applies)
-  where
-    by : (t : Bool) → pick t (g .number) (first gs) ≡ 0 → (t ≡ false) × (first gs ≡ 0)
-    by true h = absurd (omega (arith, h, ltb-true 0 (g .number) (both-left (ltb 0 (g .number)) _ n)))
-    by false h = (refl, h)
-
-others-numbered : (g : Ground) (gs : List Ground) → Numbered (g ∷ gs) → Numbered gs
-others-numbered g gs n = both-right (ltb 0 (g .number)) _ n
-
--- so the one of number r does not
-pub not-met : (r : ℕ) (gs : List Ground) → Numbered gs → first gs ≡ 0 → appliesOf r gs ≡ false
-not-met r [] n h = refl
-not-met r (g ∷ gs) n h =
-    let x = not-first g gs n h in
-    by-test (λ (t : Bool). t ≡ false) (λ _. x .0) (λ _. not-met r gs (others-numbered g gs n) (x .1))
-
--- none applies in front
-pub first-clear : (xs ys : List Ground) → Numbered xs → first xs ≡ 0 → first (xs ++ ys) ≡ first ys
-unfolding first
-first-clear [] ys n h = refl
-first-clear (g ∷ gs) ys n h = let x = not-first g gs n h in rw (x .0, pick-false) (first-clear gs ys (others-numbered g gs n) (x .1))
-
--- one applies in front
-pub first-met : (xs ys : List Ground) → 1 ≤ first xs → first (xs ++ ys) ≡ first xs
-unfolding first
-first-met [] ys h = absurd (none h)
-  where
-    none : 1 ≤ 0 → ⊥
-    none q = omega arith
-first-met (g ∷ gs) ys h = by-applies (g .applies) refl (first-met gs ys)
-  where
-    by-applies : (t : Bool) → g .applies ≡ t → (1 ≤ first gs → first (gs ++ ys) ≡ first gs) → pick (g .applies) (g .number) (first (gs ++ ys)) ≡ pick (g .applies) (g .number) (first gs)
-    by-applies true a r = rw (a, pick-true, pick-true)
-    by-applies false a r = rw (a, pick-false, pick-false) (r (rw (a, pick-false) at h))
-
--- the step by the first ground's number
-judged-clear : (r : Result) (gs : List Ground) → Numbered gs → first gs ≡ 0 → judged r gs ≡ r
-unfolding judged
-judged-clear r [] n h = refl
-judged-clear r (g ∷ gs) n h = let x = not-first g gs n h in rw (x .0, pick-false) (judged-clear r gs (others-numbered g gs n) (x .1))
-
-judged-met : (r : Result) (gs : List Ground) → 1 ≤ first gs → judged r gs ≡ refused (first gs)
-unfolding judged first
-judged-met r [] h = absurd (none h)
-  where
-    none : 1 ≤ 0 → ⊥
-    none q = omega arith
-judged-met r (g ∷ gs) h = by-applies (g .applies) refl (judged-met r gs)
-  where
-    by-applies : (t : Bool) → g .applies ≡ t → (1 ≤ first gs → judged r gs ≡ refused (first gs)) → pick (g .applies) (refused (g .number)) (judged r gs) ≡ refused (pick (g .applies) (g .number) (first gs))
-    by-applies true a k = rw (a, pick-true, pick-true)
-    by-applies false a k = rw (a, pick-false, pick-false) (k (rw (a, pick-false) at h))
-
 -- ── answers ──
 pub accepted-zero : (a : Answer) → isAccepted a ≡ true → answerNumber a ≡ 0
 accepted-zero Accepted q = refl
@@ -238,7 +173,7 @@ refused-stepped : (t : Table) (e : Event) (a : Answer) → isAccepted a ≡ fals
 unfolding step
 refused-stepped t e a q h =
     let n : 1 ≤ first (grounds (view t) e) = omega (arith, refused-some a q, h) in
-    let r = judged-met (accepted (effect (view t) e) (reactionTo (view t) e .mark)) (grounds (view t) e) n in
+    let r = judged-first refused (accepted (effect (view t) e) (reactionTo (view t) e .mark)) (grounds (view t) e) n in
     record { answer = h ∙ sym (ap resultNumber r); table = sym (ap (kept (view t)) r); same = λ _. refl }
 
 -- the grounds in three groups, of a table in range
@@ -292,7 +227,7 @@ module _ (t : Table) (e : Event) (ok : inRange (view t) ≡ true) (c : Node) (hc
         pub step-accepts : pairAtEnd (t .sent) (r .outgoing) ≡ false → step (view t) e ≡ accepted (effect (view t) e) (reactionTo (view t) e .mark)
         unfolding step grounds first
         step-accepts p =
-            judged-clear (accepted (effect (view t) e) (reactionTo (view t) e .mark)) (grounds (view t) e) refl
+            judged-clear refused (accepted (effect (view t) e) (reactionTo (view t) e .mark)) (grounds (view t) e) refl
             (past-ends ∙ rw (p, pick-false))
 
         pub all-clear : pairAtEnd (t .sent) (r .outgoing) ≡ false → (u : Table) → view u ≡ effect (view t) e → Stepped t e (record { answer = Accepted; table = u })

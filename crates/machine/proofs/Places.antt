@@ -15,7 +15,8 @@ use Rattle.model.specs.Limits.{trafficEnd}
 use Rattle.model.specs.Counts.{pairPlace, oneMore}
 use Rattle.model.specs.Range.{isPair, messageInRange, countInRange}
 use Rattle.model.specs.State.{State, startingNode, nodeAt, noMessage, waits, oldest, every, inRange, firstOf, view}
-use Rattle.model.specs.Step.{actor, reactionTo, remaining, sent, withSent, withDelivered, withLost, effect, wrongNumber, isSending, pairAtEnd, Ground}
+use Rattle.model.specs.Grounds.{Ground, first}
+use Rattle.model.specs.Step.{actor, reactionTo, remaining, sent, withSent, withDelivered, withLost, effect, wrongNumber, isSending, pairAtEnd}
 use Rattle.model.proofs.Judged.{Clear}
 use Rattle.model.proofs.Local.{both-left, both-right}
 use Rattle.model.proofs.Fields.{count-facts, in-range-size, in-range-each, in-range-node, in-range-oldest}
@@ -33,9 +34,11 @@ use Rattle.model.specs.declared.Reaction.{Reaction}
 use Rattle.model.specs.declared.Table.{Table}
 use Rattle.model.specs.declared.Event.{Event}
 use Rattle.model.specs.declared.Event.the-variants.{Crash, Recover, Check, Timeout, Tick, Expire, Finish, Deliver, Lose}
-use Rattle.machine.specs.Parts.{place, without, takes, placeFor, placeOf, sentPlace, sentBy, movedPlace, deliveredBy, lostBy, raised, Small, stored, Left, Room, first, numberGrounds, stateGrounds, endGrounds, FitsMessage, reactsTo}
-use Rattle.machine.proofs.Laws.{Sized, first-take, first-length, without-none, left-few}
-use Rattle.machine.proofs.Parts.{not-met, waits-place, oldest-place, remaining-place, none-place, reaction-place}
+use Rattle.machine.specs.Parts.{place, without, takes, placeFor, placeOf, sentPlace, sentBy, movedPlace, deliveredBy, lostBy, raised, Small, stored, Left, Room, numberGrounds, stateGrounds, endGrounds, FitsMessage, reactsTo}
+use Rattle.model.proofs.Lists.{first-take, first-length}
+use Rattle.machine.proofs.Laws.{Sized, without-none, left-few}
+use Rattle.model.proofs.Grounds.{not-met}
+use Rattle.machine.proofs.Parts.{waits-place, oldest-place, remaining-place, none-place, reaction-place}
 
 -- ── lists ──
 

@@ -23,7 +23,8 @@ use Rattle.model.specs.declared.Mark.{Mark}
 use Rattle.model.specs.declared.Outcome.{Outcome}
 use Rattle.model.specs.declared.Answer.the-variants.{Accepted}
 use Rattle.machine.specs.declared.RecoveryAnswer.{RecoveryAnswer}
-use Rattle.machine.specs.Parts.{first, numberGrounds, isAccepted}
+use Rattle.model.specs.Grounds.{first}
+use Rattle.machine.specs.Parts.{numberGrounds, isAccepted}
 use Rattle.machine.specs.Stepped.{Stepped, recordsBeside, RecoveryAnswered}
 use Rattle.machine.specs.Claims.{RecoveryAlike}
 use Rattle.machine.proofs.Laws.{Sized}

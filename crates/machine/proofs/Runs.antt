@@ -13,7 +13,8 @@ use Rattle.model.specs.State.{State, startingNode, start, nodeAt, inRange, view
 use Rattle.model.specs.Step.{actor, reactionTo, effect, Result, refused, accepted, step, kept, after, runFrom, run}
 use Rattle.model.specs.Answers.{answerNumber, resultNumber}
 use Rattle.model.specs.History.{Task, coming, history}
-use Rattle.model.specs.Claims.{isActive, Lacks, Fixes, EachGroup}
+use Rattle.model.specs.Node.{isActive}
+use Rattle.model.specs.Claims.{Lacks, Fixes, EachGroup}
 use Rattle.model.proofs.Judged.{accepted-is}
 use Rattle.model.proofs.Traffic.{run-n, traffic-agrees}
 use Rattle.model.proofs.Refusals.{refuses-by-ground}

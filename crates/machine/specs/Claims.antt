@@ -12,7 +12,8 @@ use Rattle.model.specs.State.{State, startingNode, start, nodeAt, waiting, inRa
 use Rattle.model.specs.Step.{actor, reactionTo, forms, accepted, step, runFrom, run}
 use Rattle.model.specs.History.{NotFormed, NoTask, Task, newest, coming, history}
 use Rattle.model.specs.Traffic.{tally, sentIn, deliveredIn, lostIn, sendsAny, deliversAny, losesAny}
-use Rattle.model.specs.Claims.{isActive, Lacks, Fixes, EachGroup, recordAfter}
+use Rattle.model.specs.Node.{isActive}
+use Rattle.model.specs.Claims.{Lacks, Fixes, EachGroup, recordAfter}
 use Rattle.model.specs.declared.Status.the-variants.{Normal}
 use Rattle.model.specs.declared.TaskNo.{TaskNo}
 use Rattle.model.specs.declared.Mark.{Mark}

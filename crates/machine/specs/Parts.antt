@@ -12,7 +12,8 @@ use Rattle.model.specs.Procedures.{stays}
 use Rattle.model.specs.React.{react}
 use Rattle.model.specs.State.{State, goes}
 use Rattle.model.specs.Answers.{answerNumber}
-use Rattle.model.specs.Step.{actor, wrongNumber, wrongTask, wrongStatus, wrongActivity, notCoordinator, forms, isCalling, isSending, pairAtEnd, sent, Ground, ground}
+use Rattle.model.specs.Grounds.{Ground, ground, first}
+use Rattle.model.specs.Step.{actor, wrongNumber, wrongTask, wrongStatus, wrongActivity, notCoordinator, forms, isCalling, isSending, pairAtEnd, sent}
 use Rattle.model.specs.declared.Node.{Node}
 use Rattle.model.specs.declared.Message.{Message}
 use Rattle.model.specs.declared.Outgoing.{Outgoing}
@@ -143,11 +144,6 @@ Room Nothing left = Unit {0}
 Room (Send m) left = left < 64
 
 -- ── the grounds but 1, in four groups ──
-
--- the number of the first ground that applies, or 0
-unfoldable pub first : List Ground → ℕ
-first [] = 0
-first (g ∷ gs) = pick (g .applies) (g .number) (first gs)
 
 -- by the event's numbers
 abbrev pub numberGrounds : ℕ → Event → List Ground

@@ -5,6 +5,7 @@ ghost use Prim.Native.Nat.{ℕ, _-_, _≤_, _<_};
 ghost use Rattle.model.specs.Pick.{pick};
 ghost use Rattle.model.specs.Range.{isNode, isOther};
 ghost use Rattle.model.specs.Answers.{answerNumber};
+ghost use Rattle.model.specs.Grounds.{first};
 ghost use Rattle.model.specs.Step as spec;
 ghost use Rattle.machine.specs.Parts as parts;
 ghost use Rattle.node_step.specs.Fits.{Fits};
@@ -70,20 +71,20 @@ pub fn sender(e: Event) -> u8
 pub fn is_pair(n: u8, a: u8, b: u8) -> bool
     ensures { λ r. ⌜ r ≡ isNode n a && isOther n a b ⌝ }
 {
-    node_step::is_node(n, a) & node_step::is_other(n, a, b)
+    predicates::is_node(n, a) & predicates::is_other(n, a, b)
 }
 
 pub fn wrong_number(n: u8, e: Event) -> bool
     ensures { λ r. ⌜ r ≡ spec.wrongNumber n e ⌝ }
 {
     match e {
-        Event::Crash(i) => !node_step::is_node(n, i),
-        Event::Recover(i) => !node_step::is_node(n, i),
-        Event::Check(i) => !node_step::is_node(n, i),
-        Event::Timeout(i) => !node_step::is_node(n, i),
-        Event::Tick(i) => !node_step::is_node(n, i),
-        Event::Expire(i) => !node_step::is_node(n, i),
-        Event::Finish(i, _) => !node_step::is_node(n, i),
+        Event::Crash(i) => !predicates::is_node(n, i),
+        Event::Recover(i) => !predicates::is_node(n, i),
+        Event::Check(i) => !predicates::is_node(n, i),
+        Event::Timeout(i) => !predicates::is_node(n, i),
+        Event::Tick(i) => !predicates::is_node(n, i),
+        Event::Expire(i) => !predicates::is_node(n, i),
+        Event::Finish(i, _) => !predicates::is_node(n, i),
         Event::Deliver(a, b) => !is_pair(n, a, b),
         Event::Lose(a, b) => !is_pair(n, a, b),
     }
@@ -99,7 +100,7 @@ pub fn wrong_task(e: Event) -> bool
         Event::Timeout(_) => false,
         Event::Tick(_) => false,
         Event::Expire(_) => false,
-        Event::Finish(_, t) => !node_step::is_given_task(t),
+        Event::Finish(_, t) => !predicates::is_given_task(t),
         Event::Deliver(_, _) => false,
         Event::Lose(_, _) => false,
     }
@@ -108,7 +109,7 @@ pub fn wrong_task(e: Event) -> bool
 pub fn wrong_status(s: Status, e: Event) -> bool
     ensures { λ r. ⌜ r ≡ spec.wrongStatus s e ⌝ }
 {
-    let down = node_step::is_down(s);
+    let down = predicates::is_down(s);
     match e {
         Event::Crash(_) => down,
         Event::Recover(_) => !down,
@@ -156,7 +157,7 @@ pub fn not_coordinator(c: Node, e: Event) -> bool
 
 // Grounds 7 and 8.
 pub fn number_answer(n: u8, e: Event) -> Answer
-    ensures { λ r. ⌜ answerNumber r ≡ parts.first (parts.numberGrounds n e) ⌝ }
+    ensures { λ r. ⌜ answerNumber r ≡ first (parts.numberGrounds n e) ⌝ }
 {
     if wrong_number(n, e) {
         return Answer::WrongNumber;
@@ -169,7 +170,7 @@ pub fn number_answer(n: u8, e: Event) -> Answer
 
 // Grounds 9, 10, 18 and 11; found: a message for the event waits.
 pub fn state_answer(c: Node, e: Event, found: bool) -> Answer
-    ensures { λ r. ⌜ answerNumber r ≡ parts.first (parts.stateGrounds c e found) ⌝ }
+    ensures { λ r. ⌜ answerNumber r ≡ first (parts.stateGrounds c e found) ⌝ }
 {
     let status = c.status;
     let activity = c.activity;
@@ -190,7 +191,7 @@ pub fn state_answer(c: Node, e: Event, found: bool) -> Answer
 
 // Grounds 12 to 14; left: how many messages wait once the event's own is out.
 pub fn end_answer(c: Node, r: Reaction, left: u8) -> Answer
-    ensures { λ a. ⌜ answerNumber a ≡ parts.first (parts.endGrounds c r left) ⌝ }
+    ensures { λ a. ⌜ answerNumber a ≡ first (parts.endGrounds c r left) ⌝ }
 {
     let mark = r.mark;
     let outgoing = r.outgoing;

@@ -10,7 +10,8 @@ use Rattle.model.specs.Pick.{pick, pick-false, by-test}
 use Rattle.model.specs.Limits.{trafficEnd}
 use Rattle.model.specs.Counts.{pairPlace, noCounts}
 use Rattle.model.specs.State.{State, start, countsOf, allWaiting, countsAside, baseInRange, trafficInRange, inRange}
-use Rattle.model.specs.Step.{actor, reactionTo, remaining, sent, withSent, effect, pairAtEnd, Ground, ground, grounds, Result, refused, accepted, judged, step, kept, aside, after, runFrom, run}
+use Rattle.model.specs.Grounds.{Ground, ground, judged}
+use Rattle.model.specs.Step.{actor, reactionTo, remaining, sent, withSent, effect, pairAtEnd, grounds, Result, refused, accepted, step, kept, aside, after, runFrom, run}
 use Rattle.model.specs.History.{History, noted, historyFrom}
 use Rattle.model.specs.Claims.{BelowEnd, CountsDecideNothing}
 use Rattle.model.proofs.Judged.{by-step}
@@ -77,7 +78,7 @@ between s e = sooner (later (grounds s e))
 -- the result with the counts aside
 abbrev pub resultAside : State → Event → Result
 resultAside s e =
-    judged
+    judged refused
     (accepted (allWaiting (s .n) (set (s .nodes) (actor e - 1) (reactionTo s e .node)) (remaining s e ++ sent (reactionTo s e .outgoing))) (reactionTo s e .mark))
     (between s e)
 
@@ -86,23 +87,23 @@ unfolding pick
 aside-pick true r x = refl
 aside-pick false r x = refl
 
-aside-judged : (u : State) (k : Mark) (gs : List Ground) → aside (judged (accepted u k) gs) ≡ judged (accepted (countsAside u) k) gs
+aside-judged : (u : State) (k : Mark) (gs : List Ground) → aside (judged refused (accepted u k) gs) ≡ judged refused (accepted (countsAside u) k) gs
 unfolding judged
 aside-judged u k [] = refl
-aside-judged u k (g ∷ gs) = aside-pick (g .applies) (g .number) (judged (accepted u k) gs) ∙ ap (pick (g .applies) (refused (g .number))) (aside-judged u k gs)
+aside-judged u k (g ∷ gs) = aside-pick (g .applies) (g .number) (judged refused (accepted u k) gs) ∙ ap (pick (g .applies) (refused (g .number))) (aside-judged u k gs)
 
-judged-last : (x : Result) (r : ℕ) (gs : List Ground) → judged x (gs ++ (ground r false ∷ [])) ≡ judged x gs
+judged-last : (x : Result) (r : ℕ) (gs : List Ground) → judged refused x (gs ++ (ground r false ∷ [])) ≡ judged refused x gs
 unfolding judged
 judged-last x r [] = pick-false _ _
 judged-last x r (g ∷ gs) = ap (pick (g .applies) (refused (g .number))) (judged-last x r gs)
 
-pub by-between : (s : State) (e : Event) → inRange s ≡ true → BelowEnd (s .sent) → step s e ≡ judged (accepted (effect s e) (reactionTo s e .mark)) (between s e)
+pub by-between : (s : State) (e : Event) → inRange s ≡ true → BelowEnd (s .sent) → step s e ≡ judged refused (accepted (effect s e) (reactionTo s e .mark)) (between s e)
 unfolding step grounds judged
 by-between s e r b =
     let x = accepted (effect s e) (reactionTo s e .mark) in
-    ap (λ (t : Bool). judged x (ground 1 (not t) ∷ (between s e ++ (ground 17 (pairAtEnd (s .sent) (reactionTo s e .outgoing)) ∷ [])))) r
+    ap (λ (t : Bool). judged refused x (ground 1 (not t) ∷ (between s e ++ (ground 17 (pairAtEnd (s .sent) (reactionTo s e .outgoing)) ∷ [])))) r
     ∙ pick-false _ _
-    ∙ ap (λ (t : Bool). judged x (between s e ++ (ground 17 t ∷ []))) (below (s .sent) (reactionTo s e .outgoing) b)
+    ∙ ap (λ (t : Bool). judged refused x (between s e ++ (ground 17 t ∷ []))) (below (s .sent) (reactionTo s e .outgoing) b)
     ∙ judged-last x 17 (between s e)
 
 pub result-aside : (s : State) (e : Event) → inRange s ≡ true → BelowEnd (s .sent) → aside (step s e) ≡ resultAside s e
@@ -176,7 +177,7 @@ quick-append s (e ∷ es) fs = quick-append (kept s (resultAside s e)) es fs
 -- the same with the counts
 abbrev pub counting : State → List Event → State
 counting s [] = s
-counting s (e ∷ es) = counting (kept s (judged (accepted (effect s e) (reactionTo s e .mark)) (between s e))) es
+counting s (e ∷ es) = counting (kept s (judged refused (accepted (effect s e) (reactionTo s e .mark)) (between s e))) es
 
 pub run-counting : (s : State) (es : List Event) → inRange s ≡ true → Room (length es) (s .sent) → runFrom s es ≡ counting s es
 unfolding runFrom

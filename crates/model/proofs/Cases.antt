@@ -15,7 +15,8 @@ use Rattle.model.specs.Procedures.{inviteNext, merges, handNext, finishe
 use Rattle.model.specs.React.{checked, timedOut, ticked, expired, resumed, onAreYouCoordinator, onAreYouThere, onInvitation, onAccept, onReady, onReply, received, react}
 use Rattle.model.specs.Range.{activityInRange, nodeInRange, messageInRange, isNode, countInRange}
 use Rattle.model.specs.State.{State, startingNode, start, nodeAt, allWaiting, countsAside, baseInRange, waits, oldest, withoutOldest, howMany, countsOf, every, upTo, countsInRange, trafficInRange, inRange}
-use Rattle.model.specs.Step.{reactionTo, remaining, effect, wrongNumber, wrongTask, wrongStatus, wrongActivity, notCoordinator, noneWaits, Ground, grounds, Result, refused, accepted, judged, step, kept, aside, after, runFrom, run}
+use Rattle.model.specs.Grounds.{Ground, judged}
+use Rattle.model.specs.Step.{reactionTo, remaining, effect, wrongNumber, wrongTask, wrongStatus, wrongActivity, notCoordinator, noneWaits, grounds, Result, refused, accepted, step, kept, aside, after, runFrom, run}
 use Rattle.model.specs.History.{History, blank, updated, noted, historyFrom, history}
 use Rattle.model.specs.Cases.{NamedCases, WrongTurnings, FurtherCases, printedFields, among, queued, pair, filled, anyCall, collecting, k10, foundThree, setOf, none, node, three, joinsFormer, inFormerGroup, newMerges, afterMerge, bothInvite, invitedByBoth, joinsNew, inNewGroup, invitedOnce, InvitedTwice, HeldGroupCases, RecoveryCases, acceptedInvitation, onlyOne, CheckCases, RangeCases}
 use Rattle.model.proofs.Locality.{step-is-local}

@@ -16,9 +16,11 @@ use Rattle.model.specs.Node.{isNormal, nextCall, calling, asks}
 use Rattle.model.specs.Procedures.{reaction, stays, askAt, askAfter}
 use Rattle.model.specs.React.{leads, checked, react}
 use Rattle.model.specs.State.{State, startingNode, nodeAt}
-use Rattle.model.specs.Step.{actor, reactionTo, remaining, sent, withSent, effect, notCoordinator, forms, isCalling, isSending, pairAtEnd, ground, grounds, Result, refused, accepted, judged, step, run}
+use Rattle.model.specs.Grounds.{ground, judged}
+use Rattle.model.specs.Step.{actor, reactionTo, remaining, sent, withSent, effect, notCoordinator, forms, isCalling, isSending, pairAtEnd, grounds, Result, refused, accepted, step, run}
 use Rattle.model.specs.Claims.{MaySend, firstOther, checkGrounds, withQuestion, withCheck, CheckReaches, DoesNotLead, CheckRules}
-use Rattle.model.proofs.Judged.{judged-by, accepted-apart, accepted-is, met, passed}
+use Rattle.model.proofs.Grounds.{judged-by}
+use Rattle.model.proofs.Judged.{accepted-apart, accepted-is, met, passed}
 use Rattle.model.proofs.Local.{both-left, both-right}
 use Rattle.model.proofs.Fields.{IsNode, node-is}
 use Rattle.model.proofs.CallOrder.{or-right}
@@ -80,7 +82,7 @@ module _ (s : State) (i : ℕ) where
   -- the ends of the ranges, by what the node does
   abbrev ends : Reaction → Result
   ends r =
-      judged (accepted (left r) (r .mark))
+      judged refused (accepted (left r) (r .mark))
       (ground 12 (forms (r .mark) && eqb (nodeAt s i .counter) counterEnd)
       ∷ ground 13 (isCalling (r .outgoing) && eqb (nodeAt s i .last .number) callEnd)
       ∷ ground 14 (isSending (r .outgoing) && eqb (length (s .queue)) queueLimit)
@@ -90,7 +92,7 @@ module _ (s : State) (i : ℕ) where
   -- the same as the claim has it
   abbrev claimed : Result
   claimed =
-      judged (accepted (withCheck s i) Plain)
+      judged refused (accepted (withCheck s i) Plain)
       (ground 13 (ltb 1 (s .n) && eqb (nodeAt s i .last .number) callEnd)
       ∷ ground 14 (ltb 1 (s .n) && eqb (length (s .queue)) queueLimit)
       ∷ ground 17 (ltb 1 (s .n) && eqb (countAt (s .sent) i (firstOther i)) trafficEnd)
@@ -110,7 +112,7 @@ module _ (s : State) (i : ℕ) where
       by true e = rw (e, first-asked (s .n) i (nodeAt s i) (ltb-true 1 (s .n) e), pick-true, pick-true, pick-false)
       by false e = rw (e, pick-false, same, pick-false, pick-false, pick-false, pick-false, pick-false, pick-false, pick-false, pick-false)
 
-  checks : step s (Check i) ≡ judged (accepted (withCheck s i) Plain) (checkGrounds s i)
+  checks : step s (Check i) ≡ judged refused (accepted (withCheck s i) Plain) (checkGrounds s i)
   unfolding step grounds judged reactionTo react remaining effect
   checks =
       one-ground 1 _ _ _ _ refl
@@ -121,7 +123,7 @@ module _ (s : State) (i : ℕ) where
 
 leaves : (s : State) (i : ℕ) (u : State) (k : Mark) → step s (Check i) ≡ accepted u k → u ≡ withCheck s i
 leaves s i u k q =
-    judged-by (λ (r : Result). r ≡ accepted u k → u ≡ withCheck s i) (accepted (withCheck s i) Plain) (checkGrounds s i)
+    judged-by refused (λ (r : Result). r ≡ accepted u k → u ≡ withCheck s i) (accepted (withCheck s i) Plain) (checkGrounds s i)
     (λ r e. absurd (accepted-apart (sym e))) (λ _ e. cc) (sym (checks s i) ∙ q)
 
 -- ── statuses ──

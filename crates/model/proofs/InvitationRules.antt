@@ -16,7 +16,8 @@ use Rattle.model.specs.Node.{isNormal, ownerOf, nextCall, calling, invit
 use Rattle.model.specs.Procedures.{next, reaction, forwardNext}
 use Rattle.model.specs.React.{onlyReplies, onInvitation, react}
 use Rattle.model.specs.State.{State, start, startingNode, nodeAt, goes, waits, oldest, withoutOldest, inRange}
-use Rattle.model.specs.Step.{reactionTo, remaining, sent, withSent, effect, wrongNumber, forms, isCalling, isSending, pairAtEnd, grounds, Result, refused, accepted, judged, step, kept, runFrom, run}
+use Rattle.model.specs.Grounds.{judged}
+use Rattle.model.specs.Step.{reactionTo, remaining, sent, withSent, effect, wrongNumber, forms, isCalling, isSending, pairAtEnd, grounds, Result, refused, accepted, step, kept, runFrom, run}
 use Rattle.model.specs.Claims.{InvitationReaches, Owns, Holds, NoPlainReply, withPlainReply, withCall, MaySend, InvitationRules}
 use Rattle.model.proofs.Judged.{Clear, by-step, clear-accepts}
 use Rattle.model.proofs.Refusals.{clear-ends}

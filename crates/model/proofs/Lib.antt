@@ -1,3 +1,5 @@
+pub mod Lists
+pub mod Grounds
 pub mod Judged
 pub mod Invariant
 pub mod Local

@@ -42,7 +42,7 @@ both true y p q = q
 both false y p q = p
 
 -- one of two holds, where the second does unless the first does
-unless : (x y : Bool) → (x ≡ false → y ≡ true) → (x || y) ≡ true
+pub unless : (x y : Bool) → (x ≡ false → y ≡ true) → (x || y) ≡ true
 unless true y f = refl
 unless false y f = f refl
 
@@ -51,10 +51,10 @@ implied : (x y : Bool) → (x ≡ true → y ≡ true) → (not x || y) ≡ true
 implied true y f = f refl
 implied false y f = refl
 
-is-other : (n i j : ℕ) → IsOther n i j → isOther n i j ≡ true
+pub is-other : (n i j : ℕ) → IsOther n i j → isOther n i j ≡ true
 is-other n i j x = simp (le-leb 1 j (x .low), le-leb j n (x .high), ne-eqb j i (x .other))
 
-is-set : (n i s : ℕ) → IsSetOfOthers n i s → isSetOfOthers n i s ≡ true
+pub is-set : (n i s : ℕ) → IsSetOfOthers n i s → isSetOfOthers n i s ≡ true
 is-set n i s x = simp (x .inside, x .lacks)
 
 is-group : (n g : ℕ) → IsGroup n g → isGroup n g ≡ true

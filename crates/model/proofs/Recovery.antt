@@ -13,7 +13,8 @@ use Rattle.model.specs.Recovery.{recoveryRecords, stopped, recovered}
 use Rattle.model.specs.Procedures.{recovers, handNext, forwardNext, askedAll, askAt, askAfter}
 use Rattle.model.specs.React.{checked, timedOut, ticked, expired, resumed, onAreYouCoordinator, onAreYouThere, onInvitation, onAccept, onReady, onReply, received, react}
 use Rattle.model.specs.State.{State, nodeAt, oldest}
-use Rattle.model.specs.Step.{actor, reactionTo, remaining, sent, withSent, withDelivered, withLost, effect, grounds, accepted, judged, step}
+use Rattle.model.specs.Grounds.{judged}
+use Rattle.model.specs.Step.{actor, reactionTo, remaining, sent, withSent, withDelivered, withLost, effect, grounds, refused, accepted, step}
 use Rattle.model.specs.Claims.{recoveryGrounds, recoversAtExpire, recordAfter, RecoveryRules}
 use Rattle.model.proofs.Judged.{Clear, accepted-is, by-reaction}
 use Rattle.model.proofs.Fields.{node-is, node-facts, in-range-node, own-record}
@@ -51,7 +52,7 @@ down-stopped s i c =
     idle-stopped (nodeAt s i) (nodeAt s i .activity) refl (f .idle (not-false _ (c .status)))
 
 -- ── what recover i is refused by ──
-refused-by : (s : State) (i : ℕ) → step s (Recover i) ≡ judged (accepted (effect s (Recover i)) Recovers) (recoveryGrounds s i)
+refused-by : (s : State) (i : ℕ) → step s (Recover i) ≡ judged refused (accepted (effect s (Recover i)) Recovers) (recoveryGrounds s i)
 unfolding step grounds judged pick reactionTo react
 refused-by s i = refl
 

@@ -9,9 +9,10 @@ use lib.Dec.{eqb, leb}
 use borrow.Author.Tests.{eqb-true, leb-true}
 use Rattle.model.specs.Pick.{pick, pick-true, pick-false, by-test}
 use Rattle.model.specs.State.{State}
-use Rattle.model.specs.Step.{reactionTo, pairAtEnd, Ground, ground, grounds, Result, refused, accepted, judged, step}
+use Rattle.model.specs.Grounds.{Ground, ground, judged, NoneApplies}
+use Rattle.model.specs.Step.{reactionTo, pairAtEnd, grounds, Result, refused, accepted, step}
 use Rattle.model.specs.Answers.{resultNumber}
-use Rattle.model.specs.Claims.{Accepts, NoneApplies, FirstApplies, RefusesByGround}
+use Rattle.model.specs.Claims.{Accepts, FirstApplies, RefusesByGround}
 use Rattle.model.proofs.Judged.{Clear, none-applies}
 use Rattle.model.proofs.Local.{both-left, both-right}
 use Rattle.model.proofs.Fields.{either}
@@ -29,7 +30,7 @@ abbrev Passes : (ℕ → Bool) → Result → Type 0
 Passes f (refused r) = f r ≡ true
 Passes f (accepted u k) = Unit {0}
 
-judged-number : (f : ℕ → Bool) (u : State) (k : Mark) (gs : List Ground) → numbered f gs ≡ true → Passes f (judged (accepted u k) gs)
+judged-number : (f : ℕ → Bool) (u : State) (k : Mark) (gs : List Ground) → numbered f gs ≡ true → Passes f (judged refused (accepted u k) gs)
 unfolding judged
 judged-number f u k [] h = tt
 judged-number f u k (g ∷ gs) h =
@@ -80,13 +81,13 @@ says-on g gs q (refused r) f =
     record { before = g ∷ f .before; behind = f .behind; whole = ap (λ (l : List Ground). g ∷ l) (f .whole); none-before = (q, f .none-before) }
 says-on g gs q (accepted u k) c = (q, c)
 
-judged-says : (u : State) (k : Mark) (gs : List Ground) → Says gs (judged (accepted u k) gs)
+judged-says : (u : State) (k : Mark) (gs : List Ground) → Says gs (judged refused (accepted u k) gs)
 unfolding judged
 judged-says u k [] = tt
 judged-says u k (g ∷ gs) =
     by-test (Says (g ∷ gs))
     (λ q. record { before = []; behind = gs; whole = ap (λ (b : Bool). ground (g .number) b ∷ gs) q; none-before = tt })
-    (λ q. says-on g gs q (judged (accepted u k) gs) (judged-says u k gs))
+    (λ q. says-on g gs q (judged refused (accepted u k) gs) (judged-says u k gs))
 
 step-says : (s : State) (e : Event) → Says (grounds s e) (step s e)
 unfolding step
@@ -98,15 +99,15 @@ first s e r q = subst (Says (grounds s e)) q (step-says s e)
 none : (s : State) (e : Event) (u : State) (k : Mark) → step s e ≡ accepted u k → NoneApplies (grounds s e)
 none s e u k q = subst (Says (grounds s e)) q (step-says s e)
 
-judged-first : (x : Result) (before behind : List Ground) (r : ℕ) → NoneApplies before → judged x (before ++ (ground r true ∷ behind)) ≡ refused r
+judged-first : (x : Result) (before behind : List Ground) (r : ℕ) → NoneApplies before → judged refused x (before ++ (ground r true ∷ behind)) ≡ refused r
 unfolding judged
 judged-first x [] behind r c = pick-true _ _
 judged-first x (g ∷ before) behind r c =
-    ap (λ (b : Bool). pick b (refused (g .number)) (judged x (before ++ (ground r true ∷ behind)))) (c .0) ∙ pick-false _ _ ∙ judged-first x before behind r (c .1)
+    ap (λ (b : Bool). pick b (refused (g .number)) (judged refused x (before ++ (ground r true ∷ behind)))) (c .0) ∙ pick-false _ _ ∙ judged-first x before behind r (c .1)
 
 first-given : (s : State) (e : Event) (r : ℕ) → FirstApplies (grounds s e) r → step s e ≡ refused r
 unfolding step
-first-given s e r f = ap (judged _) (f .whole) ∙ judged-first _ (f .before) (f .behind) r (f .none-before)
+first-given s e r f = ap (judged refused _) (f .whole) ∙ judged-first _ (f .before) (f .behind) r (f .none-before)
 
 none-accepts : (s : State) (e : Event) → NoneApplies (grounds s e) → Accepts s e
 none-accepts s e c = record { state = _; mark = _; is = none-applies s e c }

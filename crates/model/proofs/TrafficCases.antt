@@ -18,7 +18,8 @@ use Rattle.model.specs.Procedures.{inviteNext, merges, handNext, finishe
 use Rattle.model.specs.React.{checked, timedOut, ticked, expired, resumed, onAreYouCoordinator, onAreYouThere, onInvitation, onAccept, onReady, onReply, received, react}
 use Rattle.model.specs.Range.{activityInRange, nodeInRange, messageInRange, isNode, isPair, countInRange}
 use Rattle.model.specs.State.{State, startingNode, allWaiting, waits, oldest, withoutOldest, howMany, waiting, countsOf, every, upTo, addsUp, baseInRange, countsInRange, trafficInRange, inRange}
-use Rattle.model.specs.Step.{reactionTo, remaining, effect, wrongNumber, wrongTask, wrongStatus, wrongActivity, notCoordinator, noneWaits, Ground, ground, grounds, Result, refused, accepted, judged, step, kept, after}
+use Rattle.model.specs.Grounds.{Ground, ground, judged}
+use Rattle.model.specs.Step.{reactionTo, remaining, effect, wrongNumber, wrongTask, wrongStatus, wrongActivity, notCoordinator, noneWaits, grounds, Result, refused, accepted, step, kept, after}
 use Rattle.model.specs.Cases.{k10, past, only, withCounts, someWait, among, TrafficCases}
 use Rattle.model.proofs.Fields.{parts, Counting, node-is, other-is, in-range-size, in-range-places, in-range-each, in-range-sum}
 use Rattle.model.proofs.Counts.{same-pair, upTo-all, pair-counting, is-count}
@@ -99,7 +100,7 @@ module _ (s : State) (a b d l : ℕ) (r : inRange s ≡ true) (p : isPair (s .n)
 
 -- ── a step from a table in range: by the grounds after the first ──
 abbrev known : State → Event → Result
-known s e = judged (accepted (effect s e) (reactionTo s e .mark)) (later (grounds s e))
+known s e = judged refused (accepted (effect s e) (reactionTo s e .mark)) (later (grounds s e))
 
 known-is : (s : State) (e : Event) → inRange s ≡ true → step s e ≡ known s e
 unfolding step grounds judged

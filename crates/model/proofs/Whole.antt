@@ -11,13 +11,13 @@ use lib.ListN.{length, getD, set, replicate, length-set, length-replicate, getD-
 use lib.Seq.{getD-set-same, getD-set-other}
 use borrow.Author.Tests.{eqb-true, eqb-false, not-false}
 use Rattle.model.specs.Pick.{pick, by-test}
-use Rattle.model.specs.Node.{isDown, ownerOf, counterOf}
+use Rattle.model.specs.Node.{isDown, ownerOf, counterOf, isActive}
 use Rattle.model.specs.React.{react}
 use Rattle.model.specs.Range.{carriesGroup}
 use Rattle.model.specs.State.{State, startingNode, start, nodeAt, noMessage, goes, oldest, withoutOldest}
 use Rattle.model.specs.Step.{actor, reactionTo, remaining, sent, effect, wrongStatus, wrongActivity, noneWaits, forms, Result, refused, accepted, step, kept, after, runFrom, run}
 use Rattle.model.specs.History.{Entry, NotFormed, NoTask, Task, History, blank, newest, coming, marked, given, noted, historyFrom, history}
-use Rattle.model.specs.Claims.{isActive, Unsent, Lacks, EachGroup, RunFixes}
+use Rattle.model.specs.Claims.{Unsent, Lacks, EachGroup, RunFixes}
 use Rattle.model.proofs.Judged.{Clear, by-step, Accepted, accepted-is}
 use Rattle.model.proofs.Invariant.{NodeNumber, Led, Gathering, NodeOk, MessageOk, HistoryOk, OutgoingOk, MarkOk, ReactionOk, Extends, extends-refl, extends-trans, owner-of, counter-of, message-extends, node-extends, task-is, coming-not-formed, marked-extends, marked-ok, tasked-extends, tasked-ok}
 use Rattle.model.proofs.Local.{stays-ok, react-ok, collecting-gathers, finish-ok}

@@ -10,13 +10,14 @@ use Rattle.node_set.specs.NodeSet.{has, without}
 use Rattle.model.specs.Pick.{pick}
 use Rattle.model.specs.Limits.{nodeLimit, queueLimit, counterEnd, callEnd, trafficEnd}
 use Rattle.model.specs.Counts.{pairPlace, senderAt, receiverAt, countAt, oneMore, total}
-use Rattle.model.specs.Node.{isDown, isNormal, isIdle, groupOf, ownerOf, nextCall, asks, calls, replies}
+use Rattle.model.specs.Node.{isDown, isNormal, isActive, isIdle, groupOf, ownerOf, nextCall, asks, calls, replies}
 use Rattle.model.specs.Recovery.{withStatus, withCounter, withGroup, withCoordinator, withMembers, withTask, recoveryRecords, stopped, recovered}
 use Rattle.model.specs.Procedures.{next, inviteNext, handNext, forwardNext}
 use Rattle.model.specs.React.{checked, expired, resumed}
 use Rattle.model.specs.Range.{isNode, isPair, carriesGroup}
 use Rattle.model.specs.State.{State, startingNode, start, nodeAt, goes, waits, oldest, withoutOldest, waiting, countsAside, inRange}
-use Rattle.model.specs.Step.{actor, reactionTo, remaining, sent, withSent, withDelivered, withLost, effect, forms, Ground, ground, grounds, Result, refused, accepted, judged, step, aside, after, run}
+use Rattle.model.specs.Grounds.{Ground, ground, judged, NoneApplies}
+use Rattle.model.specs.Step.{actor, reactionTo, remaining, sent, withSent, withDelivered, withLost, effect, forms, grounds, Result, refused, accepted, step, aside, after, run}
 use Rattle.model.specs.Traffic.{sends, delivers, loses, tally, sentIn, deliveredIn, lostIn, sendsAny, deliversAny, losesAny}
 use Rattle.model.specs.History.{Entry, NotFormed, NoTask, Task, History, newest, coming, history}
 use Rattle.model.specs.Answers.{resultNumber}
@@ -37,13 +38,6 @@ use Rattle.model.specs.declared.Event.{Event}
 use Rattle.model.specs.declared.Event.the-variants.{Crash, Recover, Check, Timeout, Tick, Expire, Finish, Deliver, Lose}
 
 -- ── demand 3 ──
-
--- in Reorganization or Normal
-abbrev pub isActive : Status → Bool
-isActive Down = false
-isActive Election = false
-isActive Reorganization = true
-isActive Normal = true
 
 -- no message of the queue holds group g
 abbrev pub Unsent : ℕ → List Message → Type 0
@@ -204,11 +198,6 @@ pub record Accepts (s : State) (e : Event) : Type 0 where
   pub state : State
   pub mark : Mark
   pub is : step s e ≡ accepted state mark
-
--- no ground of the list applies
-abbrev pub NoneApplies : List Ground → Type 0
-NoneApplies [] = Unit {0}
-NoneApplies (g ∷ gs) = (g .applies ≡ false) × NoneApplies gs
 
 -- the ground of number r applies, and none before it in the list does
 pub record FirstApplies (gs : List Ground) (r : ℕ) : Type 0 where
@@ -567,7 +556,7 @@ pub record RecoveryRules : Type 0 where
   pub at-no : (s : State) (a b : ℕ) (u : State) (k : Mark) → nodeAt s b .activity ≡ Contacting → oldest a b (s .queue) .kind ≡ 6
       → oldest a b (s .queue) .call .number ≡ nodeAt s b .last .number → oldest a b (s .queue) .yes ≡ false → step s (Deliver a b) ≡ accepted u k → k ≡ Recovers
   -- "is refused as it is": recover i is refused by 1, 7, 9 and 12, in this order, and by nothing else
-  pub refused-by : (s : State) (i : ℕ) → step s (Recover i) ≡ judged (accepted (effect s (Recover i)) Recovers) (recoveryGrounds s i)
+  pub refused-by : (s : State) (i : ℕ) → step s (Recover i) ≡ judged refused (accepted (effect s (Recover i)) Recovers) (recoveryGrounds s i)
   -- "and the last is the one recover i leaves": of the record in the table, as it stands
   pub last-record : (s : State) (i : ℕ) (u : State) (k : Mark) → step s (Recover i) ≡ accepted u k → recordAfter 8 (recoveryRecords i (nodeAt s i)) ≡ nodeAt u i
   -- and the same of every recovery, of the stopped node
@@ -639,7 +628,7 @@ DoesNotLead s i = (nodeAt s i .status ≡ Normal → ⊥) ⊎ (nodeAt s i .coord
 
 pub record CheckRules : Type 0 where
   -- all of check i on any table, as one equation: it is refused by these grounds, in this order, and by nothing else; and what it leaves
-  pub checks : (s : State) (i : ℕ) → step s (Check i) ≡ judged (accepted (withCheck s i) Plain) (checkGrounds s i)
+  pub checks : (s : State) (i : ℕ) → step s (Check i) ≡ judged refused (accepted (withCheck s i) Plain) (checkGrounds s i)
   -- so an accepted one leaves this
   pub leaves : (s : State) (i : ℕ) (u : State) (k : Mark) → step s (Check i) ≡ accepted u k → u ≡ withCheck s i
   -- "A check shall be turned away unless the cabinet is Normal and its own coordinator."

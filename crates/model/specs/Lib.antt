@@ -8,6 +8,7 @@ pub mod Procedures
 pub mod React
 pub mod Range
 pub mod State
+pub mod Grounds
 pub mod Step
 pub mod Traffic
 pub mod History

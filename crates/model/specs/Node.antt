@@ -38,6 +38,13 @@ isNormal Election = false
 isNormal Reorganization = false
 isNormal Normal = true
 
+-- in Reorganization or Normal
+abbrev pub isActive : Status → Bool
+isActive Down = false
+isActive Election = false
+isActive Reorganization = true
+isActive Normal = true
+
 abbrev pub isIdle : Activity → Bool
 isIdle Idle = true
 isIdle (Asking asked found) = false

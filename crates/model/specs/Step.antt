@@ -4,7 +4,7 @@ use mathlib.Core.Bool.{Bool, true, false, not, _&&_}
 use mathlib.Core.List.{List, [], _∷_, _++_}
 use lib.Dec.{eqb, leb, ltb}
 use lib.ListN.{length, set}
-use Rattle.model.specs.Pick.{pick}
+use Rattle.model.specs.Grounds.{Ground, ground, judged}
 use Rattle.model.specs.Limits.{queueLimit, counterEnd, callEnd, trafficEnd}
 use Rattle.model.specs.Counts.{countAt, oneMore}
 use Rattle.model.specs.Node.{isDown, isIdle, isWaiting, isCollecting, hasOpenCall}
@@ -203,14 +203,6 @@ abbrev pub pairAtEnd : List ℕ → Outgoing → Bool
 pairAtEnd l Nothing = false
 pairAtEnd l (Send m) = eqb (countAt l (m .sender) (m .receiver)) trafficEnd
 
--- a line of the table of grounds: its number, and whether it applies
-pub record Ground : Type 0 where
-  pub number : ℕ
-  pub applies : Bool
-
-abbrev pub ground : ℕ → Bool → Ground
-ground r b = record { number = r; applies = b }
-
 -- the table of grounds of an event, in 01's order, with 02's 17 and 18 in their places; 2 to 6 are the list's, 15 is the listing's and 16 that of T-01's program
 unfoldable pub grounds : State → Event → List Ground
 grounds s e =
@@ -241,13 +233,9 @@ pub data Result : Type 0 where
   refused : ℕ → Result
   accepted : State → Mark → Result
 
--- "Checked from the top; the first that applies is given, and none without its ground."
-unfoldable pub judged : Result → List Ground → Result
-judged r [] = r
-judged r (g ∷ gs) = pick (g .applies) (refused (g .number)) (judged r gs)
-
+-- by the first ground that applies (`judged` of Grounds)
 unfoldable pub step : State → Event → Result
-step s e = judged (accepted (effect s e) (reactionTo s e .mark)) (grounds s e)
+step s e = judged refused (accepted (effect s e) (reactionTo s e .mark)) (grounds s e)
 
 -- "A refusal returns its number; table .. stay[s] as [it] stood when it was met."
 abbrev pub kept : State → Result → State

@@ -27,16 +27,9 @@ use model::Reaction;
 use model::Status;
 pub use node::has_open_call;
 pub use node::is_collecting;
-pub use node::is_down;
-pub use node::is_election;
 pub use node::is_idle;
-pub use node::is_normal;
-pub use node::is_reorganization;
 pub use node::is_waiting;
 pub use procedures::stays;
-pub use range::is_given_task;
-pub use range::is_node;
-pub use range::is_other;
 pub use range::message_in_range;
 pub use range::node_in_range;
 pub use recovery::recovery_records;
@@ -48,7 +41,7 @@ pub fn leads(i: u8, c: Node) -> bool
     ensures { λ r. ⌜ r ≡ spec.leads i c ⌝ }
 {
     let status = c.status;
-    node::is_normal(status) & (c.coordinator == i)
+    predicates::is_normal(status) & (c.coordinator == i)
 }
 
 fn checked(n: u8, i: u8, c: Node) -> Reaction
@@ -227,7 +220,7 @@ fn only_replies(i: u8, c: Node, g: GroupNo) -> bool
     ensures { λ r. ⌜ r ≡ spec.onlyReplies i c g ⌝ }
 {
     let status = c.status;
-    !node::is_normal(status) | (node::owner_of(g) == i) | (c.group.number == g.number)
+    !predicates::is_normal(status) | (node::owner_of(g) == i) | (c.group.number == g.number)
 }
 
 fn on_invitation(i: u8, c: Node, m: Message) -> Reaction
@@ -253,7 +246,7 @@ fn on_accept(i: u8, c: Node, m: Message) -> Reaction
     ensures { λ r. ⌜ r ≡ spec.onAccept i c m ⌝ }
 {
     let status = c.status;
-    if node::is_election(status) & (c.coordinator == i) & (c.group.number == m.group.number) {
+    if predicates::is_election(status) & (c.coordinator == i) & (c.group.number == m.group.number) {
         return procedures::answers(i, node::joined(c, m.sender), m, true);
     }
     procedures::answers(i, c, m, true)
@@ -264,7 +257,7 @@ fn on_ready(i: u8, c: Node, m: Message) -> Reaction
 {
     let status = c.status;
     let task = m.task;
-    if node::is_reorganization(status) & (c.group.number == m.group.number) {
+    if predicates::is_reorganization(status) & (c.group.number == m.group.number) {
         return procedures::answers(i, node::tasked(c, Status::Normal, task), m, true);
     }
     procedures::answers(i, c, m, true)

@@ -11,50 +11,6 @@ use model::Node;
 use model::Status;
 use model::TaskNo;
 
-pub fn is_down(s: Status) -> bool
-    ensures { λ r. ⌜ r ≡ spec.isDown s ⌝ }
-{
-    match s {
-        Status::Down => true,
-        Status::Election => false,
-        Status::Reorganization => false,
-        Status::Normal => false,
-    }
-}
-
-pub fn is_election(s: Status) -> bool
-    ensures { λ r. ⌜ r ≡ spec.isElection s ⌝ }
-{
-    match s {
-        Status::Down => false,
-        Status::Election => true,
-        Status::Reorganization => false,
-        Status::Normal => false,
-    }
-}
-
-pub fn is_reorganization(s: Status) -> bool
-    ensures { λ r. ⌜ r ≡ spec.isReorganization s ⌝ }
-{
-    match s {
-        Status::Down => false,
-        Status::Election => false,
-        Status::Reorganization => true,
-        Status::Normal => false,
-    }
-}
-
-pub fn is_normal(s: Status) -> bool
-    ensures { λ r. ⌜ r ≡ spec.isNormal s ⌝ }
-{
-    match s {
-        Status::Down => false,
-        Status::Election => false,
-        Status::Reorganization => false,
-        Status::Normal => true,
-    }
-}
-
 pub fn is_idle(a: Activity) -> bool
     ensures { λ r. ⌜ r ≡ spec.isIdle a ⌝ }
 {

@@ -18,39 +18,10 @@ pub const CALL_END: u32 = 16777215;
 
 pub const TICK_END: u8 = 15;
 
-pub const TASK_LOW: u16 = 100;
-
-pub const TASK_END: u16 = 65535;
-
-pub fn is_node(n: u8, j: u8) -> bool
-    ensures { λ r. ⌜ r ≡ spec.isNode n j ⌝ }
-{
-    (1 <= j) & (j <= n)
-}
-
-pub fn is_other(n: u8, i: u8, j: u8) -> bool
-    ensures { λ r. ⌜ r ≡ spec.isOther n i j ⌝ }
-{
-    is_node(n, j) & !(j == i)
-}
-
-fn is_set_of_others(n: u8, i: u8, s: u16) -> bool
-    requires { ⌜ (1 ≤ i) × (i ≤ nodeLimit) × (n ≤ nodeLimit) ⌝ }
-    ensures { λ r. ⌜ r ≡ spec.isSetOfOthers n i s ⌝ }
-{
-    node_set::is_within(n, s) & !node_set::contains(s, i)
-}
-
 fn is_group(n: u8, g: GroupNo) -> bool
     ensures { λ r. ⌜ r ≡ spec.isGroup n (g .number) ⌝ }
 {
     (1 <= g.number / 16) & (g.number / 16 <= COUNTER_END) & (node::owner_of(g) <= n)
-}
-
-pub fn is_given_task(t: TaskNo) -> bool
-    ensures { λ r. ⌜ r ≡ spec.isGivenTask (t .number) ⌝ }
-{
-    (TASK_LOW <= t.number) & (t.number <= TASK_END)
 }
 
 fn is_call(k: CallNo) -> bool
@@ -65,17 +36,20 @@ fn activity_in_range(n: u8, i: u8, g: GroupNo, t: TaskNo, a: Activity) -> bool
 {
     match a {
         Activity::Idle => true,
-        Activity::Asking { asked, found } => is_other(n, i, asked) & is_set_of_others(n, i, found),
+        Activity::Asking { asked, found } => predicates::is_other(n, i, asked)
+            & predicates::is_set_of_others(n, i, found),
         Activity::Waiting { ticks, found } => (1 <= ticks)
             & (ticks <= TICK_END)
-            & is_set_of_others(n, i, found),
+            & predicates::is_set_of_others(n, i, found),
         Activity::Inviting { found, former, now } => {
-            is_set_of_others(n, i, found) & is_set_of_others(n, i, former) & is_other(n, i, now)
+            predicates::is_set_of_others(n, i, found)
+                & predicates::is_set_of_others(n, i, former)
+                & predicates::is_other(n, i, now)
         }
         Activity::Collecting => true,
-        Activity::Handing { rest, now } => is_set_of_others(n, i, rest)
-            & is_other(n, i, now)
-            & is_given_task(t),
+        Activity::Handing { rest, now } => predicates::is_set_of_others(n, i, rest)
+            & predicates::is_other(n, i, now)
+            & predicates::is_given_task(t),
         Activity::Contacting => true,
         Activity::Forwarding {
             rest,
@@ -83,13 +57,13 @@ fn activity_in_range(n: u8, i: u8, g: GroupNo, t: TaskNo, a: Activity) -> bool
             caller,
             call,
         } => {
-            is_set_of_others(n, i, rest)
-                & is_other(n, i, now)
-                & is_other(n, i, caller)
+            predicates::is_set_of_others(n, i, rest)
+                & predicates::is_other(n, i, now)
+                & predicates::is_other(n, i, caller)
                 & is_call(call)
                 & !(node::owner_of(g) == i)
         }
-        Activity::Accepting { caller, call } => is_other(n, i, caller)
+        Activity::Accepting { caller, call } => predicates::is_other(n, i, caller)
             & is_call(call)
             & !(node::owner_of(g) == i),
     }
@@ -115,12 +89,12 @@ pub fn node_in_range(n: u8, i: u8, c: Node) -> bool
     let group = c.group;
     let task = c.task;
     let activity = c.activity;
-    let down = node::is_down(status);
+    let down = predicates::is_down(status);
     (c.counter <= COUNTER_END)
         & is_group_or_none(n, group)
         & (c.coordinator <= n)
-        & (c.task.number <= TASK_END)
-        & is_set_of_others(n, i, c.members)
+        & (c.task.number <= predicates::TASK_END)
+        & predicates::is_set_of_others(n, i, c.members)
         & (c.last.number <= CALL_END)
         & is_led(n, down, group, c.coordinator)
         & (!down | node::is_idle(activity))
@@ -139,10 +113,10 @@ pub fn message_in_range(n: u8, m: Message) -> bool
     let call = m.call;
     let group = m.group;
     let task = m.task;
-    is_node(n, m.sender)
-        & is_other(n, m.sender, m.receiver)
+    predicates::is_node(n, m.sender)
+        & predicates::is_other(n, m.sender, m.receiver)
         & ((1 <= m.kind) & (m.kind <= 6))
         & is_call(call)
         & (!carries_group(m.kind) | is_group(n, group))
-        & (!(m.kind == 5) | is_given_task(task))
+        & (!(m.kind == 5) | predicates::is_given_task(task))
 }

@@ -19,7 +19,8 @@ use Rattle.model.specs.Pick.{by-test}
 use Rattle.model.specs.declared.Event.{Event}
 use Rattle.model.specs.declared.Event.the-variants.{Crash, Recover, Check, Timeout, Tick, Expire, Finish, Deliver, Lose}
 use Rattle.machine.specs.Parts.{place, placeFor, without}
-use Rattle.machine.proofs.Laws.{first-take, first-length, without-none}
+use Rattle.model.proofs.Lists.{first-take, first-length}
+use Rattle.machine.proofs.Laws.{without-none}
 use Rattle.packed.specs.Packed.{oneIf, route, content, unpacked, isRoute, held, queue}
 
 -- ── one message ──

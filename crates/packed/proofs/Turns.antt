@@ -19,7 +19,8 @@ use Rattle.model.proofs.InRange.{stays-in-range}
 use Rattle.model.proofs.Traffic.{SentWithin, pair-below}
 use Rattle.model.proofs.Aside.{below}
 use Rattle.machine.specs.Parts.{without, sentPlace, sentBy, movedPlace, deliveredBy, lostBy, raised, Small, Room, isAccepted, leftOf}
-use Rattle.machine.proofs.Laws.{Sized, first-length, nodes-set, state-is}
+use Rattle.model.proofs.Lists.{first-length, first-set}
+use Rattle.machine.proofs.Laws.{Sized, state-is}
 use Rattle.machine.proofs.Parts.{refused-some}
 use Rattle.machine.proofs.Places.{small, counts-small}
 use Rattle.machine.proofs.Judged.{judging, refuses, seated, room, reacts, is-clear, stores, model-accepts}
@@ -119,7 +120,7 @@ module _ (n : ℕ) (cs : List Node) (ws : List ℕ) (w : ℕ) (sends delivers lo
             pub next-is : view next ≡ effect (view t) e
             next-is =
                 let below = seated t z (h .range) e _ (j .place) (j .reach) at ha d _ refl noMessage _ refl (r .verdict) (j .judged) q in
-                state-is n _ _ _ (nodes-set n at cs (r .verdict .reaction .node) below (omega (arith, h .nodes, small t z (h .range) e .1))) x
+                state-is n _ _ _ (first-set n at _ cs (r .verdict .reaction .node) below (omega (arith, h .nodes, small t z (h .range) e .1))) x
                 ∙ stores t z (h .range) e _ (j .place) (j .reach) at ha d _ refl noMessage _ refl (r .verdict) (j .judged) q p
 
             pub accepted-turn : (0 ≡ resultNumber (step (view t) e)) × (view next ≡ after (view t) e)

@@ -8,7 +8,8 @@ use Rattle.model.specs.Limits.{nodeLimit}
 use Rattle.model.specs.State.{startingNode, start, nodeAt}
 use Rattle.model.specs.Step.{run}
 use Rattle.model.specs.History.{Task}
-use Rattle.model.specs.Claims.{isActive, RunFixes}
+use Rattle.model.specs.Node.{isActive}
+use Rattle.model.specs.Claims.{RunFixes}
 use Rattle.model.specs.declared.Event.{Event}
 use Rattle.model.specs.declared.Node.{Node}
 use Rattle.model.specs.declared.Status.the-variants.{Normal}

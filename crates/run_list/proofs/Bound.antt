@@ -11,7 +11,8 @@ use borrow.Author.Needs.{needs}
 use borrow.Author.Tests.{le-leb, leb-true, leb-false}
 use Rattle.model.specs.Pick.{pick, pick-true, pick-false, by-test}
 use Rattle.model.specs.State.{State, start, inRange}
-use Rattle.model.specs.Step.{Ground, grounds, Result, refused, accepted, judged, step, after, runFrom, run}
+use Rattle.model.specs.Grounds.{Ground, judged}
+use Rattle.model.specs.Step.{grounds, Result, refused, accepted, step, after, runFrom, run}
 use Rattle.model.specs.Answers.{resultNumber}
 use Rattle.model.specs.declared.Event.{Event}
 use Rattle.model.specs.declared.Mark.{Mark}

@@ -12,7 +12,8 @@ use Rattle.model.specs.Counts.{total}
 use Rattle.model.specs.Procedures.{inviteNext, merges, handNext, finishes, forwardNext, askedAll, askAt, askAfter}
 use Rattle.model.specs.React.{checked as isChecked, timedOut, ticked, expired, resumed, onAreYouCoordinator, onAreYouThere, onInvitation, onAccept, onReady, onReply, received, react}
 use Rattle.model.specs.State.{State, start, waits, oldest, withoutOldest, inRange}
-use Rattle.model.specs.Step.{reactionTo, remaining, effect, grounds, judged, Result, accepted, step, kept, after, runFrom}
+use Rattle.model.specs.Grounds.{judged}
+use Rattle.model.specs.Step.{reactionTo, remaining, effect, grounds, Result, accepted, step, kept, after, runFrom}
 use Rattle.model.specs.Answers.{resultNumber}
 use Rattle.model.proofs.InRange.{stays-in-range, run-in}
 use Rattle.model.proofs.Aside.{Room, between, by-between, room-after, room-below, counting, run-counting, start-room}

@@ -15,7 +15,7 @@ use Rattle.model.specs.Answers.{resultNumber}
 use Rattle.model.specs.declared.Table.{Table}
 use Rattle.model.specs.declared.Event.{Event}
 use Rattle.model.proofs.InRange.{stays-in-range}
-use Rattle.machine.proofs.Laws.{first-length}
+use Rattle.model.proofs.Lists.{first-length}
 use Rattle.packed.specs.Packed.{held}
 use Rattle.packed.specs.Seen.{seen}
 use Rattle.event_list.specs.declared.Stop.{Stop}

@@ -12,7 +12,8 @@ use lib.Count.{onesIn, ones, leadingZeros}
 use Rattle.model.specs.Range.{activityInRange, nodeInRange, messageInRange}
 use Rattle.model.specs.React.{react}
 use Rattle.model.specs.State.{nodeAt, every, inRange}
-use Rattle.model.specs.Step.{reactionTo, remaining, effect, grounds, judged, step, runFrom, run}
+use Rattle.model.specs.Grounds.{judged}
+use Rattle.model.specs.Step.{reactionTo, remaining, effect, grounds, step, runFrom, run}
 use Rattle.model.specs.Answers.{statusNumber}
 use Rattle.model.specs.declared.Node.{Node}
 use Rattle.event_list.specs.Format.{lengthOf, cutShort, checked, eventOf, nextAt, nodesOf, firstOf, readFrom, rest, Reading, begun, reading}

@@ -6,7 +6,8 @@ use Rattle.model.specs.Procedures.{inviteNext, merges, handNext, finishes, forw
 use Rattle.model.specs.React.{checked, timedOut, ticked, expired, resumed, onAreYouCoordinator, onAreYouThere, onInvitation, onAccept, onReady, onReply, received, react}
 use Rattle.model.specs.Range.{activityInRange, nodeInRange, messageInRange, countInRange}
 use Rattle.model.specs.State.{waits, oldest, withoutOldest, howMany, every, upTo, countsInRange, trafficInRange, inRange}
-use Rattle.model.specs.Step.{reactionTo, remaining, effect, grounds, judged, step, runFrom}
+use Rattle.model.specs.Grounds.{judged}
+use Rattle.model.specs.Step.{reactionTo, remaining, effect, grounds, step, runFrom}
 use Rattle.listing.specs.Decimal.{digits, decimal}
 use Rattle.listing.specs.Lines.{row, stoppedLine}
 use Rattle.listing.specs.Printing.{joined}

@@ -11,7 +11,8 @@ use Rattle.model.specs.Procedures.{inviteNext, merges, handNext, finishes, forw
 use Rattle.model.specs.React.{checked, timedOut, ticked, expired, resumed, onAreYouCoordinator, onAreYouThere, onInvitation, onAccept, onReady, onReply, received, react}
 use Rattle.model.specs.Range.{activityInRange, nodeInRange, messageInRange, countInRange}
 use Rattle.model.specs.State.{State, start, waits, oldest, withoutOldest, howMany, every, upTo, countsInRange, trafficInRange, inRange}
-use Rattle.model.specs.Step.{reactionTo, remaining, effect, grounds, judged, Result, refused, accepted, step}
+use Rattle.model.specs.Grounds.{judged}
+use Rattle.model.specs.Step.{reactionTo, remaining, effect, grounds, Result, refused, accepted, step}
 use Rattle.model.specs.declared.Mark.{Mark}
 use Rattle.model.specs.declared.Event.{Event}
 use Rattle.model.specs.declared.Event.the-variants.{Recover}

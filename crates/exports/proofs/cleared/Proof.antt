@@ -2,7 +2,7 @@
 use borrow.Author.Needs.{needs}
 use mathlib.Core.Path.{_≡_}
 use Rattle.model.specs.State.{noMessage}
-use Rattle.machine.proofs.Laws.{first-length}
+use Rattle.model.proofs.Lists.{first-length}
 use Rattle.exports.proofs.cleared.Statement.{statement}
 use Rattle.exports.proofs.cleared.Tie as tie
 

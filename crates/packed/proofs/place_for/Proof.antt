@@ -8,7 +8,7 @@ use denote.Ref.{now}
 use Rattle.model.specs.State.{noMessage}
 use Rattle.machine.specs.Parts.{place, takes}
 use Rattle.packed.specs.Packed.{held, queue}
-use Rattle.machine.proofs.Laws.{first-length}
+use Rattle.model.proofs.Lists.{first-length}
 use Rattle.machine.proofs.Parts.{place-taken, place-none}
 use Rattle.packed.proofs.place_for.Statement.{statement}
 use Rattle.packed.proofs.place_for.Tie as tie

@@ -1,7 +1,7 @@
 -- `number_answer` meets its contract: the first test that holds.
 use borrow.Author.Needs.{needs}
 use Rattle.model.specs.Pick.{pick}
-use Rattle.machine.specs.Parts.{first}
+use Rattle.model.specs.Grounds.{first}
 use Rattle.machine.proofs.grounds.number_answer.Statement.{statement}
 use Rattle.machine.proofs.grounds.number_answer.Tie as tie
 

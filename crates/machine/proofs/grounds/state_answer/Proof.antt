@@ -1,7 +1,7 @@
 -- `state_answer` meets its contract: the first test that holds.
 use borrow.Author.Needs.{needs}
 use Rattle.model.specs.Pick.{pick}
-use Rattle.machine.specs.Parts.{first}
+use Rattle.model.specs.Grounds.{first}
 use Rattle.machine.proofs.grounds.state_answer.Statement.{statement}
 use Rattle.machine.proofs.grounds.state_answer.Tie as tie
 

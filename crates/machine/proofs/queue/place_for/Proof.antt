@@ -6,7 +6,7 @@ use mathlib.Core.Bool.{true, false}
 use mathlib.Core.Path.{_≡_, sym, _∙_, ap₂}
 use Rattle.model.specs.State.{noMessage, firstOf}
 use Rattle.machine.specs.Parts.{place, takes}
-use Rattle.machine.proofs.Laws.{first-length}
+use Rattle.model.proofs.Lists.{first-length}
 use Rattle.machine.proofs.Parts.{place-taken, place-none}
 use Rattle.machine.proofs.queue.place_for.Statement.{statement}
 use Rattle.machine.proofs.queue.place_for.Tie as tie

@@ -5,7 +5,8 @@ use native.Mathlib.Omega.{arith}
 use mathlib.Core.Path.{refl, sym, _∙_, ap₂}
 use mathlib.Core.Bool.{Bool, _&&_}
 use Rattle.model.specs.State.{startingNode, noMessage, inRange}
-use Rattle.machine.proofs.Laws.{sized, first-length, in-range-is, traffic-of}
+use Rattle.model.proofs.Lists.{first-length}
+use Rattle.machine.proofs.Laws.{sized, in-range-is, traffic-of}
 use Rattle.machine.proofs.range.in_range.Statement.{statement}
 use Rattle.machine.proofs.range.in_range.Tie as tie
 

@@ -1,7 +1,7 @@
 -- `is_other` meets its contract: what `is_node` ensures.
 use borrow.Author.Needs.{needs}
-use Rattle.node_step.proofs.range.is_other.Statement.{statement}
-use Rattle.node_step.proofs.range.is_other.Tie as tie
+use Rattle.predicates.proofs.is_other.Statement.{statement}
+use Rattle.predicates.proofs.is_other.Tie as tie
 
 pub is-other-spec : {M : Type 1} → statement M
 is-other-spec =

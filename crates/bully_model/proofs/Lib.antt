@@ -1,0 +1,12 @@
+pub mod Judged
+pub mod Refusals
+pub mod Fields
+pub mod Range
+pub mod InRange
+pub mod Locality
+pub mod Invariant
+pub mod Changes
+pub mod Moves
+pub mod Local
+pub mod Whole
+pub mod Cases

@@ -1,0 +1,61 @@
+-- An event changes the record of its node, and of the one that it calls, and no other.
+use Prim.Native.Nat.{ℕ, zero, suc, _-_, _≤_}
+use native.Mathlib.Omega.{arith}
+use mathlib.Core.Path.{_≡_, refl, _∙_, ap}
+use lib.Seq.{getD-set-other}
+use Rattle.model.specs.Pick.{by-test}
+use Rattle.bully_model.specs.Calls.{callee}
+use Rattle.bully_model.specs.State.{State, startingNode, nodeAt, stored}
+use Rattle.bully_model.specs.Step.{call, goOn, effect, actor}
+use Rattle.bully_model.specs.Claims.{calledBy, StepIsLocal}
+use Rattle.bully_model.proofs.Judged.{Clear, accepted-is}
+use Rattle.bully_model.proofs.InRange.{runner}
+use Rattle.bully_model.specs.declared.Node.{Node}
+use Rattle.bully_model.specs.declared.Event.{Event}
+use Rattle.bully_model.specs.declared.Event.the-variants.{Crash, Recover, Check, Timeout, GoOn, Finish}
+
+-- a record stored for node i leaves the others
+pub stored-other : (s : State) (i : ℕ) (c : Node) (j : ℕ) → 1 ≤ i → (j ≡ i → ⊥) → nodeAt (stored s i c) j ≡ nodeAt s j
+stored-other s i c zero l n = refl
+stored-other s i c (suc j) l n = getD-set-other (s .nodes) (i - 1) j c startingNode (λ e. n (omega arith))
+
+goOn-nodes : (s : State) (i : ℕ) → goOn s i (nodeAt s i) (nodeAt s i .place) .n ≡ s .n
+unfolding goOn call
+goOn-nodes s i = by-test (λ (u : State). u .n ≡ s .n) (λ _. refl) (λ _. refl)
+
+effect-nodes : (s : State) (e : Event) → effect s e .n ≡ s .n
+unfolding effect
+effect-nodes s (Crash i) = refl
+effect-nodes s (Recover i) = refl
+effect-nodes s (Check i) = refl
+effect-nodes s (Timeout i) = refl
+effect-nodes s (GoOn i) = goOn-nodes s i
+effect-nodes s (Finish i t) = refl
+
+goOn-others : (s : State) (i j : ℕ) → 1 ≤ i → (j ≡ i → ⊥) → (j ≡ callee (nodeAt s i) (nodeAt s i .place) → ⊥) → nodeAt (goOn s i (nodeAt s i) (nodeAt s i .place)) j ≡ nodeAt s j
+unfolding goOn call
+goOn-others s i j l n m =
+    by-test (λ (u : State). nodeAt u j ≡ nodeAt s j)
+    (λ r. stored-other (stored s to _) i _ j l n ∙ stored-other s to _ j (runner s to r) m)
+    (λ _. stored-other s i _ j l n)
+  where
+    to : ℕ
+    to = callee (nodeAt s i) (nodeAt s i .place)
+
+effect-others : (s : State) (e : Event) → Clear s e → (j : ℕ) → (j ≡ actor e → ⊥) → (j ≡ calledBy s e → ⊥) → nodeAt (effect s e) j ≡ nodeAt s j
+unfolding effect
+effect-others s (Crash i) c j n m = stored-other s i _ j (c .low) n
+effect-others s (Recover i) c j n m = stored-other s i _ j (c .low) n
+effect-others s (Check i) c j n m = stored-other s i _ j (c .low) n
+effect-others s (Timeout i) c j n m = stored-other s i _ j (c .low) n
+effect-others s (GoOn i) c j n m = goOn-others s i j (c .low) n m
+effect-others s (Finish i t) c j n m = stored-other s i _ j (c .low) n
+
+pub step-is-local : StepIsLocal
+step-is-local =
+    record {
+      nodes = λ s e u q. ap (λ (v : State). v .n) (accepted-is s e u q .state) ∙ effect-nodes s e;
+      others = λ s e u q j n m.
+          let a = accepted-is s e u q in
+          ap (λ (v : State). nodeAt v j) (a .state) ∙ effect-others s e (a .clear) j n m;
+    }

@@ -1,0 +1,55 @@
+-- What is claimed of the definitions. The proofs are in proofs/.
+use Prim.Native.Nat.{ℕ, _≤_}
+use mathlib.Core.Bool.{true}
+use mathlib.Core.Path.{_≡_}
+use mathlib.Core.Logic.{_⊎_}
+use mathlib.Core.List.{List, [], _∷_, map}
+use Rattle.model.specs.Limits.{nodeLimit}
+use Rattle.model.specs.Node.{isNormal, isActive}
+use Rattle.bully_model.specs.Calls.{callee}
+use Rattle.bully_model.specs.State.{State, start, nodeAt, inRange}
+use Rattle.bully_model.specs.Step.{actor, grounds, refused, accepted, step, run}
+use Rattle.bully_model.specs.declared.Event.{Event}
+use Rattle.bully_model.specs.declared.Event.the-variants.{Crash, Recover, Check, Timeout, GoOn, Finish}
+
+-- "Proved after any events from all Down", of every list of events from the starting table of n nodes (Assertion 1 of document 002). i and j are any numbers: one outside 1
+-- to n is nobody's, whose record is Down.
+pub record Agreement (n : ℕ) : Type 0 where
+  -- "two cabinets in Reorganization or Normal have the same coordinator"
+  pub same-coordinator : (es : List Event) (i j : ℕ)
+      → isActive (nodeAt (run n es) i .status) ≡ true → isActive (nodeAt (run n es) j .status) ≡ true
+      → nodeAt (run n es) i .coordinator ≡ nodeAt (run n es) j .coordinator
+  -- "and two Normal ones the same task"
+  pub same-task : (es : List Event) (i j : ℕ)
+      → isNormal (nodeAt (run n es) i .status) ≡ true → isNormal (nodeAt (run n es) j .status) ≡ true
+      → nodeAt (run n es) i .task ≡ nodeAt (run n es) j .task
+
+pub record StaysInRange : Type 0 where
+  -- the starting table is in range
+  pub starts : (n : ℕ) → 1 ≤ n → n ≤ nodeLimit → inRange (start n) ≡ true
+  -- an accepted event leaves a table in range (one that is not in range meets ground 1)
+  pub keeps : (s : State) (e : Event) (u : State) → step s e ≡ accepted u → inRange u ≡ true
+  -- so every table of a run is in range, and no run meets ground 1
+  pub runs : (n : ℕ) → 1 ≤ n → n ≤ nodeLimit → (es : List Event) → inRange (run n es) ≡ true
+  pub never-one : (n : ℕ) → 1 ≤ n → n ≤ nodeLimit → (es : List Event) (e : Event) → step (run n es) e ≡ refused 1 → ⊥
+
+pub record RefusesByGround : Type 0 where
+  -- "1, 7, 8, 9 and 10 apply in their old places"
+  pub order : (s : State) (e : Event) → map (λ g. g .number) (grounds s e) ≡ 1 ∷ 7 ∷ 8 ∷ 9 ∷ 10 ∷ []
+  -- and no other ground does
+  pub numbers : (s : State) (e : Event) (r : ℕ) → step s e ≡ refused r → (r ≡ 1) ⊎ ((7 ≤ r) × (r ≤ 10))
+
+-- whom the event's node calls; only a go on makes a call
+abbrev pub calledBy : State → Event → ℕ
+calledBy s (Crash i) = 0
+calledBy s (Recover i) = 0
+calledBy s (Check i) = 0
+calledBy s (Timeout i) = 0
+calledBy s (GoOn i) = callee (nodeAt s i) (nodeAt s i .place)
+calledBy s (Finish i t) = 0
+
+-- how little a step changes
+pub record StepIsLocal : Type 0 where
+  pub nodes : (s : State) (e : Event) (u : State) → step s e ≡ accepted u → u .n ≡ s .n
+  -- only the event's node and the one that it calls
+  pub others : (s : State) (e : Event) (u : State) → step s e ≡ accepted u → (j : ℕ) → (j ≡ actor e → ⊥) → (j ≡ calledBy s e → ⊥) → nodeAt u j ≡ nodeAt s j

@@ -1,0 +1,94 @@
+// Tests that the machines share, of a status, a node's number, a set of nodes and a task: definitions of model's specs/Node and specs/Range as functions.
+ghost use mathlib.Core.Path.{_≡_};
+ghost use Prim.Native.Nat.{_≤_};
+ghost use Rattle.model.specs.Limits.{nodeLimit};
+ghost use Rattle.model.specs.Node.{isDown, isElection, isReorganization, isNormal, isActive};
+ghost use Rattle.model.specs.Range.{isNode, isOther, isSetOfOthers, isGivenTask};
+use model::Status;
+use model::TaskNo;
+
+// The ends of a task's range, as in model's specs/Limits.
+pub const TASK_LOW: u16 = 100;
+
+pub const TASK_END: u16 = 65535;
+
+pub fn is_down(s: Status) -> bool
+    ensures { λ r. ⌜ r ≡ isDown s ⌝ }
+{
+    match s {
+        Status::Down => true,
+        Status::Election => false,
+        Status::Reorganization => false,
+        Status::Normal => false,
+    }
+}
+
+pub fn is_election(s: Status) -> bool
+    ensures { λ r. ⌜ r ≡ isElection s ⌝ }
+{
+    match s {
+        Status::Down => false,
+        Status::Election => true,
+        Status::Reorganization => false,
+        Status::Normal => false,
+    }
+}
+
+pub fn is_reorganization(s: Status) -> bool
+    ensures { λ r. ⌜ r ≡ isReorganization s ⌝ }
+{
+    match s {
+        Status::Down => false,
+        Status::Election => false,
+        Status::Reorganization => true,
+        Status::Normal => false,
+    }
+}
+
+pub fn is_normal(s: Status) -> bool
+    ensures { λ r. ⌜ r ≡ isNormal s ⌝ }
+{
+    match s {
+        Status::Down => false,
+        Status::Election => false,
+        Status::Reorganization => false,
+        Status::Normal => true,
+    }
+}
+
+// In Reorganization or Normal.
+pub fn is_active(s: Status) -> bool
+    ensures { λ r. ⌜ r ≡ isActive s ⌝ }
+{
+    match s {
+        Status::Down => false,
+        Status::Election => false,
+        Status::Reorganization => true,
+        Status::Normal => true,
+    }
+}
+
+pub fn is_node(n: u8, j: u8) -> bool
+    ensures { λ r. ⌜ r ≡ isNode n j ⌝ }
+{
+    (1 <= j) & (j <= n)
+}
+
+pub fn is_other(n: u8, i: u8, j: u8) -> bool
+    ensures { λ r. ⌜ r ≡ isOther n i j ⌝ }
+{
+    is_node(n, j) & !(j == i)
+}
+
+pub fn is_set_of_others(n: u8, i: u8, s: u16) -> bool
+    requires { ⌜ (1 ≤ i) × (i ≤ nodeLimit) × (n ≤ nodeLimit) ⌝ }
+    ensures { λ r. ⌜ r ≡ isSetOfOthers n i s ⌝ }
+{
+    node_set::is_within(n, s) & !node_set::contains(s, i)
+}
+
+pub fn is_given_task(t: TaskNo) -> bool
+    ensures { λ r. ⌜ r ≡ isGivenTask (t .number) ⌝ }
+{
+    (TASK_LOW <= t.number) & (t.number <= TASK_END)
+}
