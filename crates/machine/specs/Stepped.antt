@@ -9,15 +9,13 @@ use Rattle.model.specs.Counts.{noCounts}
 use Rattle.model.specs.Recovery.{recoveryRecords}
 use Rattle.model.specs.State.{State, startingNode, start, wrongCount, nodeAt, noMessage, view}
 use Rattle.model.specs.Step.{Result, refused, accepted, step, after}
-use Rattle.model.specs.Answers.{answerNumber, resultNumber}
+use Rattle.model.specs.Answers.{startNumber, answerNumber, resultNumber}
 use Rattle.model.specs.declared.Node.{Node}
 use Rattle.model.specs.declared.Table.{Table}
 use Rattle.model.specs.declared.Event.{Event}
 use Rattle.model.specs.declared.Event.the-variants.{Recover}
 use Rattle.model.specs.declared.Answer.the-variants.{Accepted}
 use Rattle.model.specs.declared.Outcome.{Outcome}
-use Rattle.machine.specs.declared.StartAnswer.{StartAnswer}
-use Rattle.machine.specs.declared.StartAnswer.the-variants.{Started, WrongCount}
 use Rattle.machine.specs.declared.Start.{Start}
 use Rattle.machine.specs.declared.RecoveryAnswer.{RecoveryAnswer}
 
@@ -29,11 +27,6 @@ pub record Stepped (t : Table) (e : Event) (r : Outcome) : Type 0 where
   pub table : view (r .table) ≡ after (view t) e
   -- a refusal gives back the very same table, all places included
   pub same : (r .answer ≡ Accepted → ⊥) → r .table ≡ t
-
--- the number of the refusal of a starting table
-abbrev pub startNumber : StartAnswer → ℕ
-startNumber Started = 0
-startNumber WrongCount = 6
 
 -- "all Down and idle, every number 0, every set empty, no messages": in every record and every place of the code's table
 abbrev pub startingTable : ℕ → Table

@@ -28,17 +28,13 @@ use model::Message;
 use model::Node;
 use model::Outcome;
 use model::Reaction;
+use model::StartAnswer;
 use model::Status;
 use model::Table;
 use model::TaskNo;
 pub use range::in_range;
 
-// What a starting table is answered with: it, or refusal 6.
-pub enum StartAnswer {
-    Started,
-    WrongCount,
-}
-
+// What `starting` answers, and the table beside it.
 pub struct Start {
     pub answer: StartAnswer,
     pub table: Table,
@@ -101,22 +97,9 @@ fn blank(n: u8) -> Table
 pub fn starting(n: u8) -> Start
     ensures { λ r. ⌜ Begun n r ⌝ }
 {
-    let table = blank(n);
-    if n < 1 {
-        return Start {
-            answer: StartAnswer::WrongCount,
-            table: table,
-        };
-    }
-    if 16 < n {
-        return Start {
-            answer: StartAnswer::WrongCount,
-            table: table,
-        };
-    }
     Start {
-        answer: StartAnswer::Started,
-        table: table,
+        answer: predicates::start_answer(n),
+        table: blank(n),
     }
 }
 

@@ -145,6 +145,12 @@ pub struct Reaction {
     pub mark: Mark,
 }
 
+// What a starting table is answered with: it, or refusal 6.
+pub enum StartAnswer {
+    Started,
+    WrongCount,
+}
+
 // What a step answers: accepted, or the ground of its refusal. The numbers of 01 and 02 are in specs/Answers.
 pub enum Answer {
     Accepted,

@@ -1,9 +1,14 @@
-// Tests that the machines share, of a status, a node's number, a set of nodes and a task: definitions of model's specs/Node and specs/Range as functions.
+// Tests that the machines share, of a status, a node's number, a set of nodes, a task and the number of nodes: definitions of model's specs/Node, specs/Range and
+// specs/State as functions.
 ghost use mathlib.Core.Path.{_≡_};
 ghost use Prim.Native.Nat.{_≤_};
 ghost use Rattle.model.specs.Limits.{nodeLimit};
 ghost use Rattle.model.specs.Node.{isDown, isElection, isReorganization, isNormal, isActive};
+ghost use Rattle.model.specs.Pick.{pick};
+ghost use Rattle.model.specs.State.{wrongCount};
+ghost use Rattle.model.specs.Answers.{startNumber};
 ghost use Rattle.model.specs.Range.{isNode, isOther, isSetOfOthers, isGivenTask};
+use model::StartAnswer;
 use model::Status;
 use model::TaskNo;
 
@@ -91,4 +96,17 @@ pub fn is_given_task(t: TaskNo) -> bool
     ensures { λ r. ⌜ r ≡ isGivenTask (t .number) ⌝ }
 {
     (TASK_LOW <= t.number) & (t.number <= TASK_END)
+}
+
+// Refusal 6, where there is no such number of nodes.
+pub fn start_answer(n: u8) -> StartAnswer
+    ensures { λ r. ⌜ startNumber r ≡ pick (wrongCount n) 6 0 ⌝ }
+{
+    if n < 1 {
+        return StartAnswer::WrongCount;
+    }
+    if 16 < n {
+        return StartAnswer::WrongCount;
+    }
+    StartAnswer::Started
 }

@@ -1,0 +1,4 @@
+pub mod Stepped
+pub mod Folded
+pub mod Claims
+pub mod Parts
