@@ -2,9 +2,10 @@
 // What a list means is in specs/Format.
 use model::Event;
 use model::TaskNo;
+use number_bytes::byte;
 ghost use mathlib.Core.Path.{_≡_};
 ghost use Prim.Native.Nat.{_+_, _≤_, _<_};
-ghost use lib.ListN.{length, getD};
+ghost use lib.ListN.{length};
 ghost use Rattle.event_list.specs.Format.{twoBytes, lengthAt, taskOf, stopNumber, nodesOf, firstOf, nextAt};
 ghost use Rattle.event_list.specs.Parts.{Seen, sized, decoded, firstIn};
 
@@ -68,13 +69,6 @@ fn task_of(high: u8, low: u8) -> TaskNo
     TaskNo {
         number: two_bytes(high, low),
     }
-}
-
-// The byte at k, or 0 past the end.
-fn byte(s: &[u8], k: usize) -> u8
-    ensures { λ r. ⌜ r ≡ getD (now (s .entry)) k 0 ⌝ }
-{
-    if k < s.len() { s[k] } else { 0 }
 }
 
 // The length that a field names, in its second and third byte.

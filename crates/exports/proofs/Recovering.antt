@@ -25,8 +25,10 @@ use Rattle.machine.proofs.Runs.{answer-known}
 use Rattle.machine.proofs.Recovering.{recovery-alike}
 use Rattle.event_list.specs.Format.{lengthOf, cutShort, checked, eventOf, nextAt}
 use Rattle.event_list.specs.declared.Next.the-variants.{Got}
-use Rattle.table_bytes.specs.Bytes.{many, all, nodeOf, decoded, nodeBytes, size, recordsSize, RecordsStored}
-use Rattle.table_bytes.proofs.Records.{all-long, node-long}
+use Rattle.number_bytes.specs.Bytes.{many, all}
+use Rattle.table_bytes.specs.Bytes.{nodeOf, decoded, nodeBytes, size, recordsSize, RecordsStored}
+use Rattle.number_bytes.proofs.Records.{all-long}
+use Rattle.table_bytes.proofs.Records.{node-long}
 use Rattle.exports.specs.Boundary.{stateOf, fieldNumber, fieldAfter, stepNumber, StepExported, recoveryNumber, recoveryBytes, RecoveryExported}
 use Rattle.exports.specs.Claims.{recoverField, RecoveryClaims}
 

@@ -16,7 +16,8 @@ use Rattle.event_list.specs.Format.{Reading, Listed, failed, begun, reading, st
 use Rattle.event_list.specs.declared.Stop.the-variants.{CutShort}
 use Rattle.event_list.specs.declared.Next.{Next}
 use Rattle.event_list.specs.declared.Next.the-variants.{Done, Stopped, Got}
-use Rattle.table_bytes.specs.Bytes.{many, all, nodeOf, decoded, nodeBytes, size, encoded, recordsSize}
+use Rattle.number_bytes.specs.Bytes.{many, all}
+use Rattle.table_bytes.specs.Bytes.{nodeOf, decoded, nodeBytes, size, encoded, recordsSize}
 
 -- ── nevraspu_step: one event on a table in bytes ──
 

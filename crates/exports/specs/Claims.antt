@@ -9,7 +9,8 @@ use Rattle.model.specs.Claims.{recordAfter}
 use Rattle.event_list.specs.Format.{cutShort, nextAt}
 use Rattle.event_list.specs.declared.Stop.{Stop}
 use Rattle.event_list.specs.declared.Next.the-variants.{Stopped}
-use Rattle.table_bytes.specs.Bytes.{many, nodeOf, size, recordsSize}
+use Rattle.number_bytes.specs.Bytes.{many}
+use Rattle.table_bytes.specs.Bytes.{nodeOf, size, recordsSize}
 use Rattle.exports.specs.Boundary.{stateOf, stepNumber, stepBytes, StepExported, recoveryNumber, recoveryBytes, RecoveryExported}
 
 -- t: the bytes of a table, f: of a field, b: what the lent buffer holds before. Any bytes at all: past the end of t zeros are read, and a status, an activity or a yes

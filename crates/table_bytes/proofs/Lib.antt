@@ -1,5 +1,4 @@
 -- Laws of the byte form, from the bottom up.
-pub mod Numbers
 pub mod Records
 pub mod Widths
 pub mod RoundTrip

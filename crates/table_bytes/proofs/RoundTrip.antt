@@ -1,46 +1,23 @@
 -- A table that fits is read back from its bytes: the claims `ReadBack`.
-use Prim.Native.Nat.{ℕ, _%_, _≤_, _<_}
-use native.Mathlib.Omega.{arith}
+use Prim.Native.Nat.{ℕ, _≤_}
 use mathlib.Core.Path.{_≡_, refl, _∙_, ap}
-use mathlib.Core.Bool.{Bool, true, false}
-use mathlib.Core.List.{List, [], _∷_, _++_, append-assoc, append-nil}
-use lib.Dec.{eqb}
+use mathlib.Core.List.{List, [], _++_, append-assoc, append-nil}
 use lib.ListN.{length, drop}
-use lib.Seq.{drop-at}
 use Rattle.model.specs.Pick.{pick}
 use Rattle.model.specs.Answers.{statusNumber}
-use Rattle.model.specs.declared.Status.{Status}
-use Rattle.model.specs.declared.Status.the-variants.{Down, Election, Reorganization, Normal}
 use Rattle.model.specs.declared.Activity.{Activity}
 use Rattle.model.specs.declared.Activity.the-variants.{Idle, Asking, Waiting, Inviting, Collecting, Handing, Contacting, Forwarding, Accepting}
 use Rattle.model.specs.declared.Node.{Node}
 use Rattle.model.specs.declared.Message.{Message}
 use Rattle.model.specs.declared.Table.{Table}
-use Rattle.table_bytes.specs.Bytes.{number, bytes, many, all, partsOf, activityOf, statusOf, nodeOf, messageOf, countOf, decoded, yesNumber, partsBytes, nodeBytes, messageBytes, size, encoded, written, Stored, recordsSize, RecordsStored, NodeFits, MessageFits, Each, CountFits, Fits}
+use Rattle.number_bytes.specs.Bytes.{number, bytes, many, all, Each, written, yesNumber}
+use Rattle.number_bytes.proofs.Numbers.{read, one-back, number-at, length-bytes, written-over}
+use Rattle.number_bytes.proofs.Records.{all-long, many-back, status-back, status-small, yes-back, yes-small}
+use Rattle.table_bytes.specs.Bytes.{partsOf, activityOf, nodeOf, messageOf, countOf, decoded, partsBytes, nodeBytes, messageBytes, size, encoded, Stored, recordsSize, RecordsStored, NodeFits, MessageFits, CountFits, Fits}
 use Rattle.table_bytes.specs.Claims.{ReadBack}
-use Rattle.table_bytes.proofs.Numbers.{read, number-at, length-bytes, written-over}
-use Rattle.table_bytes.proofs.Records.{all-long, node-long, message-long, lengths, toNodes, toMessages, toWaiting, toSent, toDelivered, nodes-end, messages-end, waiting-end, sent-end, delivered-end, encoded-size}
-
--- ── records of one size ──
-module _ {A : Type 0} (f : List ℕ → A) (g : A → List ℕ) (size : ℕ) (long : (x : A) → length (g x) ≡ size) (P : A → Type 0) (back : (x : A) → P x → (l : List ℕ) → f (g x ++ l) ≡ x) where
-  many-all : (xs : List A) → Each P xs → (l : List ℕ) → many f size (length xs) (all g xs ++ l) ≡ xs
-  unfolding many all Each
-  many-all [] h l = refl
-  many-all (x ∷ xs) h l =
-      rw (append-assoc (g x) (all g xs) l, back x (h .0), drop-at (g x) (all g xs ++ l) size (long x), many-all xs (h .1) l)
-
-  -- k of them that stand behind n bytes
-  many-back : (k n : ℕ) (a : List ℕ) (xs : List A) → length a ≡ n → (length xs ≡ k) × Each P xs → (l : List ℕ) → many f size k (drop n (a ++ (all g xs ++ l))) ≡ xs
-  many-back k n a xs e h l = rw (drop-at a (all g xs ++ l) n e, ← h .0) (many-all xs (h .1) l)
+use Rattle.table_bytes.proofs.Records.{node-long, message-long, lengths, toNodes, toMessages, toWaiting, toSent, toDelivered, nodes-end, messages-end, waiting-end, sent-end, delivered-end, encoded-size}
 
 -- ── the records ──
-status-back : (s : Status) → statusOf (statusNumber s) ≡ s
-unfolding statusOf pick
-status-back Down = refl
-status-back Election = refl
-status-back Reorganization = refl
-status-back Normal = refl
-
 activity-back : (a : Activity) → activityOf (partsOf a) ≡ a
 unfolding activityOf pick
 activity-back Idle = refl
@@ -52,20 +29,6 @@ activity-back (Handing rest now) = refl
 activity-back Contacting = refl
 activity-back (Forwarding rest now caller call) = refl
 activity-back (Accepting caller call) = refl
-
-yes-small : (b : Bool) → yesNumber b < 256
-yes-small true = omega arith
-yes-small false = omega arith
-
-yes-back : (b : Bool) → eqb (yesNumber b % 2) 1 ≡ b
-yes-back true = refl
-yes-back false = refl
-
-status-small : (s : Status) → statusNumber s < 256
-status-small Down = omega arith
-status-small Election = omega arith
-status-small Reorganization = omega arith
-status-small Normal = omega arith
 
 node-back : (c : Node) → NodeFits c → (l : List ℕ) → nodeOf (nodeBytes c ++ l) ≡ c
 unfolding number bytes nodeOf partsBytes nodeBytes
@@ -88,10 +51,6 @@ counts-back : (n : ℕ) (a xs : List ℕ) → length a ≡ n → (length xs ≡ 
 counts-back = many-back countOf (bytes 4) 4 (length-bytes 4) CountFits count-back 256
 
 -- ── the table ──
-one-back : (x : ℕ) → x < 256 → (l : List ℕ) → number 1 (bytes 1 x ++ l) 0 ≡ x
-unfolding number bytes
-one-back x h l = read 1 x h
-
 table-is : (t : Table) {n w : ℕ} {xs : List Node} {qs : List Message} {ss ds ls : List ℕ} → n ≡ t .n → xs ≡ t .nodes → qs ≡ t .messages → w ≡ t .waiting → ss ≡ t .sent → ds ≡ t .delivered → ls ≡ t .lost
     → _≡_ {A = Table} (record { n = n; nodes = xs; messages = qs; waiting = w; sent = ss; delivered = ds; lost = ls }) t
 table-is t a b c d e f g = rw (a, b, c, d, e, f, g)

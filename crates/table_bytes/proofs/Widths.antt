@@ -1,14 +1,12 @@
 -- What owning a table, or eight records, tells of it: the arrays' lengths, and that each number fits its width. The paths below follow the order of the fields in crate model.
 use Prim.Native.Nat.{ℕ}
-use mathlib.Core.Path.{_≡_, refl, sym, _∙_, ap, subst}
+use mathlib.Core.Path.{_≡_, refl, sym, ap, subst}
 use mathlib.Core.List.{List, [], _∷_, map}
 use native.Mathlib.Omega.{arith}
-use lib.ListN.{length, length-map}
+use lib.ListN.{length}
 use mir.Val.{Val}
 use denote.Laws.{Is}
-use denote.Shadow.{shadow}
-use denote.Array.{Array, each}
-use denote.RattleType.{RattleType}
+use denote.Array.{Array}
 use denote.Struct.Field.{u32-field}
 use denote.Struct.Declared as struct
 use denote.Enum.Declared as enum
@@ -21,7 +19,9 @@ use Rattle.model.proofs.Activity as activity
 use Rattle.model.proofs.Node as node
 use Rattle.model.proofs.Message as message
 use Rattle.model.proofs.Table as table
-use Rattle.table_bytes.specs.Bytes.{partsOf, PartsFit, NodeFits, MessageFits, Each, CountFits, Fits}
+use Rattle.number_bytes.specs.Bytes.{Each}
+use Rattle.number_bytes.proofs.Widths.{array-fits}
+use Rattle.table_bytes.specs.Bytes.{partsOf, PartsFit, NodeFits, MessageFits, CountFits, Fits}
 
 parts-fit : (a : Activity) {vs : List Val} → Is (enum.row activity.the-type) a vs → PartsFit (partsOf a)
 parts-fit Idle g = record { tag = omega arith; set = omega arith; former = omega arith; node = omega arith; caller = omega arith; call = omega arith }
@@ -72,17 +72,6 @@ message-fits m g =
       group = h .1 .0 .1 .1 .0 .1;
       task = h .1 .1 .0 .1 .1 .0 .1;
     }
-
--- of an array and each element of it: R is the elements' type, and h takes an element to what R owns
-module _ {A : Type 0} (R : RattleType) (h : A → R .Denot) (P : A → Type 0) (fits : (x : A) (vs : List Val) → Is R (h x) vs → P x) where
-  each-fits : (xs : List A) (us : List Val) → shadow (each (R .Denot) (R .own) (map h xs) us) → Each P xs
-  unfolding Each
-  each-fits [] us s = tt
-  each-fits (x ∷ xs) [] s = absurd s
-  each-fits (x ∷ xs) (u ∷ us) s = (fits x (u ∷ []) (s .0), each-fits xs us (s .1))
-
-  array-fits : (k : ℕ) (xs : List A) {vs : List Val} → Is (Array R k) (map h xs) vs → (length xs ≡ k) × Each P xs
-  array-fits k xs g = (sym (length-map xs h) ∙ g .1 .0 .1, each-fits xs (g .0) (g .1 .1))
 
 map-identity : {A : Type 0} (xs : List A) → map (λ x. x) xs ≡ xs
 map-identity [] = refl

@@ -5,47 +5,21 @@
 --             set is found or rest; node is asked, ticks or now
 --   message   sender 1, receiver 1, kind 1, call 4, group 4, task 2, yes 1
 --   counts    that from node a to node b is at place (a - 1) * 16 + (b - 1): `pairPlace` of crate model
--- That a table is read back from its bytes is claimed in Claims.
-use Prim.Native.Nat.{ℕ, zero, suc, _+_, _*_, _/_, _%_, _^_, _≤_, _<_}
+-- Numbers, records of one size and what a status byte means are in `number_bytes/specs/Bytes`. That a table is read back from its bytes is claimed in Claims.
+use Prim.Native.Nat.{ℕ, _%_, _≤_, _<_}
 use mathlib.Core.Path.{_≡_}
-use mathlib.Core.Bool.{Bool, true, false}
-use mathlib.Core.List.{List, [], _∷_, _++_}
+use mathlib.Core.List.{List, _++_}
 use lib.Dec.{eqb}
-use lib.ListN.{length, getD, drop, set}
+use lib.ListN.{length, drop}
 use Rattle.model.specs.Pick.{pick}
 use Rattle.model.specs.Answers.{statusNumber}
-use Rattle.model.specs.declared.Status.{Status}
-use Rattle.model.specs.declared.Status.the-variants.{Down, Election, Reorganization, Normal}
 use Rattle.model.specs.declared.Activity.{Activity}
 use Rattle.model.specs.declared.Activity.the-variants.{Idle, Asking, Waiting, Inviting, Collecting, Handing, Contacting, Forwarding, Accepting}
 use Rattle.model.specs.declared.Node.{Node}
 use Rattle.model.specs.declared.Message.{Message}
 use Rattle.model.specs.declared.Table.{Table}
+use Rattle.number_bytes.specs.Bytes.{number, bytes, many, all, Each, written, statusOf, yesOf, yesNumber}
 use Rattle.table_bytes.specs.declared.Parts.{Parts}
-
--- ── numbers ──
-
--- the number of the k bytes from at on; past the end stands 0
-unfoldable pub number : ℕ → List ℕ → ℕ → ℕ
-number zero l at = 0
-number (suc k) l at = getD l at 0 * 256 ^ k + number k l (at + 1)
-
--- the k bytes of a number
-unfoldable pub bytes : ℕ → ℕ → List ℕ
-bytes zero x = []
-bytes (suc k) x = x / 256 ^ k % 256 ∷ bytes k x
-
--- ── records of one size, one after another ──
-
--- the first k records, read by f
-unfoldable pub many : {A : Type 0} → (List ℕ → A) → ℕ → ℕ → List ℕ → List A
-many f size zero l = []
-many f size (suc k) l = f l ∷ many f size k (drop size l)
-
--- the bytes of all records, written by g
-unfoldable pub all : {A : Type 0} → (A → List ℕ) → List A → List ℕ
-all g [] = []
-all g (x ∷ xs) = g x ++ all g xs
 
 -- ── activities ──
 
@@ -80,14 +54,6 @@ activityOf p =
 
 -- ── what bytes mean ──
 
--- modulo 4
-unfoldable pub statusOf : ℕ → Status
-statusOf x =
-    pick (eqb (x % 4) 0) Down
-    (pick (eqb (x % 4) 1) Election
-    (pick (eqb (x % 4) 2) Reorganization
-    Normal))
-
 unfoldable pub nodeOf : List ℕ → Node
 nodeOf l = record {
   status = statusOf (number 1 l 0);
@@ -108,7 +74,7 @@ messageOf l = record {
   call = record { number = number 4 l 3 };
   group = record { number = number 4 l 7 };
   task = record { number = number 2 l 11 };
-  yes = eqb (number 1 l 13 % 2) 1;
+  yes = yesOf (number 1 l 13);
 }
 
 -- a count of messages (02, T-05)
@@ -128,10 +94,6 @@ decoded l = record {
 }
 
 -- ── the bytes of a table ──
-
-abbrev pub yesNumber : Bool → ℕ
-yesNumber false = 0
-yesNumber true = 1
 
 unfoldable pub partsBytes : Parts → List ℕ
 partsBytes p = bytes 1 (p .tag) ++ bytes 2 (p .set) ++ bytes 2 (p .former) ++ bytes 1 (p .node) ++ bytes 1 (p .caller) ++ bytes 4 (p .call)
@@ -154,11 +116,6 @@ unfoldable pub encoded : Table → List ℕ
 encoded t =
     bytes 1 (t .n) ++ all nodeBytes (t .nodes) ++ all messageBytes (t .messages) ++ bytes 1 (t .waiting)
     ++ all (bytes 4) (t .sent) ++ all (bytes 4) (t .delivered) ++ all (bytes 4) (t .lost)
-
--- l over out from at on; what comes past the end of out is not written
-unfoldable pub written : List ℕ → ℕ → List ℕ → List ℕ
-written out at [] = out
-written out at (b ∷ l) = written (set out at b) (at + 1) l
 
 -- What writing the table t into a buffer that held b leaves there, o.
 pub record Stored (t : Table) (b o : List ℕ) : Type 0 where
@@ -210,11 +167,6 @@ pub record MessageFits (m : Message) : Type 0 where
   pub call : m .call .number < 4294967296
   pub group : m .group .number < 4294967296
   pub task : m .task .number < 65536
-
--- P holds of each element
-unfoldable pub Each : {A : Type 0} → (A → Type 0) → List A → Type 0
-Each P [] = Unit {0}
-Each P (x ∷ xs) = P x × Each P xs
 
 abbrev pub CountFits : ℕ → Type 0
 CountFits x = x < 4294967296

@@ -4,7 +4,8 @@ use mathlib.Core.Path.{_≡_}
 use mathlib.Core.List.{List, _++_}
 use lib.ListN.{length}
 use Rattle.model.specs.declared.Table.{Table}
-use Rattle.table_bytes.specs.Bytes.{decoded, size, encoded, written, Fits}
+use Rattle.number_bytes.specs.Bytes.{written}
+use Rattle.table_bytes.specs.Bytes.{decoded, size, encoded, Fits}
 
 pub record ReadBack : Type 0 where
   pub long : (t : Table) → Fits t → length (encoded t) ≡ size

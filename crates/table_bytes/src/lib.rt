@@ -13,13 +13,21 @@ use model::CallNo;
 use model::GroupNo;
 use model::Message;
 use model::Node;
-use model::Status;
 use model::Table;
 use model::TaskNo;
+use number_bytes::four;
+use number_bytes::from;
+use number_bytes::one;
+use number_bytes::put_four;
+use number_bytes::put_one;
+use number_bytes::put_two;
+use number_bytes::status_number;
+use number_bytes::status_of;
+use number_bytes::two;
+use number_bytes::yes_number;
 ghost use mathlib.Core.Path.{_≡_};
 ghost use Prim.Native.Nat.{_≤_};
-ghost use lib.ListN.{getD, drop, set};
-ghost use Rattle.model.specs.Answers.{statusNumber};
+ghost use Rattle.number_bytes.specs.Bytes.{bytes, many, all, written};
 ghost use Rattle.table_bytes.specs.Bytes as spec;
 
 // How long a table's bytes are, and those of eight records.
@@ -51,56 +59,6 @@ fn parts_with(tag: u8, set: u16, former: u16, node: u8, caller: u8, call: u32) -
 }
 
 // ── reading ──
-
-// The byte at k, or 0 past the end.
-fn byte(s: &[u8], k: usize) -> u8
-    ensures { λ r. ⌜ r ≡ getD (now (s .entry)) k 0 ⌝ }
-{
-    if k < s.len() { s[k] } else { 0 }
-}
-
-// The number of one byte, of two, of four.
-fn one(s: &[u8], k: usize) -> u8
-    ensures { λ r. ⌜ r ≡ spec.number 1 (now (s .entry)) k ⌝ }
-{
-    byte(s, k)
-}
-
-fn two(s: &[u8], k: usize) -> u16
-    requires { ⌜ k ≤ 64 ⌝ }
-    ensures { λ r. ⌜ r ≡ spec.number 2 (now (s .entry)) k ⌝ }
-{
-    (byte(s, k) as u16) * 256 + byte(s, k + 1) as u16
-}
-
-fn four(s: &[u8], k: usize) -> u32
-    requires { ⌜ k ≤ 32 ⌝ }
-    ensures { λ r. ⌜ r ≡ spec.number 4 (now (s .entry)) k ⌝ }
-{
-    (two(s, k) as u32) * 65536 + two(s, k + 2) as u32
-}
-
-// What of s stands from at on: nothing, past the end.
-fn from(s: &[u8], at: usize) -> &[u8]
-    ensures { λ r. ⌜ now r ≡ drop at (now (s .entry)) ⌝ }
-{
-    if s.len() < at {
-        return &s[s.len()..];
-    }
-    &s[at..]
-}
-
-fn status_of(x: u8) -> Status
-    ensures { λ r. ⌜ r ≡ spec.statusOf x ⌝ }
-{
-    let k = x % 4;
-    match k {
-        0 => Status::Down,
-        1 => Status::Election,
-        2 => Status::Reorganization,
-        3..=255 => Status::Normal,
-    }
-}
 
 fn activity_of(p: Parts) -> Activity
     ensures { λ r. ⌜ r ≡ spec.activityOf p ⌝ }
@@ -188,7 +146,7 @@ fn message_of(s: &[u8]) -> Message
 
 // The nodes whose records start s.
 fn nodes_of(s: &[u8]) -> [Node; 16]
-    ensures { λ r. ⌜ r ≡ spec.many spec.nodeOf 29 16 (now (s .entry)) ⌝ }
+    ensures { λ r. ⌜ r ≡ many spec.nodeOf 29 16 (now (s .entry)) ⌝ }
 {
     let first = node_of(s);
     let mut all = [first; 16];
@@ -203,7 +161,7 @@ fn nodes_of(s: &[u8]) -> [Node; 16]
 
 // The messages whose records start s.
 fn messages_of(s: &[u8]) -> [Message; 64]
-    ensures { λ r. ⌜ r ≡ spec.many spec.messageOf 14 64 (now (s .entry)) ⌝ }
+    ensures { λ r. ⌜ r ≡ many spec.messageOf 14 64 (now (s .entry)) ⌝ }
 {
     let first = message_of(s);
     let mut all = [first; 64];
@@ -218,7 +176,7 @@ fn messages_of(s: &[u8]) -> [Message; 64]
 
 // The counts whose bytes start s.
 fn counts_of(s: &[u8]) -> [u32; 256]
-    ensures { λ r. ⌜ r ≡ spec.many spec.countOf 4 256 (now (s .entry)) ⌝ }
+    ensures { λ r. ⌜ r ≡ many spec.countOf 4 256 (now (s .entry)) ⌝ }
 {
     let mut all: [u32; 256] = [0; 256];
     let mut i: usize = 0;
@@ -248,48 +206,6 @@ pub fn decode(bytes: &[u8]) -> Table
 
 // ── writing: a byte past the end is not written ──
 
-fn put(out: &mut [u8], at: usize, b: u8)
-    ensures { λ _. ⌜ now (out .exit) ≡ set (now (out .entry)) at b ⌝ }
-{
-    if at < out.len() {
-        out[at] = b;
-    }
-}
-
-// A number of one byte, of two, of four.
-fn put_one(out: &mut [u8], at: usize, x: u8)
-    ensures { λ _. ⌜ now (out .exit) ≡ spec.written (now (out .entry)) at (spec.bytes 1 x) ⌝ }
-{
-    put(out, at, x)
-}
-
-fn put_two(out: &mut [u8], at: usize, x: u16)
-    requires { ⌜ at ≤ 5000 ⌝ }
-    ensures { λ _. ⌜ now (out .exit) ≡ spec.written (now (out .entry)) at (spec.bytes 2 x) ⌝ }
-{
-    put(out, at, (x / 256) as u8);
-    put(out, at + 1, (x % 256) as u8)
-}
-
-fn put_four(out: &mut [u8], at: usize, x: u32)
-    requires { ⌜ at ≤ 4900 ⌝ }
-    ensures { λ _. ⌜ now (out .exit) ≡ spec.written (now (out .entry)) at (spec.bytes 4 x) ⌝ }
-{
-    put_two(out, at, (x / 65536) as u16);
-    put_two(out, at + 2, (x % 65536) as u16)
-}
-
-fn status_number(s: Status) -> u8
-    ensures { λ r. ⌜ r ≡ statusNumber s ⌝ }
-{
-    match s {
-        Status::Down => 0,
-        Status::Election => 1,
-        Status::Reorganization => 2,
-        Status::Normal => 3,
-    }
-}
-
 fn parts_of(a: Activity) -> Parts
     ensures { λ r. ⌜ r ≡ spec.partsOf a ⌝ }
 {
@@ -311,15 +227,9 @@ fn parts_of(a: Activity) -> Parts
     }
 }
 
-fn yes_number(yes: bool) -> u8
-    ensures { λ r. ⌜ r ≡ spec.yesNumber yes ⌝ }
-{
-    if yes { 1 } else { 0 }
-}
-
 fn put_parts(out: &mut [u8], at: usize, p: Parts)
     requires { ⌜ at ≤ 3000 ⌝ }
-    ensures { λ _. ⌜ now (out .exit) ≡ spec.written (now (out .entry)) at (spec.partsBytes p) ⌝ }
+    ensures { λ _. ⌜ now (out .exit) ≡ written (now (out .entry)) at (spec.partsBytes p) ⌝ }
 {
     put_one(out, at, p.tag);
     put_two(out, at + 1, p.set);
@@ -331,7 +241,7 @@ fn put_parts(out: &mut [u8], at: usize, p: Parts)
 
 fn put_node(out: &mut [u8], at: usize, node: Node)
     requires { ⌜ at ≤ 2000 ⌝ }
-    ensures { λ _. ⌜ now (out .exit) ≡ spec.written (now (out .entry)) at (spec.nodeBytes node) ⌝ }
+    ensures { λ _. ⌜ now (out .exit) ≡ written (now (out .entry)) at (spec.nodeBytes node) ⌝ }
 {
     let status = node.status;
     let group = node.group;
@@ -352,7 +262,7 @@ fn put_node(out: &mut [u8], at: usize, node: Node)
 
 fn put_message(out: &mut [u8], at: usize, m: Message)
     requires { ⌜ at ≤ 2000 ⌝ }
-    ensures { λ _. ⌜ now (out .exit) ≡ spec.written (now (out .entry)) at (spec.messageBytes m) ⌝ }
+    ensures { λ _. ⌜ now (out .exit) ≡ written (now (out .entry)) at (spec.messageBytes m) ⌝ }
 {
     let call = m.call;
     let group = m.group;
@@ -368,7 +278,7 @@ fn put_message(out: &mut [u8], at: usize, m: Message)
 }
 
 fn put_nodes(out: &mut [u8], t: Table)
-    ensures { λ _. ⌜ now (out .exit) ≡ spec.written (now (out .entry)) 1 (spec.all spec.nodeBytes (t .nodes)) ⌝ }
+    ensures { λ _. ⌜ now (out .exit) ≡ written (now (out .entry)) 1 (all spec.nodeBytes (t .nodes)) ⌝ }
 {
     let mut i: usize = 0;
     while i < 16 {
@@ -379,7 +289,7 @@ fn put_nodes(out: &mut [u8], t: Table)
 }
 
 fn put_messages(out: &mut [u8], t: Table)
-    ensures { λ _. ⌜ now (out .exit) ≡ spec.written (now (out .entry)) 465 (spec.all spec.messageBytes (t .messages)) ⌝ }
+    ensures { λ _. ⌜ now (out .exit) ≡ written (now (out .entry)) 465 (all spec.messageBytes (t .messages)) ⌝ }
 {
     let mut i: usize = 0;
     while i < 64 {
@@ -391,7 +301,7 @@ fn put_messages(out: &mut [u8], t: Table)
 
 fn put_counts(out: &mut [u8], at: usize, counts: [u32; 256])
     requires { ⌜ at ≤ 3500 ⌝ }
-    ensures { λ _. ⌜ now (out .exit) ≡ spec.written (now (out .entry)) at (spec.all (spec.bytes 4) counts) ⌝ }
+    ensures { λ _. ⌜ now (out .exit) ≡ written (now (out .entry)) at (all (bytes 4) counts) ⌝ }
 {
     let mut i: usize = 0;
     while i < 256 {

@@ -1,6 +1,6 @@
 -- Each part is written where the one before it ends, and the table fits.
 use Rattle.table_bytes.specs.Bytes.{encoded}
-use Rattle.table_bytes.proofs.Numbers.{length-bytes, then}
+use Rattle.number_bytes.proofs.Numbers.{length-bytes, then}
 use Rattle.table_bytes.proofs.Records.{lengths, nodes-end, messages-end, waiting-end, sent-end, delivered-end}
 use Rattle.table_bytes.proofs.Widths.{table-fits}
 use Rattle.table_bytes.proofs.RoundTrip.{stored}

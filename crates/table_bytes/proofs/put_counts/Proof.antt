@@ -4,9 +4,9 @@ use Prim.Native.Nat.{_+_, _-_, _*_, _≤_}
 use mathlib.Core.Path.{_≡_, refl, sym, _∙_}
 use native.Mathlib.Omega.{arith}
 use lib.ListN.{length, drop}
-use Rattle.table_bytes.specs.Bytes.{bytes, written, all}
-use Rattle.table_bytes.proofs.Numbers.{length-bytes}
-use Rattle.table_bytes.proofs.Records.{all-turn, all-end}
+use Rattle.number_bytes.specs.Bytes.{bytes, written, all}
+use Rattle.number_bytes.proofs.Numbers.{length-bytes}
+use Rattle.number_bytes.proofs.Records.{all-turn, all-end}
 use Rattle.table_bytes.proofs.put_counts.Statement.{statement}
 use Rattle.table_bytes.proofs.put_counts.Tie as tie
 

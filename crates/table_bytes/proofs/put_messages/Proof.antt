@@ -4,8 +4,10 @@ use Prim.Native.Nat.{_+_, _-_, _*_, _≤_}
 use mathlib.Core.Path.{_≡_, refl, sym, _∙_}
 use native.Mathlib.Omega.{arith}
 use lib.ListN.{length, drop}
-use Rattle.table_bytes.specs.Bytes.{written, all, messageBytes}
-use Rattle.table_bytes.proofs.Records.{all-turn, all-end, message-long}
+use Rattle.number_bytes.specs.Bytes.{written, all}
+use Rattle.table_bytes.specs.Bytes.{messageBytes}
+use Rattle.number_bytes.proofs.Records.{all-turn, all-end}
+use Rattle.table_bytes.proofs.Records.{message-long}
 use Rattle.table_bytes.proofs.Widths.{table-fits}
 use Rattle.table_bytes.proofs.put_messages.Statement.{statement}
 use Rattle.table_bytes.proofs.put_messages.Tie as tie

@@ -1,8 +1,9 @@
 -- Each field is written where the one before it ends.
 use mathlib.Core.Path.{refl}
 use native.Mathlib.Omega.{arith}
-use Rattle.table_bytes.specs.Bytes.{bytes, nodeBytes, partsBytes}
-use Rattle.table_bytes.proofs.Numbers.{then}
+use Rattle.number_bytes.specs.Bytes.{bytes}
+use Rattle.table_bytes.specs.Bytes.{nodeBytes, partsBytes}
+use Rattle.number_bytes.proofs.Numbers.{then}
 use borrow.Author.Needs.{needs}
 use Rattle.table_bytes.proofs.put_node.Statement.{statement}
 use Rattle.table_bytes.proofs.put_node.Tie as tie

@@ -1,8 +1,8 @@
 -- The high byte comes first.
-use Rattle.table_bytes.proofs.Numbers.{two-is}
+use Rattle.number_bytes.proofs.Numbers.{two-is}
 use borrow.Author.Needs.{needs}
-use Rattle.table_bytes.proofs.two.Statement.{statement}
-use Rattle.table_bytes.proofs.two.Tie as tie
+use Rattle.number_bytes.proofs.two.Statement.{statement}
+use Rattle.number_bytes.proofs.two.Tie as tie
 
 returns : tie.Need-returns
 returns c = rw (two-is, c .byte2 .ensures, c .before .byte .ensures)

@@ -1,9 +1,9 @@
 -- The byte of one byte is the number.
-use Rattle.table_bytes.proofs.Numbers.{one-bytes}
-use Rattle.table_bytes.specs.Bytes.{written}
+use Rattle.number_bytes.proofs.Numbers.{one-bytes}
+use Rattle.number_bytes.specs.Bytes.{written}
 use borrow.Author.Needs.{needs}
-use Rattle.table_bytes.proofs.put_one.Statement.{statement}
-use Rattle.table_bytes.proofs.put_one.Tie as tie
+use Rattle.number_bytes.proofs.put_one.Statement.{statement}
+use Rattle.number_bytes.proofs.put_one.Tie as tie
 
 returns : tie.Need-returns
 unfolding written

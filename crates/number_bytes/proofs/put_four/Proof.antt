@@ -1,8 +1,8 @@
 -- The high half comes first.
-use Rattle.table_bytes.proofs.Numbers.{four-bytes, length-bytes, written-append}
+use Rattle.number_bytes.proofs.Numbers.{four-bytes, length-bytes, written-append}
 use borrow.Author.Needs.{needs}
-use Rattle.table_bytes.proofs.put_four.Statement.{statement}
-use Rattle.table_bytes.proofs.put_four.Tie as tie
+use Rattle.number_bytes.proofs.put_four.Statement.{statement}
+use Rattle.number_bytes.proofs.put_four.Tie as tie
 
 returns : tie.Need-returns
 returns c =

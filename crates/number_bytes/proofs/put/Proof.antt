@@ -3,8 +3,8 @@ use mathlib.Core.Path.{sym}
 use denote.Ref.{now}
 use lib.Seq.{set-out}
 use borrow.Author.Needs.{needs}
-use Rattle.table_bytes.proofs.put.Statement.{statement}
-use Rattle.table_bytes.proofs.put.Tie as tie
+use Rattle.number_bytes.proofs.put.Statement.{statement}
+use Rattle.number_bytes.proofs.put.Tie as tie
 
 pub put-spec : {M : Type 1} → statement M
 put-spec =

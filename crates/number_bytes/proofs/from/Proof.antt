@@ -6,8 +6,8 @@ use denote.Ref.{now}
 use lib.ListN.{length, drop, length-drop, drop-of-length-le}
 use lib.Seq.{take-all}
 use borrow.Author.Needs.{needs}
-use Rattle.table_bytes.proofs.from.Statement.{statement}
-use Rattle.table_bytes.proofs.from.Tie as tie
+use Rattle.number_bytes.proofs.from.Statement.{statement}
+use Rattle.number_bytes.proofs.from.Tie as tie
 
 returns : tie.Need-returns
 returns c =

@@ -8,7 +8,7 @@ use mathlib.Core.Path.{_≡_, refl, sym, _∙_, ap}
 use mathlib.Core.List.{List, [], _∷_, _++_}
 use lib.ListN.{length, getD, drop, set}
 use lib.Seq.{getD-append-add, sets, sets-eq}
-use Rattle.table_bytes.specs.Bytes.{number, bytes, written}
+use Rattle.number_bytes.specs.Bytes.{number, bytes, written}
 
 -- ── reading ──
 
@@ -111,3 +111,7 @@ number-bytes (suc k) x =
 -- a number is read back from its k bytes
 pub read : (k x : ℕ) → x < 256 ^ k → number k (bytes k x) 0 ≡ x
 read k x h = number-bytes k x ∙ mod-eq-of-lt h
+
+pub one-back : (x : ℕ) → x < 256 → (l : List ℕ) → number 1 (bytes 1 x ++ l) 0 ≡ x
+unfolding number bytes
+one-back x h l = read 1 x h

@@ -1,9 +1,9 @@
 -- Each remainder is its case of the definition.
 use borrow.Author.Tests.{ne-eqb}
 use Rattle.model.specs.Pick.{pick}
-use Rattle.table_bytes.specs.Bytes.{statusOf}
-use Rattle.table_bytes.proofs.status_of.Statement.{statement}
-use Rattle.table_bytes.proofs.status_of.Tie as tie
+use Rattle.number_bytes.specs.Bytes.{statusOf}
+use Rattle.number_bytes.proofs.status_of.Statement.{statement}
+use Rattle.number_bytes.proofs.status_of.Tie as tie
 
 pub status-of-spec : {M : Type 1} → statement M
 unfolding statusOf pick

@@ -3,8 +3,8 @@ use mathlib.Core.Path.{sym}
 use denote.Ref.{now}
 use lib.ListN.{List·getD-eq-default}
 use borrow.Author.Needs.{needs}
-use Rattle.table_bytes.proofs.byte.Statement.{statement}
-use Rattle.table_bytes.proofs.byte.Tie as tie
+use Rattle.number_bytes.proofs.byte.Statement.{statement}
+use Rattle.number_bytes.proofs.byte.Tie as tie
 
 pub byte-spec : {M : Type 1} → statement M
 byte-spec =

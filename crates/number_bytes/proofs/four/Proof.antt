@@ -1,8 +1,8 @@
 -- The high half comes first.
-use Rattle.table_bytes.proofs.Numbers.{four-is}
+use Rattle.number_bytes.proofs.Numbers.{four-is}
 use borrow.Author.Needs.{needs}
-use Rattle.table_bytes.proofs.four.Statement.{statement}
-use Rattle.table_bytes.proofs.four.Tie as tie
+use Rattle.number_bytes.proofs.four.Statement.{statement}
+use Rattle.number_bytes.proofs.four.Tie as tie
 
 returns : tie.Need-returns
 returns c = rw (four-is, c .two2 .ensures, c .before .two .ensures)

@@ -1,9 +1,9 @@
 -- The high byte comes first.
-use Rattle.table_bytes.proofs.Numbers.{two-bytes}
-use Rattle.table_bytes.specs.Bytes.{written}
+use Rattle.number_bytes.proofs.Numbers.{two-bytes}
+use Rattle.number_bytes.specs.Bytes.{written}
 use borrow.Author.Needs.{needs}
-use Rattle.table_bytes.proofs.put_two.Statement.{statement}
-use Rattle.table_bytes.proofs.put_two.Tie as tie
+use Rattle.number_bytes.proofs.put_two.Statement.{statement}
+use Rattle.number_bytes.proofs.put_two.Tie as tie
 
 returns : tie.Need-returns
 unfolding written

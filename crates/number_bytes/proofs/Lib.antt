@@ -1,0 +1,4 @@
+-- Laws of numbers and records as bytes, from the bottom up.
+pub mod Numbers
+pub mod Records
+pub mod Widths
