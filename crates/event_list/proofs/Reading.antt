@@ -1,8 +1,8 @@
 -- Laws of the definitions for a loop that reads a list: where the next field starts, what is left there, and that the count of fields in `rest` never ends a list.
-use Prim.Native.Nat.{ℕ, zero, suc, _+_, _-_, _*_, _≤_, _<_}
+use Prim.Native.Nat.{ℕ, zero, suc, _+_, _*_, _≤_, _<_}
 use native.Mathlib.Omega.{arith}
 use mathlib.Core.Path.{_≡_, refl, sym, _∙_, subst}
-use mathlib.Core.Bool.{Bool, true, false, not, _&&_, _||_}
+use mathlib.Core.Bool.{Bool, true, false, not, _&&_}
 use mathlib.Core.List.{List}
 use lib.ListN.{length, getD}
 use lib.Dec.{eqb, leb, ltb}
@@ -17,7 +17,7 @@ use Rattle.event_list.specs.declared.First.{First}
 use Rattle.event_list.specs.declared.First.the-variants as First
 use Rattle.event_list.specs.Format.{maxBytes, between, tagAt, lengthAt, contentsAt, behind, firstTag, eventTag, lengthOf, cutShort, checked, nextAt, nodesOf, firstOf, Ending, complete, stopped, ended, after, onward, readFrom, rest, failed, begun, reading}
 use Rattle.event_list.specs.Claims.{ReadsAll}
-use Rattle.event_list.proofs.Fields.{next-end}
+use Rattle.event_list.proofs.Fields.{uncut, next-end}
 
 -- Tests taken apart.
 unlike : true ≡ false → ⊥
@@ -26,10 +26,6 @@ unlike e = let z : _≡_ {A = ℕ} 0 1 = cc in omega arith
 both : (p q : Bool) → (p && q) ≡ true → (p ≡ true) × (q ≡ true)
 both true q e = (refl, e)
 both false q e = absurd (unlike (sym e))
-
-neither : (p q : Bool) → (p || q) ≡ false → (p ≡ false) × (q ≡ false)
-neither false q e = (refl, e)
-neither true q e = absurd (unlike e)
 
 within : (a b x : ℕ) → between a b x ≡ true → (a ≤ x) × (x ≤ b)
 within a b x e = let h = both (leb a x) (leb x b) e in (leb-true a x (h .0), leb-true x b (h .1))
@@ -59,15 +55,6 @@ some-length t h k =
 one-length : lengthOf 0x01 ≡ 1
 unfolding lengthOf pick
 one-length = refl
-
--- A field that is not cut short lies within the list.
-uncut : (l : List ℕ) (at : ℕ) → cutShort l at ≡ false → behind l at ≤ length l
-unfolding cutShort
-uncut l at e =
-    let f = neither (ltb (length l - at) 3) (ltb (length l - (at + 3)) (lengthAt l at)) e in
-    let h = ltb-false (length l - at) 3 (f .0) in
-    let k = ltb-false (length l - (at + 3)) (lengthAt l at) (f .1) in
-    omega arith
 
 -- what is known of where the next field starts
 abbrev Past : List ℕ → ℕ → Next → Type 0

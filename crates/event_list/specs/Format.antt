@@ -11,6 +11,8 @@ use Rattle.model.specs.declared.Event.{Event}
 use Rattle.model.specs.declared.Event.the-variants.{Crash, Recover, Check, Timeout, Tick, Expire, Finish, Deliver, Lose}
 use Rattle.event_list.specs.declared.Stop.{Stop}
 use Rattle.event_list.specs.declared.Stop.the-variants.{TooLong, CutShort, WrongTag, WrongLength, WrongCount}
+use Rattle.event_list.specs.declared.Field.{Field}
+use Rattle.event_list.specs.declared.Field.the-variants as Field
 use Rattle.event_list.specs.declared.Next.{Next}
 use Rattle.event_list.specs.declared.Next.the-variants as Next
 use Rattle.event_list.specs.declared.First.{First}
@@ -73,15 +75,22 @@ lengthOf t =
 unfoldable pub cutShort : List ℕ → ℕ → Bool
 cutShort l at = ltb (length l - at) 3 || ltb (length l - (at + 3)) (lengthAt l at)
 
--- the grounds of "a field", "Checked from the top; the first that applies is given"; `fits` says which tags may stand there
-unfoldable pub checked : {A : Type 0} → (ℕ → Bool) → List ℕ → ℕ → (Stop → A) → A → A
-checked fits l at stop good =
+-- what stands at an offset, by the bytes that are left: nothing, too few for a field, or its tag and where its contents start and end
+unfoldable pub fieldAt : List ℕ → ℕ → Field
+fieldAt l at =
+    pick (leb (length l) at) Field.End
+    (pick (cutShort l at) Field.Short
+    (Field.Whole (tagAt l at) (at + 3) (behind l at)))
+
+-- the grounds of "a field", "Checked from the top; the first that applies is given"; `fits` says which tags may stand there, and `long` which length goes with a tag
+unfoldable pub checked : {A : Type 0} → (ℕ → Bool) → (ℕ → ℕ) → List ℕ → ℕ → (Stop → A) → A → A
+checked fits long l at stop good =
     -- 3
     pick (cutShort l at) (stop CutShort)
     -- 4: "unknown tag, 0x01 not first, or another tag first"
     (pick (not (fits (tagAt l at))) (stop WrongTag)
     -- 5: "length wrong for the tag"
-    (pick (not (eqb (lengthAt l at) (lengthOf (tagAt l at)))) (stop WrongLength)
+    (pick (not (eqb (lengthAt l at) (long (tagAt l at)))) (stop WrongLength)
     good))
 
 -- "two-byte task, high byte first"
@@ -105,7 +114,7 @@ eventOf t c =
 unfoldable pub nextAt : List ℕ → ℕ → Next
 nextAt l at =
     pick (leb (length l) at) Next.Done
-    (checked eventTag l at Next.Stopped (Next.Got (eventOf (tagAt l at) (contentsAt l at)) (behind l at)))
+    (checked eventTag lengthOf l at Next.Stopped (Next.Got (eventOf (tagAt l at) (contentsAt l at)) (behind l at)))
 
 -- ground 6: "n outside 1 to 16"
 unfoldable pub nodesOf : ℕ → First
@@ -115,7 +124,7 @@ nodesOf n = pick (between 1 nodeLimit n) (First.Nodes n) (First.Stopped WrongCou
 unfoldable pub firstOf : List ℕ → First
 firstOf l =
     pick (ltb maxBytes (length l)) (First.Stopped TooLong)
-    (checked firstTag l 0 First.Stopped (nodesOf (getD (contentsAt l 0) 0 0)))
+    (checked firstTag lengthOf l 0 First.Stopped (nodesOf (getD (contentsAt l 0) 0 0)))
 
 -- how a list ends: at its end, or "at the offset b of its field's tag" by a refusal
 pub data Ending : Type 0 where

@@ -1,35 +1,17 @@
 -- What the reader's inner functions answer. No promise of a public function needs this file.
-use mathlib.Core.Path.{_≡_}
-use mathlib.Core.Bool.{true, false, not}
+use mathlib.Core.Bool.{not}
 use mathlib.Core.List.{List}
-use Prim.Native.Nat.{ℕ, _+_, _≤_, _<_}
+use Prim.Native.Nat.{ℕ}
 use lib.ListN.{length, getD}
 use lib.Dec.{eqb}
 use Rattle.model.specs.Pick.{pick}
 use Rattle.model.specs.declared.Event.{Event}
 use Rattle.event_list.specs.declared.Stop.the-variants.{WrongTag, WrongLength}
-use Rattle.event_list.specs.declared.Field.{Field}
-use Rattle.event_list.specs.declared.Field.the-variants as Field
 use Rattle.event_list.specs.declared.Next.{Next}
 use Rattle.event_list.specs.declared.Next.the-variants as Next
 use Rattle.event_list.specs.declared.First.{First}
 use Rattle.event_list.specs.declared.First.the-variants as First
-use Rattle.event_list.specs.Format.{tagAt, behind, firstTag, eventTag, lengthOf, cutShort, eventOf, nodesOf}
-
--- a field that is there whole: its tag, and where its contents start and end
-pub record Found (l : List ℕ) (at t s e : ℕ) : Type 0 where
-  pub more : at < length l
-  pub uncut : cutShort l at ≡ false
-  pub tag : t ≡ tagAt l at
-  pub start : s ≡ at + 3
-  pub end : e ≡ behind l at
-  pub inside : e ≤ length l
-
--- what an answer of `field_at` says
-abbrev pub Seen : List ℕ → ℕ → Field → Type 0
-Seen l at Field.End = length l ≤ at
-Seen l at Field.Short = (at < length l) × (cutShort l at ≡ true)
-Seen l at (Field.Whole t s e) = Found l at t s e
+use Rattle.event_list.specs.Format.{firstTag, eventTag, lengthOf, eventOf, nodesOf}
 
 -- ground 5 of an event's field
 unfoldable pub sized : ℕ → ℕ → Event → ℕ → Next

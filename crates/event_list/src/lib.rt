@@ -6,8 +6,8 @@ use number_bytes::byte;
 ghost use mathlib.Core.Path.{_≡_};
 ghost use Prim.Native.Nat.{_+_, _≤_, _<_};
 ghost use lib.ListN.{length};
-ghost use Rattle.event_list.specs.Format.{twoBytes, lengthAt, taskOf, stopNumber, nodesOf, firstOf, nextAt};
-ghost use Rattle.event_list.specs.Parts.{Seen, sized, decoded, firstIn};
+ghost use Rattle.event_list.specs.Format.{twoBytes, lengthAt, taskOf, stopNumber, nodesOf, firstOf, fieldAt, nextAt};
+ghost use Rattle.event_list.specs.Parts.{sized, decoded, firstIn};
 
 // Why a list ends before its end. 01's numbers are given by `stopNumber`.
 pub enum Stop {
@@ -32,7 +32,7 @@ pub enum First {
 }
 
 // What stands at an offset: nothing, too few bytes for a field, or a field whose contents are list[start..end].
-enum Field {
+pub enum Field {
     End,
     Short,
     Whole { tag: u8, start: usize, end: usize },
@@ -63,7 +63,8 @@ fn two_bytes(high: u8, low: u8) -> u16
     (high as u16) * 256 + low as u16
 }
 
-fn task_of(high: u8, low: u8) -> TaskNo
+// The task of two bytes.
+pub fn task_of(high: u8, low: u8) -> TaskNo
     ensures { λ r. ⌜ r ≡ taskOf high low ⌝ }
 {
     TaskNo {
@@ -80,8 +81,8 @@ fn length_at(list: &[u8], at: usize) -> usize
 }
 
 // The field whose tag stands at an offset, by the bytes that are left.
-fn field_at(list: &[u8], at: usize) -> Field
-    ensures { λ r. ⌜ Seen (now (list .entry)) at r ⌝ }
+pub fn field_at(list: &[u8], at: usize) -> Field
+    ensures { λ r. ⌜ r ≡ fieldAt (now (list .entry)) at ⌝ }
 {
     if list.len() <= at {
         return Field::End;

@@ -1,25 +1,25 @@
 -- The claims of the step on bytes.
-use Prim.Native.Nat.{ℕ, suc, _+_, _-_, _≤_, _<_}
+use Prim.Native.Nat.{ℕ, _≤_, _<_}
 use native.Mathlib.Omega.{arith}
-use mathlib.Core.Bool.{Bool, true, false, _||_, true≢false}
-use mathlib.Core.Path.{_≡_, refl, sym, _∙_, ap}
-use mathlib.Core.List.{List, [], _∷_, _++_}
-use lib.Dec.{eqb, ltb}
-use lib.ListN.{length, take, drop, length-append}
-use lib.Seq.{take-append-le, drop-at}
-use borrow.Author.Tests.{lt-leb, lt-ltb, le-ltb, ltb-true, ltb-false, eqb-true, ne-eqb}
+use mathlib.Core.Bool.{true, false}
+use mathlib.Core.Path.{_≡_, refl, ap}
+use mathlib.Core.List.{List, [], _++_}
+use lib.ListN.{length, drop, length-append}
+use lib.Seq.{drop-at}
+use borrow.Author.Tests.{lt-leb, lt-ltb, le-ltb, ltb-true, eqb-true, ne-eqb}
 use Rattle.model.specs.Pick.{pick, pick-true, pick-false, by-test}
 use Rattle.model.specs.State.{State, noMessage, startingNode, inRange, tableOf}
 use Rattle.model.proofs.Refusals.{refuses-by-ground, result-small}
 use Rattle.model.proofs.InRange.{stays-in-range}
 use Rattle.model.proofs.Fields.{in-range-places}
 use Rattle.model.proofs.Lists.{first-length}
-use Rattle.event_list.specs.Format.{twoBytes, stopNumber, lengthOf, cutShort, checked, nextAt}
+use Rattle.event_list.specs.Format.{stopNumber, eventTag, lengthOf, cutShort, checked, eventOf, nextAt}
+use Rattle.event_list.proofs.Fields.{uncut, checked-alone}
 use Rattle.event_list.specs.declared.Stop.{Stop}
 use Rattle.event_list.specs.declared.Stop.the-variants.{TooLong, CutShort, WrongTag, WrongLength, WrongCount}
 use Rattle.event_list.specs.declared.Next.{Next}
 use Rattle.event_list.specs.declared.Next.the-variants.{Done, Stopped, Got}
-use Rattle.table_bytes.specs.Bytes.{size, encoded}
+use Rattle.table_bytes.specs.Bytes.{size}
 use Rattle.table_bytes.proofs.Records.{encoded-size}
 use Rattle.exports.specs.Boundary.{stateOf, stateBytes, fieldNumber, fieldAfter, stepNumber, stepBytes}
 use Rattle.exports.specs.Claims.{StepClaims}
@@ -65,29 +65,12 @@ state-long s h =
 
 -- ── bytes behind a field ──
 
-module _ (a b c : ℕ) where
-  uncut : (r : List ℕ) → twoBytes b c ≤ length r → cutShort (a ∷ b ∷ c ∷ r) 0 ≡ false
-  unfolding cutShort
-  uncut r h = rw (le-ltb (suc (suc (suc (length r))) - 0) 3 (omega arith), le-ltb (suc (suc (suc (length r))) - 3) (twoBytes b c) (omega arith))
-
-  fits : (r : List ℕ) → cutShort (a ∷ b ∷ c ∷ r) 0 ≡ false → twoBytes b c ≤ length r
-  unfolding cutShort
-  fits r e =
-      let k = ltb-false (suc (suc (suc (length r))) - 3) (twoBytes b c) (rw (le-ltb (suc (suc (suc (length r))) - 0) 3 (omega arith)) at e) in
-      omega arith
-
-  same-next : (r g : List ℕ) → twoBytes b c ≤ length r → nextAt (a ∷ b ∷ c ∷ (r ++ g)) 0 ≡ nextAt (a ∷ b ∷ c ∷ r) 0
-  unfolding nextAt checked
-  same-next r g h =
-      let l : twoBytes b c ≤ length (r ++ g) = simp length-append (omega arith) in
-      rw (lt-leb (suc (suc (suc (length r)))) 0 (omega arith), lt-leb (suc (suc (suc (length (r ++ g))))) 0 (omega arith), uncut r h, uncut (r ++ g) l, take-append-le (twoBytes b c) r g h)
-
 same-field : (f g : List ℕ) → cutShort f 0 ≡ false → nextAt (f ++ g) 0 ≡ nextAt f 0
-unfolding cutShort
-same-field [] g h = absurd (true≢false h)
-same-field (a ∷ []) g h = absurd (true≢false h)
-same-field (a ∷ b ∷ []) g h = absurd (true≢false h)
-same-field (a ∷ b ∷ c ∷ r) g h = same-next a b c r g (fits a b c r h)
+unfolding nextAt
+same-field f g h =
+    let k = uncut f 0 h in
+    let l : 3 ≤ length (f ++ g) = simp length-append (omega arith) in
+    rw (lt-leb (length f) 0 (omega arith), lt-leb (length (f ++ g)) 0 (omega arith)) (ap (pick false Done) (checked-alone eventTag lengthOf Stopped (λ t c n. Got (eventOf t c) n) f g h))
 
 -- ── the claims ──
 

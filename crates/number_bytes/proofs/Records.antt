@@ -12,7 +12,7 @@ use Rattle.model.specs.Pick.{pick}
 use Rattle.model.specs.Answers.{statusNumber}
 use Rattle.model.specs.declared.Status.{Status}
 use Rattle.model.specs.declared.Status.the-variants.{Down, Election, Reorganization, Normal}
-use Rattle.number_bytes.specs.Bytes.{number, bytes, many, all, Each, written, statusOf, yesOf, yesNumber}
+use Rattle.number_bytes.specs.Bytes.{many, all, Each, written, statusOf, yesOf, yesNumber}
 use Rattle.number_bytes.proofs.Numbers.{written-append}
 
 -- ── reading ──

@@ -2,7 +2,7 @@
 use mathlib.Core.Path.{sym, _∙_}
 use native.Mathlib.Omega.{arith}
 use borrow.Author.Needs.{needs}
-use Rattle.event_list.proofs.Fields.{next-end, next-short, next-whole}
+use Rattle.event_list.proofs.Fields.{seen, next-end, next-short, next-whole}
 use Rattle.event_list.proofs.event_at.Statement.{statement}
 use Rattle.event_list.proofs.event_at.Tie as tie
 
@@ -15,19 +15,19 @@ event-at-spec =
     (λ c. search needs)
     (λ c. search needs)
     (λ c.
-    let f = rw (c .before .tag .given .1) at (c .before .before .before .field-at .ensures) in
+    let f = seen _ _ (c .before .before .before .field-at .ensures) (c .before .tag .given .1) in
     omega arith)
     (λ c.
-    let f = rw (c .before .tag .given .1) at (c .before .before .before .field-at .ensures) in
+    let f = seen _ _ (c .before .before .before .field-at .ensures) (c .before .tag .given .1) in
     omega arith)
     (λ c.
-    let f = rw (c .before .tag .given .1) at (c .before .before .before .field-at .ensures) in
+    let f = seen _ _ (c .before .before .before .field-at .ensures) (c .before .tag .given .1) in
     omega arith)
     (λ c κs. search needs)
-    (λ c. sym (next-end _ _ (rw (c .enum-told .given .1) at (c .before .before .field-at .ensures))))
+    (λ c. sym (next-end _ _ (seen _ _ (c .before .before .field-at .ensures) (c .enum-told .given .1))))
     (λ c.
-    let h = rw (c .enum-told2 .given .1) at (c .before .before .field-at .ensures) in
+    let h = seen _ _ (c .before .before .field-at .ensures) (c .enum-told2 .given .1) in
     sym (next-short _ _ (h .0) (h .1)))
     (λ c.
     let g = c .before .before .before in
-    c .decode .ensures ∙ sym (next-whole _ _ _ _ _ (rw (g .tag .given .1) at (g .before .before .field-at .ensures)))))
+    c .decode .ensures ∙ sym (next-whole _ _ _ _ _ (seen _ _ (g .before .before .field-at .ensures) (g .tag .given .1)))))

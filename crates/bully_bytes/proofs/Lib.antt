@@ -1,0 +1,5 @@
+-- Laws of the byte form, from the bottom up, and of reading a field.
+pub mod Records
+pub mod Widths
+pub mod RoundTrip
+pub mod Reading
