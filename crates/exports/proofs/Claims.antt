@@ -1,12 +1,11 @@
 -- The claims of the step on bytes.
 use Prim.Native.Nat.{ℕ, _≤_, _<_}
 use native.Mathlib.Omega.{arith}
-use mathlib.Core.Bool.{true, false}
-use mathlib.Core.Path.{_≡_, refl, ap}
+use mathlib.Core.Bool.{true, false, not}
+use mathlib.Core.Path.{_≡_, _∙_, ap}
 use mathlib.Core.List.{List, [], _++_}
 use lib.ListN.{length, drop, length-append}
-use lib.Seq.{drop-at}
-use borrow.Author.Tests.{lt-leb, lt-ltb, le-ltb, ltb-true, eqb-true, ne-eqb}
+use borrow.Author.Tests.{lt-leb}
 use Rattle.model.specs.Pick.{pick, pick-true, pick-false, by-test}
 use Rattle.model.specs.State.{State, noMessage, startingNode, inRange, tableOf}
 use Rattle.model.proofs.Refusals.{refuses-by-ground, result-small}
@@ -23,6 +22,7 @@ use Rattle.table_bytes.specs.Bytes.{size}
 use Rattle.table_bytes.proofs.Records.{encoded-size}
 use Rattle.exports.specs.Boundary.{stateOf, stateBytes, fieldNumber, fieldAfter, stepNumber, stepBytes}
 use Rattle.exports.specs.Claims.{StepClaims}
+use Rattle.exports.proofs.Answering.{short-in, long-in, only-short-in, accepts-in, keeps-in, behind-in}
 
 -- ── no number of a refusal is 255 ──
 
@@ -75,39 +75,43 @@ same-field f g h =
 -- ── the claims ──
 
 module _ (t f b : List ℕ) where
+  -- where there is room
+  abbrev answer : ℕ
+  answer = pick (not (inRange (stateOf t))) 1 (fieldNumber (stateOf t) (nextAt f 0))
+
+  -- what an accepted event gives out
+  abbrev given : List ℕ
+  given = stateBytes (fieldAfter (stateOf t) (nextAt f 0))
+
   short : length b < size → stepNumber t f b ≡ 255
   unfolding stepNumber
-  short h = rw (lt-ltb (length b) size h, pick-true)
+  short = short-in size b answer
 
   not-in-range : size ≤ length b → inRange (stateOf t) ≡ false → stepNumber t f b ≡ 1
   unfolding stepNumber
-  not-in-range h q = rw (le-ltb (length b) size h, pick-false, q, pick-true)
+  not-in-range h q = long-in size b answer h ∙ rw (q, pick-true)
 
   long : size ≤ length b → inRange (stateOf t) ≡ true → stepNumber t f b ≡ fieldNumber (stateOf t) (nextAt f 0)
   unfolding stepNumber
-  long h q = rw (le-ltb (length b) size h, pick-false, q, pick-false)
+  long h q = long-in size b answer h ∙ rw (q, pick-false)
 
   only-short : stepNumber t f b ≡ 255 → length b < size
   unfolding stepNumber
-  only-short =
-      by-test (λ (n : ℕ). n ≡ 255 → length b < size) (λ q _. ltb-true (length b) size q) (λ _. by-test (λ (n : ℕ). n ≡ 255 → length b < size) (λ _ z. absurd (omega (arith, z))) (λ _ z. absurd (omega (arith, field-small (stateOf t) (nextAt f 0)))))
+  only-short = only-short-in size b answer (by-test (λ (n : ℕ). n < 255) (λ _. omega arith) (λ _. field-small (stateOf t) (nextAt f 0)))
 
   keeps : (stepNumber t f b ≡ 0 → ⊥) → stepBytes t f b ≡ b
   unfolding stepBytes
-  keeps h = rw (ne-eqb (stepNumber t f b) 0 h, pick-false)
+  keeps = keeps-in size b (stepNumber t f b) given
 
   -- accepted: the number is the field's
   accepts : stepNumber t f b ≡ 0 → fieldNumber (stateOf t) (nextAt f 0) ≡ 0
   unfolding stepNumber
-  accepts =
-      by-test (λ (n : ℕ). n ≡ 0 → fieldNumber (stateOf t) (nextAt f 0) ≡ 0) (λ _ z. absurd (omega (arith, z))) (λ _. by-test (λ (n : ℕ). n ≡ 0 → fieldNumber (stateOf t) (nextAt f 0) ≡ 0) (λ _ z. absurd (omega (arith, z))) (λ _ z. z))
+  accepts z =
+      by-test (λ (n : ℕ). n ≡ 0 → fieldNumber (stateOf t) (nextAt f 0) ≡ 0) (λ _ y. absurd (omega (arith, y))) (λ _ y. y) (accepts-in size b answer z)
 
   behind : drop size (stepBytes t f b) ≡ drop size b
   unfolding stepBytes
-  behind =
-      by-test (λ (l : List ℕ). drop size l ≡ drop size b)
-      (λ q. drop-at (stateBytes (fieldAfter (stateOf t) (nextAt f 0))) (drop size b) size (state-long _ (after-in-range (stateOf t) (nextAt f 0) (bad-at f 0) (accepts (eqb-true _ 0 q)))))
-      (λ _. refl)
+  behind = behind-in size b (stepNumber t f b) given (λ z. state-long _ (after-in-range (stateOf t) (nextAt f 0) (bad-at f 0) (accepts z)))
 
   no-event : (s : Stop) → size ≤ length b → inRange (stateOf t) ≡ true → nextAt f 0 ≡ Stopped s → (3 ≤ stepNumber t f b) × (stepNumber t f b ≤ 5)
   no-event s h g q = rw (long h g, q) (rw q at (bad-at f 0))

@@ -53,7 +53,7 @@ module _ {A : Type 0} (d : A) where
   again (suc n) [] = refl
   again (suc n) (x ∷ l) = ap (λ (r : List A). x ∷ r) (again n l)
 
-  first-again : (k n : ℕ) (l : List A) → length l ≡ k → firstOf n d (firstOf k d (firstOf n d l)) ≡ firstOf n d l
+  pub first-again : (k n : ℕ) (l : List A) → length l ≡ k → firstOf n d (firstOf k d (firstOf n d l)) ≡ firstOf n d l
   first-again k n l e = rw (← e) (again n l)
 
 -- the table of what t means, means the same

@@ -5,7 +5,6 @@ use mathlib.Core.Path.{_≡_, refl, sym, _∙_, ap}
 use mathlib.Core.Bool.{false}
 use mathlib.Core.List.{List, _++_}
 use lib.ListN.{length, drop}
-use lib.Seq.{drop-at}
 use borrow.Author.Tests.{not-true, lt-ltb, le-ltb, ltb-true, eq-eqb, ne-eqb}
 use Rattle.model.specs.Pick.{pick, pick-true, pick-false, by-test}
 use Rattle.model.specs.Recovery.{recoveryRecords}
@@ -31,6 +30,7 @@ use Rattle.number_bytes.proofs.Records.{all-long}
 use Rattle.table_bytes.proofs.Records.{node-long}
 use Rattle.exports.specs.Boundary.{stateOf, fieldNumber, fieldAfter, stepNumber, StepExported, recoveryNumber, recoveryBytes, RecoveryExported}
 use Rattle.exports.specs.Claims.{recoverField, RecoveryClaims}
+use Rattle.exports.proofs.Answering.{short-in, long-in, only-short-in, keeps-in, behind-in}
 
 -- ── the promise ──
 
@@ -42,11 +42,11 @@ module _ (t : List ℕ) (i : ℕ) (b : List ℕ) where
 
   too-short : length b < recordsSize → recoveryNumber t i b ≡ 255
   unfolding recoveryNumber
-  too-short h = rw (lt-ltb (length b) recordsSize h, pick-true)
+  too-short = short-in recordsSize b (resultNumber (step (stateOf t) (Recover i)))
 
   long : recordsSize ≤ length b → recoveryNumber t i b ≡ resultNumber (step (stateOf t) (Recover i))
   unfolding recoveryNumber
-  long h = rw (le-ltb (length b) recordsSize h, pick-false)
+  long = long-in recordsSize b (resultNumber (step (stateOf t) (Recover i)))
 
   pub short : length b < recordsSize → RecoveryExported t i b b 255
   short h = kept-by 255 (sym (too-short h)) (λ z. omega arith)
@@ -95,8 +95,7 @@ as-step t i b c h k =
 
 only-short : (t : List ℕ) (i : ℕ) (b : List ℕ) → recoveryNumber t i b ≡ 255 → length b < recordsSize
 unfolding recoveryNumber
-only-short t i b =
-    by-test (λ (n : ℕ). n ≡ 255 → length b < recordsSize) (λ q _. ltb-true (length b) recordsSize q) (λ _ z. absurd (omega (arith, z, result-small (stateOf t) (Recover i))))
+only-short t i b = only-short-in recordsSize b (resultNumber (step (stateOf t) (Recover i))) (omega (arith, result-small (stateOf t) (Recover i)))
 
 zero-accepts : (t : List ℕ) (i : ℕ) (b : List ℕ) → recoveryNumber t i b ≡ 0 → Accepts (stateOf t) (Recover i)
 unfolding recoveryNumber
@@ -116,11 +115,8 @@ recovery-claims =
     record {
       short = too-short;
       only-short = only-short;
-      keeps = λ t i b h. rw (ne-eqb (recoveryNumber t i b) 0 h, pick-false);
-      behind = λ t i b.
-          by-test (λ (l : List ℕ). drop recordsSize l ≡ drop recordsSize b)
-          (λ _. drop-at (all nodeBytes (recoveryRecords i (nodeAt (stateOf t) i))) (drop recordsSize b) recordsSize (records-long i (nodeAt (stateOf t) i)))
-          (λ _. refl);
+      keeps = λ t i b. keeps-in recordsSize b (recoveryNumber t i b) (all nodeBytes (recoveryRecords i (nodeAt (stateOf t) i)));
+      behind = λ t i b. behind-in recordsSize b (recoveryNumber t i b) (all nodeBytes (recoveryRecords i (nodeAt (stateOf t) i))) (λ _. records-long i (nodeAt (stateOf t) i));
       as-step = as-step;
       last-record = λ {t} {i} {b} {c} {o} {p}. last-record t i b c o p;
     }

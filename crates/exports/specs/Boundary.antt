@@ -19,6 +19,16 @@ use Rattle.event_list.specs.declared.Next.the-variants.{Done, Stopped, Got}
 use Rattle.number_bytes.specs.Bytes.{many, all}
 use Rattle.table_bytes.specs.Bytes.{nodeOf, decoded, nodeBytes, size, encoded, recordsSize}
 
+-- ── what every function with a lent buffer has: it needs `size` bytes, and b is what it holds before ──
+
+-- whether there is room for them is looked at first; else r is answered
+abbrev pub numberIn : ℕ → List ℕ → ℕ → ℕ
+numberIn size b r = pick (ltb (length b) size) 255 r
+
+-- What it then holds, where r is answered: where that is 0, the bytes l, and behind them what was there; "lent bytes stay as they stood" by any other answer
+abbrev pub bufferIn : ℕ → List ℕ → ℕ → List ℕ → List ℕ
+bufferIn size b r l = pick (eqb r 0) (l ++ drop size b) b
+
 -- ── nevraspu_step: one event on a table in bytes ──
 
 -- the state that bytes mean as a table
@@ -42,14 +52,14 @@ fieldAfter s Done = s
 fieldAfter s (Stopped x) = s
 fieldAfter s (Got e next) = after s e
 
--- What is answered for the bytes of a table, t, and of a field, f, with a lent buffer that holds b. Whether b has the room of a table is looked at first; then, as in
--- 01's table of grounds, the "table handed in", the field and the event
+-- What is answered for the bytes of a table, t, and of a field, f, with a lent buffer that holds b: as in 01's table of grounds, the "table handed in" comes before the
+-- field and the event
 unfoldable pub stepNumber : List ℕ → List ℕ → List ℕ → ℕ
-stepNumber t f b = pick (ltb (length b) size) 255 (pick (not (inRange (stateOf t))) 1 (fieldNumber (stateOf t) (nextAt f 0)))
+stepNumber t f b = numberIn size b (pick (not (inRange (stateOf t))) 1 (fieldNumber (stateOf t) (nextAt f 0)))
 
--- What the buffer then holds: the table after the event, and behind it what was there; "lent bytes stay as they stood" by any other answer than 0
+-- what the buffer then holds
 unfoldable pub stepBytes : List ℕ → List ℕ → List ℕ → List ℕ
-stepBytes t f b = pick (eqb (stepNumber t f b) 0) (stateBytes (fieldAfter (stateOf t) (nextAt f 0)) ++ drop size b) b
+stepBytes t f b = bufferIn size b (stepNumber t f b) (stateBytes (fieldAfter (stateOf t) (nextAt f 0)))
 
 -- r: what is answered, o: what the buffer then holds
 pub record StepExported (t f b o : List ℕ) (r : ℕ) : Type 0 where
@@ -63,11 +73,11 @@ pub record StepExported (t f b o : List ℕ) (r : ℕ) : Type 0 where
 -- What is answered for the bytes of a table, t, and node i, with a lent buffer that holds b. Whether b has the room of eight records is looked at first; then it "is
 -- refused as" recover i is, or 0
 unfoldable pub recoveryNumber : List ℕ → ℕ → List ℕ → ℕ
-recoveryNumber t i b = pick (ltb (length b) recordsSize) 255 (resultNumber (step (stateOf t) (Recover i)))
+recoveryNumber t i b = numberIn recordsSize b (resultNumber (step (stateOf t) (Recover i)))
 
 -- What the buffer then holds: "the eight records of cabinet i, one after each assignment", and behind them what was there; all that was there by any other answer than 0
 unfoldable pub recoveryBytes : List ℕ → ℕ → List ℕ → List ℕ
-recoveryBytes t i b = pick (eqb (recoveryNumber t i b) 0) (all nodeBytes (recoveryRecords i (nodeAt (stateOf t) i)) ++ drop recordsSize b) b
+recoveryBytes t i b = bufferIn recordsSize b (recoveryNumber t i b) (all nodeBytes (recoveryRecords i (nodeAt (stateOf t) i)))
 
 -- r: what is answered, o: what the buffer then holds
 pub record RecoveryExported (t : List ℕ) (i : ℕ) (b o : List ℕ) (r : ℕ) : Type 0 where

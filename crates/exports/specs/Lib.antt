@@ -1,3 +1,4 @@
 pub mod Boundary
+pub mod BullyBoundary
 pub mod Parts
 pub mod Claims

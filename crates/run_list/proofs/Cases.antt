@@ -13,7 +13,7 @@ use Rattle.model.specs.Procedures.{inviteNext, merges, handNext, finishes, forw
 use Rattle.model.specs.React.{checked as isChecked, timedOut, ticked, expired, resumed, onAreYouCoordinator, onAreYouThere, onInvitation, onAccept, onReady, onReply, received, react}
 use Rattle.model.specs.State.{State, start, waits, oldest, withoutOldest, inRange}
 use Rattle.model.specs.Grounds.{judged}
-use Rattle.model.specs.Step.{reactionTo, remaining, effect, grounds, Result, accepted, step, kept, after, runFrom}
+use Rattle.model.specs.Step.{reactionTo, remaining, effect, grounds, Result, refused, accepted, step, kept, after, runFrom}
 use Rattle.model.specs.Answers.{resultNumber}
 use Rattle.model.proofs.InRange.{stays-in-range, run-in}
 use Rattle.model.proofs.Aside.{Room, between, by-between, room-after, room-below, counting, run-counting, start-room}
@@ -32,7 +32,7 @@ use Rattle.run_list.proofs.Laws.{left, lines-begun}
 
 -- what an event comes to by the grounds between 1 and 17
 abbrev known : State → Event → Result
-known s v = judged (accepted (effect s v) (reactionTo s v .mark)) (between s v)
+known s v = judged refused (accepted (effect s v) (reactionTo s v .mark)) (between s v)
 
 abbrev quickRefused : State → ℕ → List Event → List (List ℕ)
 quickRefused s e [] = []

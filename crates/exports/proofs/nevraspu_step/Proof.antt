@@ -3,19 +3,10 @@ use borrow.Author.Needs.{needs}
 use borrow.Author.Tests.{not-true, not-false}
 use native.Mathlib.Omega.{arith}
 use mathlib.Core.Path.{_≡_, refl, sym, _∙_}
-use Rattle.event_list.specs.declared.Stop.{Stop}
-use Rattle.event_list.specs.declared.Stop.the-variants.{TooLong, CutShort, WrongTag, WrongLength, WrongCount}
-use Rattle.event_list.specs.Format.{stopNumber}
+use Rattle.exports.proofs.Answering.{refuses}
 use Rattle.exports.proofs.Stepping.{short, away, no-event, event}
 use Rattle.exports.proofs.nevraspu_step.Statement.{statement}
 use Rattle.exports.proofs.nevraspu_step.Tie as tie
-
-refuses : (s : Stop) → stopNumber s ≡ 0 → ⊥
-refuses TooLong z = omega arith
-refuses CutShort z = omega arith
-refuses WrongTag z = omega arith
-refuses WrongLength z = omega arith
-refuses WrongCount z = omega arith
 
 returns : tie.Need-returns
 returns c = short _ _ _ (c .if1 .taken)
