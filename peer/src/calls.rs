@@ -2,9 +2,11 @@
 //! `FUNCTION ARGUMENT.. out LENGTH answer NUMBER OUT`. A slice is in hex, a number is decimal, and OUT is
 //! what out begins with after the call, or `same`.
 
+use crate::bully;
 use crate::proved::{table_from_bytes, traffic_to_bytes, Library, COUNTS_AT, TABLE_BYTES};
 use crate::traffic_tables::count_waiting;
 use crate::vectors::{number, read_hex};
+use std::ops::Range;
 
 /// What a function takes, one after another.
 #[derive(Clone, Copy, Debug)]
@@ -28,14 +30,30 @@ pub struct Function {
     pub name: &'static str,
     pub takes: &'static [Takes],
     pub call: fn(&dyn Library, &Arguments, &mut [u8]) -> u8,
+    /// Which of the bytes that out begins with after the call are free.
+    pub free: fn(&[u8]) -> Range<usize>,
+}
+
+/// Every byte is as the vector says.
+pub fn none_free(_: &[u8]) -> Range<usize> {
+    0..0
 }
 
 /// The functions of the library that vectors call.
-pub static FUNCTIONS: [Function; 1] = [Function {
-    name: "nevraspu_recovery",
-    takes: &[Takes::TableWithoutCounts, Takes::Number],
-    call: |library, given, out| library.recovery(&given.slices[0], given.numbers[0], out),
-}];
+pub static FUNCTIONS: [Function; 2] = [
+    Function {
+        name: "nevraspu_recovery",
+        takes: &[Takes::TableWithoutCounts, Takes::Number],
+        call: |library, given, out| library.recovery(&given.slices[0], given.numbers[0], out),
+        free: none_free,
+    },
+    Function {
+        name: "nevraspu_bully_step",
+        takes: &[Takes::Slice, Takes::Slice],
+        call: |library, given, out| library.bully_step(&given.slices[0], &given.slices[1], out),
+        free: bully::bytes::free,
+    },
+];
 
 /// A call, and what follows.
 #[derive(Clone, Debug)]

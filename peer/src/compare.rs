@@ -1,7 +1,7 @@
 //! Compares a library with this program's machine: on runs, on lists of any bytes, and on events and
 //! recoveries from any table; and with calls of the vectors. A difference is shortened and told in words.
 
-use crate::calls::CallCase;
+use crate::calls::{none_free, CallCase};
 use crate::corners::{Before, Corners, Source};
 use crate::history::Checker;
 use crate::list::{first_event, read_list, write_event, write_list};
@@ -18,6 +18,7 @@ use crate::traffic_tables::pairs;
 use crate::tuned;
 use crate::vectors::{node_text, table_text};
 use std::fmt::Write;
+use std::ops::Range;
 
 /// How many bytes behind a text or a table are looked at.
 const BEHIND: usize = 64;
@@ -25,7 +26,7 @@ const BEHIND: usize = 64;
 /// A buffer that is lent to a library with random bytes in it, and what it held before.
 pub struct Lent {
     before: Vec<u8>,
-    now: Vec<u8>,
+    pub now: Vec<u8>,
 }
 
 impl Lent {
@@ -41,7 +42,7 @@ impl Lent {
     }
 
     /// Other random bytes, made of those that it was lent with.
-    fn renew(&mut self, numbers: &mut Numbers) {
+    pub fn renew(&mut self, numbers: &mut Numbers) {
         let change = numbers.bits();
         let (words, rest) = self.before.as_chunks_mut();
         for word in words {
@@ -100,14 +101,22 @@ impl Lent {
         }
     }
 
-    /// The same where the answer and the bytes that the buffer begins with are known.
-    fn judge_bytes(&self, answer: u8, number: u8, written: &[u8]) -> Option<String> {
+    /// The same where the answer and the bytes that the buffer begins with are known, some of which are free.
+    pub fn judge_bytes(
+        &self,
+        answer: u8,
+        number: u8,
+        written: &[u8],
+        free: Range<usize>,
+    ) -> Option<String> {
         if answer != number {
             let expected = answer_words(number);
             return Some(format!("{}, expected: {expected}", answer_words(answer)));
         }
         let mut places = self.now.iter().zip(written).enumerate();
-        if let Some((place, (now, byte))) = places.find(|(_, (now, byte))| now != byte) {
+        let differs =
+            |&(place, (now, byte)): &(usize, (&u8, &u8))| now != byte && !free.contains(&place);
+        if let Some((place, (now, byte))) = places.find(differs) {
             return Some(format!("byte {place} of the buffer is {now:02x}, expected: {byte:02x}"));
         }
         let place = self.changed(written.len())?;
@@ -358,7 +367,7 @@ pub fn recovery_difference(
     let mut own = vec![0; room];
     let number = Own.recovery(&bytes, i, &mut own);
     let written = if number == 0 { RECORDS_BYTES } else { 0 };
-    if let Some(words) = lent.judge_bytes(answer, number, &own[..written]) {
+    if let Some(words) = lent.judge_bytes(answer, number, &own[..written], none_free(&own)) {
         if (answer, number) != (0, 0) {
             return Some(words);
         }
@@ -388,7 +397,8 @@ fn records_text(i: u8, bytes: &[u8]) -> String {
 pub fn call_difference(library: &dyn Library, case: &CallCase) -> Option<String> {
     let mut lent = Lent::new(case.room, &mut Numbers::new(case.line as u64));
     let answer = (case.function.call)(library, &case.arguments, &mut lent.now);
-    let words = lent.judge_bytes(answer, case.answer, &case.written)?;
+    let free = (case.function.free)(&case.written);
+    let words = lent.judge_bytes(answer, case.answer, &case.written, free)?;
     Some(format!("line {}, {}: {words}", case.line, case.function.name))
 }
 

@@ -578,30 +578,29 @@ impl Corners {
         found
     }
 
-    /// The counts in lines: in runs and lists, in tables, and the corner. Last how many corners
-    /// there are, how many were met, and the least met of them.
+    /// The counts in lines.
     pub fn text(&self) -> String {
-        let corners = self.corners();
-        let mut text = String::from("   in runs  in tables  corner\n");
-        for (name, [runs, tables]) in &corners {
-            let empty = if runs + tables == 0 { "  (not met)" } else { "" };
-            writeln!(text, "{runs:>10} {tables:>10}  {name}{empty}").expect("a String takes it");
-        }
-        let sum = |(_, [runs, tables]): &(String, Count)| runs + tables;
-        let met = corners.iter().filter(|corner| sum(corner) > 0).count();
-        let thousand = corners.iter().filter(|corner| sum(corner) >= 1000).count();
-        writeln!(
-            text,
-            "{} corners, {met} met, {thousand} met a thousand times or more",
-            corners.len()
-        )
-        .expect("a String takes it");
-        if let Some(least) = corners.iter().min_by_key(|corner| sum(corner)) {
-            writeln!(text, "least met: {}, {} times", least.0, sum(least))
-                .expect("a String takes it");
-        }
-        text
+        counts_text(&self.corners())
     }
+}
+
+/// Counts in lines: in runs and lists, in tables, and the corner. Last how many corners there are, how
+/// many were met, and the least met of them.
+pub fn counts_text(corners: &[(String, Count)]) -> String {
+    let mut text = String::from("   in runs  in tables  corner\n");
+    for (name, [runs, tables]) in corners {
+        let empty = if runs + tables == 0 { "  (not met)" } else { "" };
+        writeln!(text, "{runs:>10} {tables:>10}  {name}{empty}").expect("a String takes it");
+    }
+    let sum = |(_, [runs, tables]): &(String, Count)| runs + tables;
+    let met = corners.iter().filter(|corner| sum(corner) > 0).count();
+    let thousand = corners.iter().filter(|corner| sum(corner) >= 1000).count();
+    writeln!(text, "{} corners, {met} met, {thousand} met a thousand times or more", corners.len())
+        .expect("a String takes it");
+    if let Some(least) = corners.iter().min_by_key(|corner| sum(corner)) {
+        writeln!(text, "least met: {}, {} times", least.0, sum(least)).expect("a String takes it");
+    }
+    text
 }
 
 /// Adds one to the counts of all that was met.

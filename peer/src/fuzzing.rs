@@ -21,7 +21,20 @@ use crate::traffic_tables::{break_counts, raise_to_calls, to_send, to_take_last}
 use std::time::{Duration, Instant};
 
 /// After so many differences it ends.
-const ENOUGH: u64 = 5;
+pub const ENOUGH: u64 = 5;
+
+const SEED: u64 = 20_260;
+
+/// What a program is given that goes on for so long: SECONDS [SEED].
+pub fn seconds_and_seed(program: &str) -> Result<(u64, u64), String> {
+    let arguments: Vec<String> = std::env::args().skip(1).collect();
+    let numbers: Option<Vec<u64>> = arguments.iter().map(|word| word.parse().ok()).collect();
+    match numbers.as_deref() {
+        Some(&[seconds]) => Ok((seconds, SEED)),
+        Some(&[seconds, seed]) => Ok((seconds, seed)),
+        _ => Err(format!("{program} SECONDS [SEED]")),
+    }
+}
 
 pub struct Fuzz<L> {
     library: L,

@@ -1,7 +1,8 @@
-//! A second implementation of document 01 (coordinator election among cabinets) and of T-01 to T-06 of
+//! A second implementation of document 01 (coordinator election among cabinets) and of T-01 to T-07 of
 //! document 02, written from the papers alone, so that other implementations can be compared with it.
 //! Document 01's cabinet is called node here, and its book history.
 
+pub mod bully;
 pub mod calls;
 pub mod check_corners;
 pub mod compare;

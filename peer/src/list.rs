@@ -47,9 +47,9 @@ pub fn read_list(list: &[u8]) -> Result<List, Stop> {
 }
 
 /// "one-byte tag, two-byte length with the high byte first, contents"
-struct Field<'a> {
-    tag: u8,
-    contents: &'a [u8],
+pub struct Field<'a> {
+    pub tag: u8,
+    pub contents: &'a [u8],
     end: usize,
 }
 
@@ -92,10 +92,14 @@ fn read_event(field: &Field) -> Result<Event, u8> {
     }
 }
 
-/// The event of the first field of some bytes, or refusal 3, 4 or 5. What stands behind that field is
-/// not looked at.
+/// The first field of some bytes, or refusal 3. What stands behind that field is not looked at.
+pub fn first_field(bytes: &[u8]) -> Result<Field<'_>, u8> {
+    read_field(bytes, 0).map_err(|stop| stop.number)
+}
+
+/// The event of that field, or refusal 3, 4 or 5.
 pub fn first_event(bytes: &[u8]) -> Result<Event, u8> {
-    read_event(&read_field(bytes, 0).map_err(|stop| stop.number)?)
+    read_event(&first_field(bytes)?)
 }
 
 /// Adds the field of an event to a list.

@@ -155,14 +155,15 @@ pub fn only(i: u8) -> Set {
     1 << (i - 1)
 }
 
-fn highest(set: Set) -> u8 {
+/// The highest node of a set, which must not be empty.
+pub fn highest(set: Set) -> u8 {
     16 - set.leading_zeros() as u8
 }
 
 /// Whom next. T-02: "Whoever picks the next cabinet from a set shall now pick the highest, in
 /// inviting, forwarding and handing." For these three it takes the place of document 01's "Sets are
-/// walked from the lowest number up."
-fn take_next(set: &mut Set) -> Option<u8> {
+/// walked from the lowest number up." T-07's sets are walked the same way.
+pub fn take_highest(set: &mut Set) -> Option<u8> {
     if *set == 0 {
         return None;
     }
@@ -670,7 +671,7 @@ impl Turn<'_> {
 
     /// "and then collects"
     fn invite_next(&mut self, mut found: Set, mut former: Set) -> Result<(), u8> {
-        match take_next(&mut found).or_else(|| take_next(&mut former)) {
+        match take_highest(&mut found).or_else(|| take_highest(&mut former)) {
             Some(now) => {
                 self.node.activity = Activity::Inviting { found, former, now };
                 self.call(now, Body::Invitation { group: self.node.group })
@@ -691,7 +692,7 @@ impl Turn<'_> {
 
     /// "after the last, or with none, Normal and idle"
     fn hand_next(&mut self, mut rest: Set) -> Result<(), u8> {
-        match take_next(&mut rest) {
+        match take_highest(&mut rest) {
             Some(now) => {
                 self.node.activity = Activity::Handing { rest, now };
                 self.call(now, Body::Ready { group: self.node.group, task: self.node.task })
@@ -803,7 +804,7 @@ impl Turn<'_> {
     /// "then it calls Accept on the new coordinator"
     fn forward_next(&mut self, mut rest: Set, caller: u8, call: u32) -> Result<(), u8> {
         let group = self.node.group;
-        match take_next(&mut rest) {
+        match take_highest(&mut rest) {
             Some(now) => {
                 self.node.activity = Activity::Forwarding { rest, now, caller, call };
                 self.call(now, Body::Invitation { group })

@@ -1,6 +1,7 @@
 //! The boundary of the proved library: a table in bytes, and the library's functions behind safe
 //! ones. `Own` is this program's own machine behind the same boundary.
 
+use crate::bully::{self, bytes::bully_step_by};
 use crate::list::{first_event, read_list};
 use crate::machine::{
     self, Activity, Body, Event, Message, Node, PairCounts, Status, Table, Traffic, ASSIGNMENTS,
@@ -52,6 +53,12 @@ pub trait Library {
     /// was. A refusal is the number that the step recover has, and out stays as it was. TOO_SHORT, which
     /// comes first, is for an out shorter than the records, and out stays as it was.
     fn recovery(&self, table: &[u8], node: u8, out: &mut [u8]) -> u8;
+
+    /// One event, as a field, on a table of the Bully machine (T-07), which is read as in `step`. Accepted is
+    /// 0, and out begins with the table after it; what stands behind it stays as it was. A refusal is its
+    /// number, and out stays as it was: here 3, 4 or 5, where the field is none, come before 1. TOO_SHORT,
+    /// which comes first, is for an out shorter than a table, and out stays as it was.
+    fn bully_step(&self, table: &[u8], field: &[u8], out: &mut [u8]) -> u8;
 }
 
 /// The proved library.
@@ -82,6 +89,14 @@ mod linked {
             out: *mut u8,
             out_len: usize,
         ) -> u8;
+        pub fn nevraspu_bully_step(
+            table: *const u8,
+            table_len: usize,
+            field: *const u8,
+            field_len: usize,
+            out: *mut u8,
+            out_len: usize,
+        ) -> u8;
     }
 }
 
@@ -106,6 +121,16 @@ mod linked {
         unreachable!()
     }
     pub unsafe fn nevraspu_recovery(_: *const u8, _: usize, _: u8, _: *mut u8, _: usize) -> u8 {
+        unreachable!()
+    }
+    pub unsafe fn nevraspu_bully_step(
+        _: *const u8,
+        _: usize,
+        _: *const u8,
+        _: usize,
+        _: *mut u8,
+        _: usize,
+    ) -> u8 {
         unreachable!()
     }
 }
@@ -167,6 +192,20 @@ impl Library for Proved {
             )
         }
     }
+
+    fn bully_step(&self, table: &[u8], field: &[u8], out: &mut [u8]) -> u8 {
+        // Safety: as above.
+        unsafe {
+            linked::nevraspu_bully_step(
+                table.as_ptr(),
+                table.len(),
+                field.as_ptr(),
+                field.len(),
+                out.as_mut_ptr(),
+                out.len(),
+            )
+        }
+    }
 }
 
 /// This program's own machine behind the same boundary.
@@ -190,6 +229,10 @@ impl Library for Own {
 
     fn recovery(&self, table: &[u8], node: u8, out: &mut [u8]) -> u8 {
         recovery_by(machine::recovery, table, node, out)
+    }
+
+    fn bully_step(&self, table: &[u8], field: &[u8], out: &mut [u8]) -> u8 {
+        bully_step_by(bully::machine::step, table, field, out)
     }
 }
 
@@ -239,12 +282,16 @@ pub fn recovery_by(
     }
 }
 
-/// A table of any length: zeros are read behind its end, and what is longer is not looked at.
 fn table_from_slice(table: &[u8]) -> Table {
-    let mut bytes = [0; TABLE_BYTES];
-    let length = table.len().min(TABLE_BYTES);
+    table_from_bytes(&whole(table))
+}
+
+/// The bytes of a table of any length: zeros are read behind its end, and what is longer is not looked at.
+pub fn whole<const LENGTH: usize>(table: &[u8]) -> [u8; LENGTH] {
+    let mut bytes = [0; LENGTH];
+    let length = table.len().min(LENGTH);
     bytes[..length].copy_from_slice(&table[..length]);
-    table_from_bytes(&bytes)
+    bytes
 }
 
 /// Every event of a list by the step with the range check: how many were accepted.
@@ -391,12 +438,7 @@ fn node_to_bytes(node: &Node, bytes: &mut [u8; NODE_BYTES]) {
 
 fn node_from_bytes(bytes: &[u8; NODE_BYTES]) -> Node {
     Node {
-        status: match bytes[0] % 4 {
-            0 => Status::Down,
-            1 => Status::Election,
-            2 => Status::Reorganization,
-            _ => Status::Normal,
-        },
+        status: status_from_byte(bytes[0]),
         counter: four(&bytes[1..5]),
         group: four(&bytes[5..9]),
         coordinator: bytes[9],
@@ -505,7 +547,17 @@ pub fn tag(activity: &Activity) -> u8 {
     }
 }
 
-fn two(bytes: &[u8]) -> u16 {
+/// A status is read by its remainder.
+pub fn status_from_byte(byte: u8) -> Status {
+    match byte % 4 {
+        0 => Status::Down,
+        1 => Status::Election,
+        2 => Status::Reorganization,
+        _ => Status::Normal,
+    }
+}
+
+pub fn two(bytes: &[u8]) -> u16 {
     u16::from_be_bytes(bytes.try_into().expect("two bytes"))
 }
 

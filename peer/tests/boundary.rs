@@ -264,6 +264,9 @@ fn wrong_boundaries_are_found() {
         fn recovery(&self, table: &[u8], node: u8, out: &mut [u8]) -> u8 {
             Own.recovery(table, node, out)
         }
+        fn bully_step(&self, table: &[u8], field: &[u8], out: &mut [u8]) -> u8 {
+            Own.bully_step(table, field, out)
+        }
     }
     for mistake in 0..=6 {
         let mut fuzz = peer::fuzzing::Fuzz::new(Wrong(mistake), 1);
@@ -294,6 +297,9 @@ fn fields_that_are_not_carried_decide_nothing() {
         }
         fn recovery(&self, table: &[u8], node: u8, out: &mut [u8]) -> u8 {
             Own.recovery(table, node, out)
+        }
+        fn bully_step(&self, table: &[u8], field: &[u8], out: &mut [u8]) -> u8 {
+            Own.bully_step(table, field, out)
         }
     }
     let mut fuzz = peer::fuzzing::Fuzz::new(Reads, 1);

@@ -1,7 +1,7 @@
-//! The vectors' calls: how a line is read, what is compared, and the calls of T-04 on this program's own
-//! machine.
+//! The vectors' calls: how a line is read, what is compared, and the calls of T-04 and T-07 on this program's
+//! own machines.
 
-use peer::calls::{read_calls, with_counts, Arguments, Function, Takes, FUNCTIONS};
+use peer::calls::{none_free, read_calls, with_counts, Arguments, Function, Takes, FUNCTIONS};
 use peer::compare::call_difference;
 use peer::machine::{Body, Message, Table};
 use peer::proved::{table_to_bytes, Library, Own, COUNTS_AT, TABLE_BYTES};
@@ -10,7 +10,7 @@ use std::path::Path;
 
 /// Functions that take other things: nothing, two numbers around a slice, three slices.
 static OTHERS: [Function; 3] = [
-    Function { name: "nothing", takes: &[], call: |_, _, _| 7 },
+    Function { name: "nothing", takes: &[], call: |_, _, _| 7, free: none_free },
     Function {
         name: "around",
         takes: &[Takes::Number, Takes::Slice, Takes::Number],
@@ -18,6 +18,7 @@ static OTHERS: [Function; 3] = [
             out[..2].copy_from_slice(&given.numbers);
             given.slices[0].len() as u8
         },
+        free: none_free,
     },
     Function {
         name: "slices",
@@ -27,6 +28,7 @@ static OTHERS: [Function; 3] = [
             out[..all.len()].copy_from_slice(&all);
             0
         },
+        free: none_free,
     },
 ];
 
@@ -89,8 +91,9 @@ fn calls_that_differ_are_told() {
                 out[..2].copy_from_slice(&[1, 2]);
                 0
             },
+            free: none_free,
         },
-        Function { name: "idle", takes: &[], call: |_, _, _| 0 },
+        Function { name: "idle", takes: &[], call: |_, _, _| 0, free: none_free },
         Function {
             name: "behind",
             takes: &[],
@@ -99,6 +102,7 @@ fn calls_that_differ_are_told() {
                 out[4] ^= 1;
                 0
             },
+            free: none_free,
         },
         Function {
             name: "refuses",
@@ -107,6 +111,7 @@ fn calls_that_differ_are_told() {
                 out[0] ^= 1;
                 9
             },
+            free: none_free,
         },
     ];
     let told = |line: &str| call_difference(&Own, &read_calls(line, &WRITERS).unwrap()[0]);
@@ -147,6 +152,40 @@ fn recoveries_of_the_vectors() {
     for answer in [0, 1, 7, 9, 12, 255] {
         assert!(cases.iter().filter(|case| case.answer == answer).count() > 10, "{answer}");
     }
+}
+
+/// The vectors of T-07, with every answer of a Bully step.
+#[test]
+fn bully_steps_of_the_vectors() {
+    let file = Path::new(env!("CARGO_MANIFEST_DIR")).join("../tests/bully.txt");
+    let cases = read_calls(&std::fs::read_to_string(file).unwrap(), &FUNCTIONS).unwrap();
+    assert_eq!(cases.len(), 600);
+    for case in &cases {
+        assert_eq!(call_difference(&Own, case), None);
+        assert_eq!(case.written.len(), if case.answer == 0 { 193 } else { 0 });
+    }
+    for answer in [0, 1, 3, 4, 5, 7, 8, 9, 10, 255] {
+        assert!(cases.iter().filter(|case| case.answer == answer).count() >= 10, "{answer}");
+    }
+}
+
+/// Of the bytes that out begins with, those that are free are not compared.
+#[test]
+fn free_bytes_are_not_compared() {
+    static WRITER: [Function; 1] = [Function {
+        name: "writes",
+        takes: &[],
+        call: |_, _, out| {
+            out[..5].copy_from_slice(&[1, 2, 3, 4, 5]);
+            0
+        },
+        free: |written| 1..written.len() - 1,
+    }];
+    let told = |line: &str| call_difference(&Own, &read_calls(line, &WRITER).unwrap()[0]);
+    assert_eq!(told("writes out 9 answer 0 0109090905"), None);
+    assert!(told("writes out 9 answer 0 0909090905").is_some());
+    assert!(told("writes out 9 answer 0 0109090909").is_some());
+    assert!(told("writes out 9 answer 0 01090904").is_some());
 }
 
 /// T-04's tables get counts: what waits of each pair was sent. One that was cut short is cut, and what stood
@@ -234,6 +273,9 @@ fn every_byte_of_the_records_is_compared() {
                 out[self.0] ^= 1;
             }
             answer
+        }
+        fn bully_step(&self, table: &[u8], field: &[u8], out: &mut [u8]) -> u8 {
+            Own.bully_step(table, field, out)
         }
     }
     let cases = read_calls(&recoveries(), &FUNCTIONS).unwrap();

@@ -426,6 +426,9 @@ impl<R: Fn(&[u8], u8, &mut [u8]) -> u8> Library for Records<R> {
     fn recovery(&self, table: &[u8], node: u8, out: &mut [u8]) -> u8 {
         (self.0)(table, node, out)
     }
+    fn bully_step(&self, table: &[u8], field: &[u8], out: &mut [u8]) -> u8 {
+        Own.bully_step(table, field, out)
+    }
 }
 
 /// How many differences the fuzzer finds, at most five.

@@ -75,6 +75,10 @@ impl<M: Fn(&mut Table, &Event) -> Result<(), u8>> Library for Machine<M> {
     fn recovery(&self, table: &[u8], node: u8, out: &mut [u8]) -> u8 {
         Own.recovery(table, node, out)
     }
+
+    fn bully_step(&self, table: &[u8], field: &[u8], out: &mut [u8]) -> u8 {
+        Own.bully_step(table, field, out)
+    }
 }
 
 /// "Clearing the counter at a crash: an old group number returns."
@@ -225,6 +229,9 @@ fn bytes_are_shortened() {
         }
         fn recovery(&self, table: &[u8], node: u8, out: &mut [u8]) -> u8 {
             Own.recovery(table, node, out)
+        }
+        fn bully_step(&self, table: &[u8], field: &[u8], out: &mut [u8]) -> u8 {
+            Own.bully_step(table, field, out)
         }
     }
     let mut list = write_list(2, &[Recover(1), Recover(2), Check(2)]);
@@ -629,6 +636,9 @@ fn fuzzer_finds_wrong_count() {
         }
         fn recovery(&self, table: &[u8], node: u8, out: &mut [u8]) -> u8 {
             Own.recovery(table, node, out)
+        }
+        fn bully_step(&self, table: &[u8], field: &[u8], out: &mut [u8]) -> u8 {
+            Own.bully_step(table, field, out)
         }
     }
     let mut fuzz = Fuzz::new(Prints, 1);

@@ -1,10 +1,9 @@
 -- Laws for the code over a table: what a table's array is, the record of a node and one stored, and the bounds of a set's highest node.
 use Prim.Native.Nat.{ℕ, zero, suc, _-_, _≤_, _<_}
 use native.Mathlib.Omega.{arith}
-use mathlib.Core.Bool.{Bool, true, false, _&&_}
 use mathlib.Core.Path.{_≡_, refl, sym, _∙_, ap}
-use mathlib.Core.List.{List, _∷_}
-use lib.ListN.{length, getD, take, set, length-map, replicate}
+use mathlib.Core.List.{List}
+use lib.ListN.{length, getD, take, set, length-map}
 use lib.Seq.{getD-take}
 use mir.Val.{Val}
 use denote.Laws.{Is}

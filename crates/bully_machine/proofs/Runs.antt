@@ -1,5 +1,5 @@
 -- What ties the code to T-07's claim: the tables that the code's step returns, one after another, are those of the model's run.
-use Prim.Native.Nat.{ℕ, _≤_}
+use Prim.Native.Nat.{ℕ}
 use native.Mathlib.Omega.{arith}
 use mathlib.Core.Bool.{true}
 use mathlib.Core.Logic.{⊎-elim}

@@ -1,13 +1,13 @@
 -- The model's step by the parts that the code computes: the grounds in two groups, what passing them gives, and the call.
 use Prim.Native.Nat.{ℕ, _≤_}
 use native.Mathlib.Omega.{arith}
-use mathlib.Core.Bool.{Bool, true, false, true≢false}
+use mathlib.Core.Bool.{true, false, true≢false}
 use mathlib.Core.Path.{_≡_, refl, sym, _∙_, ap}
-use mathlib.Core.List.{List, _∷_, _++_}
+use mathlib.Core.List.{_++_}
 use lib.Dec.{leb}
 use borrow.Author.Tests.{leb-true, not-false}
 use Rattle.model.specs.Pick.{pick, pick-true, pick-false}
-use Rattle.model.specs.Grounds.{Ground, ground, first}
+use Rattle.model.specs.Grounds.{first}
 use Rattle.model.proofs.Local.{both-left, both-right}
 use Rattle.model.proofs.Grounds.{not-met, first-clear, first-met, judged-clear, judged-first}
 use Rattle.bully_model.specs.Calls.{callee, called, answered, timedOut}

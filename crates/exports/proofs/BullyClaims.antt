@@ -3,7 +3,7 @@ use Prim.Native.Nat.{ℕ, _≤_, _<_}
 use native.Mathlib.Omega.{arith}
 use mathlib.Core.Bool.{false}
 use mathlib.Core.Logic.{⊎-elim}
-use mathlib.Core.Path.{_≡_, refl, sym, _∙_, ap}
+use mathlib.Core.Path.{_≡_, refl, _∙_, ap}
 use mathlib.Core.List.{List, [], _++_}
 use lib.ListN.{length, drop}
 use Rattle.model.specs.Pick.{pick}
@@ -14,7 +14,7 @@ use Rattle.bully_model.specs.Step.{grounds, Result, refused, accepted, step}
 use Rattle.bully_model.specs.Answers.{resultNumber}
 use Rattle.bully_model.proofs.Refusals.{refuses-by-ground}
 use Rattle.bully_model.specs.declared.Event.{Event}
-use Rattle.event_list.specs.Format.{stopNumber, cutShort}
+use Rattle.event_list.specs.Format.{cutShort}
 use Rattle.event_list.specs.declared.Stop.{Stop}
 use Rattle.event_list.specs.declared.Stop.the-variants.{TooLong, CutShort, WrongTag, WrongLength, WrongCount}
 use Rattle.bully_bytes.specs.declared.FieldRead.{FieldRead}
@@ -56,11 +56,11 @@ module _ (t f b : List ℕ) where
   abbrev given : List ℕ
   given = stateBytes (fieldAfter (stateOf t) (eventIn f))
 
-  short : length b < size → bullyNumber t f b ≡ 255
+  pub short : length b < size → bullyNumber t f b ≡ 255
   unfolding bullyNumber
   short = short-in size b answer
 
-  long : size ≤ length b → bullyNumber t f b ≡ answer
+  pub long : size ≤ length b → bullyNumber t f b ≡ answer
   unfolding bullyNumber
   long = long-in size b answer
 
@@ -68,7 +68,7 @@ module _ (t f b : List ℕ) where
   unfolding bullyNumber
   only-short = only-short-in size b answer (field-small (stateOf t) (eventIn f))
 
-  keeps : (bullyNumber t f b ≡ 0 → ⊥) → bullyBytes t f b ≡ b
+  pub keeps : (bullyNumber t f b ≡ 0 → ⊥) → bullyBytes t f b ≡ b
   unfolding bullyBytes
   keeps = keeps-in size b (bullyNumber t f b) given
 

@@ -18,38 +18,28 @@ use Rattle.bully_bytes.specs.Bytes.{decoded, size}
 use Rattle.bully_bytes.specs.Field.{eventIn}
 use Rattle.exports.specs.BullyBoundary.{stateOf, stateBytes, fieldNumber, fieldAfter, bullyNumber, bullyBytes, BullyExported}
 use Rattle.exports.specs.Parts.{BullyAnswered}
+use Rattle.exports.proofs.BullyClaims as claims
 use Rattle.exports.proofs.Clearing.{first-again}
-use Rattle.exports.proofs.Answering.{short-in, long-in, keeps-in}
 
 -- the table of what t means, means the same
 pub view-table : (t : Table) → length (t .nodes) ≡ 16 → view (tableOf (view t)) ≡ view t
 view-table t long = ap (λ (cs : List Node). record { n = t .n; nodes = cs }) (first-again startingNode 16 (t .n) (t .nodes) long)
 
 module _ (t f b : List ℕ) where
-  abbrev answer : ℕ
-  answer = fieldNumber (stateOf t) (eventIn f)
-
-  -- what an accepted event gives out
-  abbrev given : List ℕ
-  given = stateBytes (fieldAfter (stateOf t) (eventIn f))
-
   -- any number but 0 keeps the buffer
-  keeps : (r : ℕ) → r ≡ bullyNumber t f b → (r ≡ 0 → ⊥) → BullyExported t f b b r
-  unfolding bullyBytes
-  keeps r e h = record { number = e; buffer = sym (keeps-in size b (bullyNumber t f b) given (λ z. h (e ∙ z))); back = λ z. absurd (h z) }
+  kept-by : (r : ℕ) → r ≡ bullyNumber t f b → (r ≡ 0 → ⊥) → BullyExported t f b b r
+  kept-by r e h = record { number = e; buffer = sym (claims.keeps t f b (λ z. h (e ∙ z))); back = λ z. absurd (h z) }
 
   pub short : length b < size → BullyExported t f b b 255
-  unfolding bullyNumber
-  short h = keeps 255 (sym (short-in size b answer h)) (λ z. omega arith)
+  short h = kept-by 255 (sym (claims.short t f b h)) (λ z. omega arith)
 
   module _ (room : size ≤ length b) where
-    long : bullyNumber t f b ≡ answer
-    unfolding bullyNumber
-    long = long-in size b answer room
+    long : bullyNumber t f b ≡ fieldNumber (stateOf t) (eventIn f)
+    long = claims.long t f b room
 
     -- x: what the field says
     pub no-event : (x : FieldRead) → x ≡ eventIn f → (r : ℕ) → r ≡ fieldNumber (stateOf t) x → (r ≡ 0 → ⊥) → BullyExported t f b b r
-    no-event x i r e h = keeps r (e ∙ rw i (sym long)) h
+    no-event x i r e h = kept-by r (e ∙ rw i (sym long)) h
 
     pub event : (x : FieldRead) → x ≡ eventIn f → {e : Event} → x ≡ Got e → (u : Outcome) → Stepped (decoded t) e u
         → (o : List ℕ) (r : ℕ) → BullyAnswered (u .answer) (u .table) b o r → BullyExported t f b o r

@@ -83,15 +83,15 @@ module _ (t f b : List ℕ) where
   abbrev given : List ℕ
   given = stateBytes (fieldAfter (stateOf t) (nextAt f 0))
 
-  short : length b < size → stepNumber t f b ≡ 255
+  pub short : length b < size → stepNumber t f b ≡ 255
   unfolding stepNumber
   short = short-in size b answer
 
-  not-in-range : size ≤ length b → inRange (stateOf t) ≡ false → stepNumber t f b ≡ 1
+  pub not-in-range : size ≤ length b → inRange (stateOf t) ≡ false → stepNumber t f b ≡ 1
   unfolding stepNumber
   not-in-range h q = long-in size b answer h ∙ rw (q, pick-true)
 
-  long : size ≤ length b → inRange (stateOf t) ≡ true → stepNumber t f b ≡ fieldNumber (stateOf t) (nextAt f 0)
+  pub long : size ≤ length b → inRange (stateOf t) ≡ true → stepNumber t f b ≡ fieldNumber (stateOf t) (nextAt f 0)
   unfolding stepNumber
   long h q = long-in size b answer h ∙ rw (q, pick-false)
 
@@ -99,7 +99,7 @@ module _ (t f b : List ℕ) where
   unfolding stepNumber
   only-short = only-short-in size b answer (by-test (λ (n : ℕ). n < 255) (λ _. omega arith) (λ _. field-small (stateOf t) (nextAt f 0)))
 
-  keeps : (stepNumber t f b ≡ 0 → ⊥) → stepBytes t f b ≡ b
+  pub keeps : (stepNumber t f b ≡ 0 → ⊥) → stepBytes t f b ≡ b
   unfolding stepBytes
   keeps = keeps-in size b (stepNumber t f b) given
 

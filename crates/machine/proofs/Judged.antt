@@ -1,13 +1,13 @@
 -- The judgement of an event, by its groups of grounds; and what it comes to on a table. `advance` and the run loop over numbers both go by this file.
 use Prim.Native.Nat.{ℕ, zero, suc, _+_, _-_, _%_, _≤_, _<_}
 use native.Mathlib.Omega.{arith}
-use mathlib.Core.Path.{_≡_, refl, sym, _∙_, ap}
-use mathlib.Core.List.{List, [], _∷_, _++_}
+use mathlib.Core.Path.{_≡_, refl, sym, _∙_}
+use mathlib.Core.List.{List, _++_}
 use mathlib.Core.Bool.{Bool, true, false, not, _&&_, true≢false}
 use borrow.Author.Tests.{not-true, not-false, ne-eqb}
 use lib.Dec.{eqb, ltb}
 use lib.ListN.{length, getD}
-use Rattle.model.specs.State.{startingNode, nodeAt, noMessage, inRange, view}
+use Rattle.model.specs.State.{nodeAt, inRange, view}
 use Rattle.model.specs.Limits.{trafficEnd}
 use Rattle.model.specs.Pick.{pick, pick-true, pick-false}
 use Rattle.model.specs.Grounds.{Ground, first}
@@ -28,12 +28,12 @@ use Rattle.model.specs.declared.Event.{Event}
 use Rattle.model.specs.declared.Event.the-variants.{Crash, Recover, Check, Timeout, Tick, Expire, Finish, Deliver, Lose}
 use Rattle.node_step.specs.Fits.{FitsInput}
 use Rattle.machine.specs.declared.Verdict.{Verdict}
-use Rattle.machine.specs.Parts.{placeFor, sentPlace, withLast, stored, Left, Room, numberGrounds, stateGrounds, endGrounds, isAccepted, reactsTo, inputOf, loses, FitsMessage, leftOf, judgedGrounds, Judging, Judged}
+use Rattle.machine.specs.Parts.{placeFor, sentPlace, withLast, stored, Room, numberGrounds, stateGrounds, endGrounds, isAccepted, reactsTo, inputOf, loses, FitsMessage, leftOf, judgedGrounds, Judging, Judged}
 use Rattle.machine.specs.Stepped.{Stepped}
 use Rattle.machine.proofs.Laws.{Sized}
 use Rattle.model.proofs.Grounds.{Numbered, first-clear, first-met}
 use Rattle.machine.proofs.Parts.{accepted-zero, refused-some, numbers-refuse, state-refuses, ends-refuse, last-refuses, step-accepts, all-clear}
-use Rattle.machine.proofs.Places.{small, actor-is, node-read, node-fits, found-is, reaction-is, message-ok, left-is, place-below, left-counts, room-is, last-is, clear-is, effect-is}
+use Rattle.machine.proofs.Places.{small, actor-is, node-read, node-fits, found-is, reaction-is, message-ok, left-counts, room-is, last-is, clear-is, effect-is}
 
 -- ── the reaction by what the node is told ──
 pub reacts-lost : (n : ℕ) (c : Node) (m : Message) (e : Event) → loses e ≡ true → stays c ≡ reactsTo n c m e

@@ -1,31 +1,28 @@
 -- The model's step by the parts that the code computes: the grounds in three groups, the message by its place.
-use Prim.Native.Nat.{ℕ, zero, suc, _+_, _-_, _≤_, _<_}
+use Prim.Native.Nat.{ℕ, suc, _+_, _-_, _≤_}
 use native.Mathlib.Numerals.{add-one}
 use native.Mathlib.Omega.{arith}
 use native.Mathlib.Nat.{le-refl}
 use mathlib.Core.Path.{_≡_, refl, sym, _∙_, ap}
-use mathlib.Core.List.{List, [], _∷_, _++_, append-nil}
+use mathlib.Core.List.{List, [], _∷_, _++_}
 use mathlib.Core.Bool.{Bool, true, false, not, _&&_, _||_, true≢false}
 use lib.Dec.{eqb, ltb, leb·suc-suc}
-use lib.ListN.{length, getD, take, drop, length-append, length-take, length-drop}
-use borrow.Author.Tests.{lt-ltb, le-ltb, ltb-true}
-use Rattle.model.specs.Pick.{pick, pick-true, pick-false, by-test}
-use Rattle.model.specs.State.{State, startingNode, nodeAt, noMessage, goes, waits, oldest, withoutOldest, inRange, view}
-use Rattle.model.specs.Grounds.{Ground, ground, judged, first}
-use Rattle.model.specs.Step.{actor, reactionTo, remaining, noneWaits, pairAtEnd, effect, grounds, Result, refused, accepted, step, kept, after}
+use lib.ListN.{length, getD}
+use borrow.Author.Tests.{lt-ltb}
+use Rattle.model.specs.Pick.{pick, pick-true, pick-false}
+use Rattle.model.specs.State.{State, nodeAt, noMessage, goes, waits, oldest, withoutOldest, inRange, view}
+use Rattle.model.specs.Grounds.{Ground, ground, first}
+use Rattle.model.specs.Step.{actor, reactionTo, remaining, noneWaits, pairAtEnd, effect, grounds, refused, accepted, step, kept}
 use Rattle.model.specs.React.{react}
 use Rattle.model.specs.Answers.{answerNumber, resultNumber}
 use Rattle.model.proofs.Grounds.{first-clear, first-met, judged-clear, judged-first}
-use Rattle.model.proofs.Local.{both-left, both-right}
 use Rattle.model.specs.declared.Input.the-variants.{Receive}
 use Rattle.model.specs.declared.Node.{Node}
 use Rattle.model.specs.declared.Message.{Message}
-use Rattle.model.specs.declared.Mark.{Mark}
 use Rattle.model.specs.declared.Reaction.{Reaction}
 use Rattle.model.specs.declared.Table.{Table}
 use Rattle.model.specs.declared.Answer.{Answer}
 use Rattle.model.specs.declared.Answer.the-variants.{Accepted, NotInRange, WrongNumber, WrongTask, WrongStatus, WrongActivity, NotCoordinator, NoMessage, CounterAtEnd, CallsAtEnd, QueueFull, SentAtEnd}
-use Rattle.model.specs.declared.Outcome.{Outcome}
 use Rattle.model.specs.declared.Event.{Event}
 use Rattle.model.specs.declared.Event.the-variants.{Crash, Recover, Check, Timeout, Tick, Expire, Finish, Deliver, Lose}
 use Rattle.machine.specs.Parts.{place, without, takes, sender, placeFor, numberGrounds, stateGrounds, endGrounds, lastGrounds, isAccepted, reactsTo}

@@ -1,21 +1,21 @@
 -- What `advance` needs at each place, of the table, the event and the values computed so far.
 use Prim.Native.Nat.{ℕ, zero, suc, _+_, _-_, _%_, _≤_, _<_}
 use native.Mathlib.Omega.{arith}
-use native.Mathlib.Nat.{mod-eq-of-lt, le-refl}
-use mathlib.Core.Path.{_≡_, refl, sym, _∙_, ap, subst}
-use mathlib.Core.Logic.{_⊎_, inl, inr}
-use mathlib.Core.List.{List, [], _∷_, _++_}
-use mathlib.Core.Bool.{Bool, true, false, not, _&&_, true≢false}
+use native.Mathlib.Nat.{mod-eq-of-lt}
+use mathlib.Core.Path.{_≡_, refl, sym, _∙_, ap}
+use mathlib.Core.Logic.{inl, inr}
+use mathlib.Core.List.{List, [], _∷_}
+use mathlib.Core.Bool.{Bool, true, false, not, _&&_}
 use lib.Dec.{eqb, ltb}
-use lib.ListN.{length, getD, take, drop, set, length-append, length-take, length-drop}
+use lib.ListN.{length, getD, set, length-append, length-drop}
 use lib.Seq.{getD-take, length-take-le, set-getD}
 use borrow.Author.Tests.{ltb-true, ltb-false, eqb-false, not-false, lt-ltb}
 use Rattle.model.specs.Pick.{pick, pick-true, pick-false}
 use Rattle.model.specs.Limits.{trafficEnd}
 use Rattle.model.specs.Counts.{pairPlace, oneMore}
 use Rattle.model.specs.Range.{isPair, messageInRange, countInRange}
-use Rattle.model.specs.State.{State, startingNode, nodeAt, noMessage, waits, oldest, every, inRange, firstOf, view}
-use Rattle.model.specs.Grounds.{Ground, first}
+use Rattle.model.specs.State.{startingNode, nodeAt, noMessage, waits, oldest, every, inRange, firstOf, view}
+use Rattle.model.specs.Grounds.{first}
 use Rattle.model.specs.Step.{actor, reactionTo, remaining, sent, withSent, withDelivered, withLost, effect, wrongNumber, isSending, pairAtEnd}
 use Rattle.model.proofs.Judged.{Clear}
 use Rattle.model.proofs.Local.{both-left, both-right}

@@ -4,25 +4,17 @@
 //! `N passed, M failed`. The exit code is 1 on a failure.
 
 use peer::ending::ended;
-use peer::fuzzing::Fuzz;
+use peer::fuzzing::{seconds_and_seed, Fuzz};
 use peer::proved::Proved;
 use std::process::ExitCode;
 use std::time::Duration;
-
-const SEED: u64 = 20_260;
 
 fn main() -> ExitCode {
     ended(run())
 }
 
 fn run() -> Result<(u64, u64), String> {
-    let arguments: Vec<String> = std::env::args().skip(1).collect();
-    let numbers: Option<Vec<u64>> = arguments.iter().map(|word| word.parse().ok()).collect();
-    let (seconds, seed) = match numbers.as_deref() {
-        Some(&[seconds]) => (seconds, SEED),
-        Some(&[seconds, seed]) => (seconds, seed),
-        _ => return Err("fuzz SECONDS [SEED]".to_string()),
-    };
+    let (seconds, seed) = seconds_and_seed("fuzz")?;
     let library = Proved::linked()?;
     println!("seed {seed}");
     let mut fuzz = Fuzz::new(library, seed);

@@ -21,6 +21,9 @@ impl<M: Fn(&mut Table, &Event) -> Result<(), u8>> Library for Steps<M> {
     fn recovery(&self, table: &[u8], node: u8, out: &mut [u8]) -> u8 {
         Own.recovery(table, node, out)
     }
+    fn bully_step(&self, table: &[u8], field: &[u8], out: &mut [u8]) -> u8 {
+        Own.bully_step(table, field, out)
+    }
 }
 
 /// A library whose text is by another program, which is given any list.
@@ -41,6 +44,9 @@ impl<P: Fn(&[u8]) -> String> Library for Texts<P> {
     }
     fn recovery(&self, table: &[u8], node: u8, out: &mut [u8]) -> u8 {
         Own.recovery(table, node, out)
+    }
+    fn bully_step(&self, table: &[u8], field: &[u8], out: &mut [u8]) -> u8 {
+        Own.bully_step(table, field, out)
     }
 }
 

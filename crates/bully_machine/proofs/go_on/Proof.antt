@@ -1,9 +1,8 @@
 -- `go_on` meets its contract: by whether the one called runs, what the callees ensure.
 use borrow.Author.Needs.{needs}
 use native.Mathlib.Omega.{arith}
-use mathlib.Core.Path.{_≡_, sym, _∙_, ap}
-use Prim.Native.Nat.{ℕ}
-use Rattle.bully_model.specs.Calls.{answered, timedOut}
+use mathlib.Core.Path.{sym, _∙_, ap}
+use Rattle.bully_model.specs.Calls.{answered}
 use Rattle.bully_model.specs.State.{State, stored, view}
 use Rattle.bully_model.proofs.InRange.{runner}
 use Rattle.bully_model.specs.declared.Node.{Node}

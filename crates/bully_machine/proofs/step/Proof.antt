@@ -1,8 +1,7 @@
 -- `step` meets its contract: the grounds in their order, and then the effect.
 use borrow.Author.Needs.{needs}
 use borrow.Author.Tests.{not-true, not-false}
-use Prim.Native.Nat.{ℕ}
-use mathlib.Core.Path.{_≡_, refl, sym, _∙_, ap}
+use mathlib.Core.Path.{refl, sym, _∙_, ap}
 use Rattle.bully_model.specs.State.{nodeAt, view}
 use Rattle.bully_machine.proofs.Steps.{accepted-zero, range-refuses, small, high, passed, numbers-refuse, state-refuses, all-clear}
 use Rattle.bully_machine.proofs.step.Statement.{statement}

@@ -1,6 +1,5 @@
 -- `cleared` meets its contract: as many messages wait as before.
 use borrow.Author.Needs.{needs}
-use mathlib.Core.Path.{_≡_}
 use Rattle.model.specs.State.{noMessage}
 use Rattle.model.proofs.Lists.{first-length}
 use Rattle.exports.proofs.cleared.Statement.{statement}

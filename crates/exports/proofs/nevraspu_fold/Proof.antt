@@ -1,7 +1,7 @@
 -- `nevraspu_fold` meets its contract, by the list's first field.
 use borrow.Author.Needs.{needs}
 use denote.Ref.{now}
-use mathlib.Core.Path.{_≡_, refl, sym, _∙_, ap}
+use mathlib.Core.Path.{sym, _∙_, ap}
 use Rattle.model.specs.State.{State}
 use Rattle.event_list.specs.Format.{rest}
 use Rattle.event_list.proofs.Reading.{reading-failed, reading-begun, first-good}

@@ -1,5 +1,4 @@
 -- `start_answer` meets its contract: n below 1, above 16, or good.
-use borrow.Author.Needs.{needs}
 use borrow.Author.Tests.{le-leb, lt-leb}
 use Rattle.model.specs.Pick.{pick}
 use Rattle.predicates.proofs.start_answer.Statement.{statement}
