@@ -3,3 +3,4 @@ pub mod Records
 pub mod Widths
 pub mod RoundTrip
 pub mod Reading
+pub mod Cases

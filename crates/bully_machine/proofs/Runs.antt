@@ -10,10 +10,11 @@ use Rattle.model.specs.Pick.{pick}
 use Rattle.model.specs.Node.{isNormal, isActive}
 use Rattle.bully_model.specs.State.{State, nodeAt, inRange, view}
 use Rattle.bully_model.specs.Step.{Result, refused, accepted, step, kept, runFrom, run}
+use Rattle.bully_model.specs.Claims.{Agreement}
 use Rattle.bully_model.specs.Answers.{answerNumber, resultNumber}
 use Rattle.bully_model.proofs.Refusals.{refuses-by-ground}
 use Rattle.bully_model.proofs.InRange.{stays-in-range}
-use Rattle.bully_model.proofs.Whole.{agreement}
+use Rattle.bully_model.proofs.Whole.{agrees-from-down}
 use Rattle.bully_model.specs.declared.Table.{Table}
 use Rattle.bully_model.specs.declared.Event.{Event}
 use Rattle.bully_model.specs.declared.Outcome.{Outcome}
@@ -21,7 +22,7 @@ use Rattle.bully_model.specs.declared.Answer.{Answer}
 use Rattle.bully_model.specs.declared.Answer.the-variants.{Accepted, NotInRange, WrongNumber, WrongTask, WrongRunning, WrongPlace}
 use Rattle.bully_machine.specs.Stepped.{Stepped}
 use Rattle.bully_machine.specs.Folded.{Folded, none, more}
-use Rattle.bully_machine.specs.Claims.{AcceptedAlike, SteppedAlike, Reached, CodeRuns, CodeAgrees}
+use Rattle.bully_machine.specs.Claims.{AcceptedAlike, SteppedAlike, Reached, CodeRuns, CodeAgrees, CodeAgreesFromDown}
 
 -- ── Accepted, of the code and of the model ──
 
@@ -100,15 +101,26 @@ code-runs =
           (ap (λ (s : State). step s e) (sym (reached-run c)) ∙ one-is (step (view t) e) (sym (ap answerNumber a) ∙ x .answer));
     }
 
-pub code-agrees : (n : ℕ) → CodeAgrees n
-code-agrees n =
+-- what holds of the model's tables holds of the code's
+agrees : (t : Table) (s : State) → view t ≡ s → Agreement s → CodeAgrees t
+agrees t s e a =
     record {
-      same-coordinator = λ {es} {t} c.
+      same-coordinator = λ {es} {u} c.
           subst
-          (λ (s : State). (i j : ℕ) → isActive (nodeAt s i .status) ≡ true → isActive (nodeAt s j .status) ≡ true → nodeAt s i .coordinator ≡ nodeAt s j .coordinator)
-          (sym (reached-run c)) (agreement n .same-coordinator es);
-      same-task = λ {es} {t} c.
+          (λ (v : State). (i j : ℕ) → isActive (nodeAt v i .status) ≡ true → isActive (nodeAt v j .status) ≡ true → nodeAt v i .coordinator ≡ nodeAt v j .coordinator)
+          (sym (led c)) (a .same-coordinator es);
+      same-task = λ {es} {u} c.
           subst
-          (λ (s : State). (i j : ℕ) → isNormal (nodeAt s i .status) ≡ true → isNormal (nodeAt s j .status) ≡ true → nodeAt s i .task ≡ nodeAt s j .task)
-          (sym (reached-run c)) (agreement n .same-task es);
+          (λ (v : State). (i j : ℕ) → isNormal (nodeAt v i .status) ≡ true → isNormal (nodeAt v j .status) ≡ true → nodeAt v i .task ≡ nodeAt v j .task)
+          (sym (led c)) (a .same-task es);
+    }
+  where
+    led : {es : List Event} {u : Table} → Folded t es u → view u ≡ runFrom s es
+    led {es = es} c = folded-runs c ∙ ap (λ (v : State). runFrom v es) e
+
+pub code-agrees-from-down : CodeAgreesFromDown
+code-agrees-from-down =
+    record {
+      from-start = λ n r b. agrees (r .table) _ (b .table) (agrees-from-down .from-start n);
+      from-down = λ t d. agrees t (view t) refl (agrees-from-down .from-down (view t) d);
     }

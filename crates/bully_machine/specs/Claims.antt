@@ -7,6 +7,7 @@ use Rattle.model.specs.Limits.{nodeLimit}
 use Rattle.model.specs.Node.{isNormal, isActive}
 use Rattle.bully_model.specs.State.{State, nodeAt, inRange, view}
 use Rattle.bully_model.specs.Step.{accepted, step, runFrom, run}
+use Rattle.bully_model.specs.Claims.{AllDown}
 use Rattle.bully_model.specs.declared.Table.{Table}
 use Rattle.bully_model.specs.declared.Event.{Event}
 use Rattle.bully_model.specs.declared.Outcome.{Outcome}
@@ -44,13 +45,20 @@ pub record CodeRuns : Type 0 where
   pub in-range : (n : ℕ) → 1 ≤ n → n ≤ nodeLimit → {es : List Event} {t : Table} → Reached n es t → inRange (view t) ≡ true
   pub never-one : (n : ℕ) → 1 ≤ n → n ≤ nodeLimit → {es : List Event} {t : Table} → Reached n es t → {e : Event} {r : Outcome} → Stepped t e r → r .answer ≡ NotInRange → ⊥
 
--- T-07's claim, of the tables that the code returned: each field is that of `Agreement` (bully_model/specs/Claims), of them.
-pub record CodeAgrees (n : ℕ) : Type 0 where
+-- T-07's claim, of the tables u that the code returned for lists of events from the table t: each field is that of `Agreement` (bully_model/specs/Claims), of them.
+pub record CodeAgrees (t : Table) : Type 0 where
   -- "two cabinets in Reorganization or Normal have the same coordinator"
-  pub same-coordinator : {es : List Event} {t : Table} → Reached n es t → (i j : ℕ)
-      → isActive (nodeAt (view t) i .status) ≡ true → isActive (nodeAt (view t) j .status) ≡ true
-      → nodeAt (view t) i .coordinator ≡ nodeAt (view t) j .coordinator
+  pub same-coordinator : {es : List Event} {u : Table} → Folded t es u → (i j : ℕ)
+      → isActive (nodeAt (view u) i .status) ≡ true → isActive (nodeAt (view u) j .status) ≡ true
+      → nodeAt (view u) i .coordinator ≡ nodeAt (view u) j .coordinator
   -- "and two Normal ones the same task"
-  pub same-task : {es : List Event} {t : Table} → Reached n es t → (i j : ℕ)
-      → isNormal (nodeAt (view t) i .status) ≡ true → isNormal (nodeAt (view t) j .status) ≡ true
-      → nodeAt (view t) i .task ≡ nodeAt (view t) j .task
+  pub same-task : {es : List Event} {u : Table} → Folded t es u → (i j : ℕ)
+      → isNormal (nodeAt (view u) i .status) ≡ true → isNormal (nodeAt (view u) j .status) ≡ true
+      → nodeAt (view u) i .task ≡ nodeAt (view u) j .task
+
+-- "Proved after any events from all Down"
+pub record CodeAgreesFromDown : Type 0 where
+  -- from what `starting(n)` returned, for any n
+  pub from-start : (n : ℕ) (r : Start) → Begun n r → CodeAgrees (r .table)
+  -- and from every table whose nodes are all Down and idle
+  pub from-down : (t : Table) → AllDown (view t) → CodeAgrees t

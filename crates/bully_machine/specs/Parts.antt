@@ -37,7 +37,7 @@ isAccepted WrongPlace = false
 
 -- ── what the code needs so that no number leaves its word; what is in range has it ──
 
--- the node called can be put into a set, and the one after or before it has a number
+-- whom it halts can be put into a set and has one before it; the one after whom it asks or checks has a number
 abbrev pub FitsPlace : Place → Type 0
 FitsPlace Idle = Unit {0}
 FitsPlace (Asking j) = j ≤ nodeLimit

@@ -24,13 +24,13 @@ pub record Stepped (t : Table) (e : Event) (r : Outcome) : Type 0 where
   -- a refusal gives back the very same table, all places included
   pub same : (r .answer ≡ Accepted → ⊥) → r .table ≡ t
 
--- "all Down", in every record of the code's table
+-- 02: "all Down", in every record of the code's table
 abbrev pub startingTable : ℕ → Table
 startingTable n = record { n = n; nodes = replicate nodeLimit startingNode }
 
 -- What `starting` answers for n, and the table that it returns, also where it refuses n.
 pub record Begun (n : ℕ) (r : Start) : Type 0 where
-  -- refusal 6, or none
+  -- refusal 6 of 01, "n outside 1 to 16", or none; 02 has no number of its own for it
   pub answer : startNumber (r .answer) ≡ pick (wrongCount n) 6 0
   -- the table in all its places
   pub exact : r .table ≡ startingTable n

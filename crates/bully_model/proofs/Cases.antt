@@ -10,7 +10,7 @@ use Rattle.bully_model.specs.Calls.{newCoordinator, ready, called, answe
 use Rattle.bully_model.specs.Range.{placeInRange, nodeInRange}
 use Rattle.bully_model.specs.State.{inRange}
 use Rattle.bully_model.specs.Step.{call, goOn, effect, grounds, step, runFrom}
-use Rattle.bully_model.specs.Cases.{NamedRuns, CallCases}
+use Rattle.bully_model.specs.Cases.{NamedRuns, CallCases, FurtherCases, RangeCases}
 
 pub named-runs : NamedRuns
 unfolding pick onesIn ones leadingZeros trailingZeros bitAnd bitOr every handNext announceNext electionPoint haltFrom haltingStep askFrom election recovery checkAt checkFrom check timeout finish newCoordinator ready called answered timedOut placeInRange nodeInRange inRange call goOn effect grounds judged step runFrom
@@ -56,4 +56,79 @@ call-cases =
       halter-cleared = refl;
       up-emptied = refl;
       coordinator-zero = refl;
+    }
+
+pub further-cases : FurtherCases
+unfolding pick onesIn ones leadingZeros trailingZeros bitAnd bitOr every handNext announceNext electionPoint haltFrom haltingStep askFrom election recovery checkAt checkFrom check timeout finish newCoordinator ready called answered timedOut placeInRange nodeInRange inRange call goOn effect grounds judged step runFrom
+further-cases =
+    record {
+      timeout-election = refl;
+      timeout-down = refl;
+      timeout-member = refl;
+      timeout-own = refl;
+      contact-answered = refl;
+      asked-down = refl;
+      halt-timed-out = refl;
+      halt-last = refl;
+      halt-nobody = refl;
+      announce-timed-out = refl;
+      announce-restarts = refl;
+      hand-restarts = refl;
+      restart-given-up = refl;
+      check-first = refl;
+      check-passes = refl;
+      check-ends = refl;
+      check-one = refl;
+      check-no = refl;
+      crash-handing = refl;
+      recover-running = refl;
+      crash-running = refl;
+      crash-off = refl;
+      check-busy = refl;
+      timeout-busy = refl;
+      point-goes-on = refl;
+      one-first = refl;
+      seven-first = refl;
+      eight-first = refl;
+      nine-first = refl;
+    }
+
+pub range-cases : RangeCases
+unfolding pick onesIn ones leadingZeros trailingZeros bitAnd bitOr every handNext announceNext electionPoint haltFrom haltingStep askFrom election recovery checkAt checkFrom check timeout finish newCoordinator ready called answered timedOut placeInRange nodeInRange inRange call goOn effect grounds judged step runFrom
+range-cases =
+    record {
+      none = refl;
+      one = refl;
+      sixteen = refl;
+      seventeen = refl;
+      numbers = refl;
+      coordinator = refl;
+      halter = refl;
+      up = refl;
+      up-holder = refl;
+      up-beyond = refl;
+      off-down = refl;
+      off-normal = refl;
+      off-asking = refl;
+      asking = refl;
+      asking-itself = refl;
+      asking-beyond = refl;
+      halting = refl;
+      halting-itself = refl;
+      halting-none = refl;
+      announcing = refl;
+      announcing-itself = refl;
+      announcing-none = refl;
+      announcing-still = refl;
+      announcing-beyond = refl;
+      handing = refl;
+      handing-itself = refl;
+      handing-beyond = refl;
+      handing-still = refl;
+      checking = refl;
+      checking-itself = refl;
+      checking-none = refl;
+      contacting = refl;
+      contacting-none = refl;
+      contacting-itself = refl;
     }

@@ -15,12 +15,12 @@ use Rattle.bully_model.specs.Node.{isPoint}
 use Rattle.bully_model.specs.Calls.{callee, called, answered, timedOut}
 use Rattle.bully_model.specs.State.{State, startingNode, start, nodeAt, stored, inRange}
 use Rattle.bully_model.specs.Step.{call, goOn, effect, actor, kept, after, runFrom, run}
-use Rattle.bully_model.specs.Claims.{Agreement}
+use Rattle.bully_model.specs.Claims.{Agreement, AllDown, AgreesFromDown}
 use Rattle.bully_model.proofs.Judged.{Clear, by-step}
 use Rattle.bully_model.proofs.Fields.{NodeFacts, in-range-size, in-range-node}
 use Rattle.bully_model.proofs.Range.{callee-in}
 use Rattle.bully_model.proofs.InRange.{runner, number, stands}
-use Rattle.bully_model.proofs.Invariant.{phase, Aspect, aspect, Safe}
+use Rattle.bully_model.proofs.Invariant.{Free, phase, Aspect, aspect, Safe}
 use Rattle.bully_model.proofs.Changes.{Past}
 use Rattle.bully_model.proofs.Local.{Good, past, good, Answering, crashed-safe, check-safe, timeout-safe, finish-safe, recovery-safe, timedOut-safe, answered-safe, called-safe, answering}
 use Rattle.bully_model.specs.declared.Place.{Place}
@@ -153,33 +153,39 @@ starting zero (suc j) = refl
 starting (suc n) (suc zero) = refl
 starting (suc n) (suc (suc j)) = starting n (suc j)
 
-start-aspects : (n : ℕ) → aspects (start n) ≡ (λ (j : ℕ). aspect startingNode)
-start-aspects n = fun-ext (λ j. ap aspect (starting n j))
+start-down : (n : ℕ) → AllDown (start n)
+start-down n j = rw (starting n j) (refl, refl)
 
-start-holds : (n : ℕ) → Holds (start n)
-start-holds n =
-    rw (start-aspects n)
-    (record {
+-- where all are Down and idle, nobody has dealt with anybody, and nobody is led
+down-holds : (s : State) → AllDown s → Holds s
+down-holds s d =
+    record {
       safe = record {
-        suited = λ i. tt;
-        halter-high = λ i m x. absurd (true≢false (sym (x .election)));
-        unled = λ i k o x y. x;
-        halter-not-past = λ a b m l x y z. x;
-        one-leader = λ i k o p x y. absurd (true≢false (sym (x .active)));
-        none-normal = λ i k t x y. x;
-        one-task = λ i k t u x y. absurd (true≢false (sym (x .normal)));
-        handed-task = λ i k t u x y. absurd (true≢false (sym (x .normal)));
+        suited = λ i. rw (free i) tt;
+        halter-high = λ i m x. absurd (true≢false (sym (rw (d i .0) at (x .election))));
+        unled = λ i k o x y. rw (free i) at x;
+        halter-not-past = λ a b m l x y z. rw (free a) at x;
+        one-leader = λ i k o p x y. absurd (true≢false (sym (rw (d i .0) at (x .active))));
+        none-normal = λ i k t x y. rw (free i) at x;
+        one-task = λ i k t u x y. absurd (true≢false (sym (rw (d i .0) at (x .normal))));
+        handed-task = λ i k t u x y. absurd (true≢false (sym (rw (d i .0) at (x .normal))));
       };
-      outside = λ k _. (refl, refl);
-    })
+      outside = λ k _. (d k .0, free k);
+    }
+  where
+    free : (i : ℕ) → phase (nodeAt s i .place) ≡ Free
+    free i = ap phase (d i .1)
 
 -- ── the claims ──
-pub agreement : (n : ℕ) → Agreement n
-agreement n =
+agreement : (s : State) → AllDown s → Agreement s
+agreement s d =
     record {
       same-coordinator = λ es i j a b. safe es .one-leader i j _ _ (record { active = a; by = refl }) (record { active = b; by = refl });
       same-task = λ es i j a b. safe es .one-task i j _ _ (record { normal = a; task = refl }) (record { normal = b; task = refl });
     }
   where
-    safe : (es : List Event) → Safe (aspects (run n es))
-    safe es = run-holds (start n) es (start-holds n) .safe
+    safe : (es : List Event) → Safe (aspects (runFrom s es))
+    safe es = run-holds s es (down-holds s d) .safe
+
+pub agrees-from-down : AgreesFromDown
+agrees-from-down = record { from-start = λ n. agreement (start n) (start-down n); from-down = agreement }

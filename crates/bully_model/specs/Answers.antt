@@ -1,4 +1,4 @@
--- 01's numbers for the cases of the answer. Accepted, which has none there, is 0.
+-- The numbers of the cases of the answer: 01's, of which 02 says what 1, 9 and 10 ask here. Accepted, which has none there, is 0.
 use Prim.Native.Nat.{ℕ}
 use Rattle.bully_model.specs.Step.{Result, refused, accepted}
 use Rattle.bully_model.specs.declared.Answer.{Answer}

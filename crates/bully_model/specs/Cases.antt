@@ -1,12 +1,12 @@
 -- Named runs and single calls, claimed over the definitions.
 use Prim.Native.Nat.{ℕ}
-use mathlib.Core.Bool.{true, false}
+use mathlib.Core.Bool.{Bool, true, false}
 use mathlib.Core.Path.{_≡_}
 use mathlib.Core.List.{List, [], _∷_, _++_}
 use Rattle.model.specs.declared.Status.{Status}
 use Rattle.model.specs.declared.Status.the-variants.{Down, Election, Reorganization, Normal}
 use Rattle.model.specs.declared.TaskNo.{TaskNo}
-use Rattle.bully_model.specs.State.{State, startingNode, start}
+use Rattle.bully_model.specs.State.{State, startingNode, start, inRange}
 use Rattle.bully_model.specs.Step.{refused, accepted, step, run}
 use Rattle.bully_model.specs.declared.Place.{Place}
 use Rattle.bully_model.specs.declared.Place.the-variants.{Idle, Asking, Halting, Announcing, Point, Handing, Checking, Contacting}
@@ -50,7 +50,7 @@ abbrev pub lost : List Event
 lost = grouped ++ (Crash 3 ∷ Timeout 2 ∷ GoOn 2 ∷ [])
 
 pub record NamedRuns : Type 0 where
-  -- n = 1: at once at the point, and at once Normal
+  -- n = 1: recovery leads straight to the point, and a finish to Normal
   pub one-elected : run 1 (Recover 1 ∷ []) ≡ record { n = 1; nodes = running Reorganization 1 0 1 0 Point ∷ [] }
   pub one-normal : run 1 (Recover 1 ∷ Finish 1 (taskNo 100) ∷ []) ≡ record { n = 1; nodes = running Normal 1 100 1 0 Idle ∷ [] }
   -- n = 3, to a Normal group with a task; a node that recovers is Down until its halting step
@@ -61,7 +61,7 @@ pub record NamedRuns : Type 0 where
   pub hands : run 3 (elected ++ (Finish 3 (taskNo 100) ∷ []))
       ≡ three (running Reorganization 3 0 3 0 Idle) (running Reorganization 3 0 3 0 Idle) (running Reorganization 3 100 3 3 (Handing 1 2))
   pub is-grouped : run 3 grouped ≡ group
-  -- a check that finds all Normal, and one that finds node 1 anew
+  -- a check that finds all Normal, and one that finds node 1 recovering
   pub checks : run 3 (grouped ++ (Check 3 ∷ [])) ≡ three (running Normal 3 100 3 0 Idle) (running Normal 3 100 3 0 Idle) (running Normal 3 100 3 3 (Checking 1))
   pub finds-all : run 3 (grouped ++ (Check 3 ∷ GoOn 3 ∷ GoOn 3 ∷ [])) ≡ group
   pub finds-one : run 3 (grouped ++ (Crash 1 ∷ Recover 1 ∷ Check 3 ∷ GoOn 3 ∷ []))
@@ -100,7 +100,8 @@ announced d = three d (off 0 0 0 0) (running Reorganization 3 0 3 1 Point)
 abbrev pub handed : Node → State
 handed d = three d (off 0 0 0 0) (running Normal 3 100 3 1 Idle)
 
--- Rules that the agreement of coordinators and tasks does not force: the claims hold of a machine without them, and these cases tell it.
+-- The tests of NewCoordinator and Ready, what recovery and the halting step clear, and a call to coordinator 0. The agreement of coordinators and tasks does not force all of
+-- these; the cases do.
 pub record CallCases : Type 0 where
   -- NewCoordinator reaches node 1, halted by 3 and in Election
   pub announced-to : step (announcingTo (running Election 0 0 3 0 Idle)) (GoOn 3) ≡ accepted (announced (running Reorganization 3 0 3 0 Idle))
@@ -123,3 +124,114 @@ pub record CallCases : Type 0 where
   -- "a call .. to coordinator 0, times out"
   pub coordinator-zero : step (three (running Normal 0 100 0 0 Contacting) (off 0 0 0 0) (off 0 0 0 0)) (GoOn 1)
       ≡ accepted (three (running Normal 0 100 0 0 (Asking 2)) (off 0 0 0 0) (off 0 0 0 0))
+
+-- a table of three in which 2 is off, with the records a and c
+abbrev pub without2 : Node → Node → State
+without2 a c = three a (off 0 0 0 0) c
+
+-- nodes 1 and 2 in Reorganization under 2, which announces itself to 1, or hands task 100 to it; 3 is off
+abbrev pub under2 : Node → Place → State
+under2 a p = three a (running Reorganization 2 100 2 1 p) (off 3 100 3 3)
+
+pub record FurtherCases : Type 0 where
+  -- Timeout, "ELSE CALL Election(i)": in Election, and Down while it runs
+  pub timeout-election : step (three (running Election 0 0 3 0 Idle) startingNode startingNode) (Timeout 1) ≡ accepted (three (running Election 0 0 3 0 (Asking 2)) startingNode startingNode)
+  pub timeout-down : step (three (running Down 3 100 0 0 Idle) startingNode startingNode) (Timeout 1) ≡ accepted (three (running Down 3 100 0 0 (Asking 2)) startingNode startingNode)
+  -- Timeout of a member in Reorganization, and of a coordinator in it
+  pub timeout-member : step (under2 (running Reorganization 2 0 2 0 Idle) Point) (Timeout 1) ≡ accepted (under2 (running Reorganization 2 0 2 0 Contacting) Point)
+  pub timeout-own : step (three (running Reorganization 1 0 1 0 Idle) startingNode startingNode) (Timeout 1) ≡ accepted (three (running Reorganization 1 0 1 0 Idle) startingNode startingNode)
+  -- the coordinator answers
+  pub contact-answered : step (under2 (running Reorganization 2 0 2 0 Contacting) Point) (GoOn 1) ≡ accepted (under2 (running Reorganization 2 0 2 0 Idle) Point)
+  -- "CALL AreYouThere(j)" is answered by one that runs, though it is Down
+  pub asked-down : step (three (running Down 0 0 0 0 (Asking 2)) (running Down 0 0 0 0 (Asking 3)) startingNode) (GoOn 1)
+      ≡ accepted (three (running Down 0 0 0 0 Idle) (running Down 0 0 0 0 (Asking 3)) startingNode)
+  -- Halt, "ONTIMEOUT(T): NEXT ITERATION": one that is off does not join Up; after 1 comes the election point
+  pub halt-timed-out : step (without2 (running Normal 3 100 3 0 Idle) (running Election 3 100 3 0 (Halting 2))) (GoOn 3)
+      ≡ accepted (without2 (running Normal 3 100 3 0 Idle) (running Election 3 100 3 0 (Halting 1)))
+  pub halt-last : step (without2 (running Normal 3 100 3 0 Idle) (running Election 3 100 3 0 (Halting 1))) (GoOn 3)
+      ≡ accepted (without2 (running Election 3 100 3 0 Idle) (running Reorganization 3 100 3 1 (Announcing 0 1)))
+  pub halt-nobody : step (without2 (off 0 0 0 0) (running Election 3 100 3 0 (Halting 1))) (GoOn 3) ≡ accepted (without2 (off 0 0 0 0) (running Reorganization 3 100 3 0 Point))
+  -- NewCoordinator, "CALL Election(i); RETURN": the highest halts anew, another asks first and keeps its status meanwhile
+  pub announce-timed-out : step (without2 (off 3 100 3 0) (running Reorganization 3 0 3 1 (Announcing 0 1))) (GoOn 3)
+      ≡ accepted (without2 (off 3 100 3 0) (running Election 3 0 3 0 (Halting 2)))
+  pub announce-restarts : step (under2 (off 2 0 2 0) (Announcing 0 1)) (GoOn 2) ≡ accepted (under2 (off 2 0 2 0) (Asking 3))
+  -- Ready the same; and where a higher one answers then, it gives up as it stands
+  pub hand-restarts : step (under2 (off 2 0 2 0) (Handing 0 1)) (GoOn 2) ≡ accepted (under2 (off 2 0 2 0) (Asking 3))
+  pub restart-given-up : step (three (off 2 0 2 0) (running Reorganization 2 100 2 1 (Asking 3)) (running Down 3 100 0 3 Idle)) (GoOn 2)
+      ≡ accepted (three (off 2 0 2 0) (running Reorganization 2 100 2 1 Idle) (running Down 3 100 0 3 Idle))
+  -- Check: 1 asks 2 first, 2 goes from 1 to 3, one that is off is passed over, and after n it ends; with n = 1 there is nobody to ask
+  pub check-first : step (three (running Normal 1 100 1 0 Idle) startingNode startingNode) (Check 1) ≡ accepted (three (running Normal 1 100 1 0 (Checking 2)) startingNode startingNode)
+  pub check-passes : step (three (running Normal 2 100 2 0 Idle) (running Normal 2 100 2 1 (Checking 1)) startingNode) (GoOn 2)
+      ≡ accepted (three (running Normal 2 100 2 0 Idle) (running Normal 2 100 2 1 (Checking 3)) startingNode)
+  pub check-ends : step (three (running Normal 2 100 2 0 Idle) (running Normal 2 100 2 1 (Checking 3)) startingNode) (GoOn 2)
+      ≡ accepted (three (running Normal 2 100 2 0 Idle) (running Normal 2 100 2 1 Idle) startingNode)
+  pub check-one : step (record { n = 1; nodes = running Normal 1 100 1 0 Idle ∷ [] }) (Check 1) ≡ accepted (record { n = 1; nodes = running Normal 1 100 1 0 Idle ∷ [] })
+  -- "IF ans = "No" THEN BEGIN CALL Election(i); RETURN; END": one that is not the highest asks
+  pub check-no : step (three (running Election 2 100 3 0 Idle) (running Normal 2 100 2 1 (Checking 1)) startingNode) (GoOn 2)
+      ≡ accepted (three (running Election 2 100 3 0 Idle) (running Normal 2 100 2 1 (Asking 3)) startingNode)
+  -- a crash wherever it is in its procedure, all else kept
+  pub crash-handing : step (under2 (running Reorganization 2 0 2 0 Idle) (Handing 0 1)) (Crash 2) ≡ accepted (three (running Reorganization 2 0 2 0 Idle) (off 2 100 2 1) (off 3 100 3 3))
+  -- "9 asks whether the cabinet runs", not whether it is Down
+  pub recover-running : step (three (running Down 0 0 0 0 Idle) startingNode startingNode) (Recover 1) ≡ refused 9
+  pub crash-running : step (three (running Down 0 0 0 0 Idle) startingNode startingNode) (Crash 1) ≡ accepted (three startingNode startingNode startingNode)
+  pub crash-off : step (start 3) (Crash 1) ≡ refused 9
+  -- 10: check and timeout of a node that is not idle, also at the point
+  pub check-busy : step (three (running Normal 1 100 1 0 (Checking 2)) startingNode startingNode) (Check 1) ≡ refused 10
+  pub timeout-busy : step (three (running Reorganization 1 0 1 0 Point) startingNode startingNode) (Timeout 1) ≡ refused 10
+  pub point-goes-on : step (three (running Reorganization 1 0 1 0 Point) startingNode startingNode) (GoOn 1) ≡ refused 10
+  -- the order: 1 before 7, 7 before 8, 8 before 9, 9 before 10
+  pub one-first : step (record { n = 17; nodes = [] }) (Crash 18) ≡ refused 1
+  pub seven-first : step (start 3) (Finish 0 (taskNo 99)) ≡ refused 7
+  pub eight-first : step (start 3) (Finish 1 (taskNo 99)) ≡ refused 8
+  pub nine-first : step (start 3) (Finish 1 (taskNo 100)) ≡ refused 9
+
+-- node 2 of three that has this record is in range; the others are as at the start
+abbrev pub inRange2 : Node → Bool
+inRange2 c = inRange (three startingNode c startingNode)
+
+-- each rule of the range, at its ends and just outside
+pub record RangeCases : Type 0 where
+  -- "n outside 1 to 16"
+  pub none : inRange (start 0) ≡ false
+  pub one : inRange (start 1) ≡ true
+  pub sixteen : inRange (start 16) ≡ true
+  pub seventeen : inRange (start 17) ≡ false
+  -- coordinator and last halter 0 to 3
+  pub numbers : inRange2 (running Normal 3 65535 3 0 Idle) ≡ true
+  pub coordinator : inRange2 (running Normal 4 100 3 0 Idle) ≡ false
+  pub halter : inRange2 (running Normal 3 100 4 0 Idle) ≡ false
+  -- Up: 1 and 3 at the most; "a holder in its own Up"
+  pub up : inRange2 (running Normal 3 100 3 5 Idle) ≡ true
+  pub up-holder : inRange2 (running Normal 3 100 3 2 Idle) ≡ false
+  pub up-beyond : inRange2 (running Normal 3 100 3 8 Idle) ≡ false
+  -- "one that does not run but is not Down and idle"
+  pub off-down : inRange2 (off 3 100 3 5) ≡ true
+  pub off-normal : inRange2 (record { runs = false; status = Normal; coordinator = 0; task = taskNo 0; halter = 0; up = 0; place = Idle }) ≡ false
+  pub off-asking : inRange2 (record { runs = false; status = Down; coordinator = 0; task = taskNo 0; halter = 0; up = 0; place = Asking 3 }) ≡ false
+  -- whom it asks: 3 alone
+  pub asking : inRange2 (running Down 0 0 0 0 (Asking 3)) ≡ true
+  pub asking-itself : inRange2 (running Down 0 0 0 0 (Asking 2)) ≡ false
+  pub asking-beyond : inRange2 (running Down 0 0 0 0 (Asking 4)) ≡ false
+  -- whom it halts: 1 alone
+  pub halting : inRange2 (running Election 0 0 2 0 (Halting 1)) ≡ true
+  pub halting-itself : inRange2 (running Election 0 0 2 0 (Halting 2)) ≡ false
+  pub halting-none : inRange2 (running Election 0 0 2 0 (Halting 0)) ≡ false
+  -- to whom it announces itself, and to whom still: 1 and 3
+  pub announcing : inRange2 (running Reorganization 2 0 2 5 (Announcing 5 3)) ≡ true
+  pub announcing-itself : inRange2 (running Reorganization 2 0 2 5 (Announcing 0 2)) ≡ false
+  pub announcing-none : inRange2 (running Reorganization 2 0 2 5 (Announcing 0 0)) ≡ false
+  pub announcing-still : inRange2 (running Reorganization 2 0 2 5 (Announcing 2 1)) ≡ false
+  pub announcing-beyond : inRange2 (running Reorganization 2 0 2 5 (Announcing 8 1)) ≡ false
+  -- the same of handing
+  pub handing : inRange2 (running Reorganization 2 100 2 5 (Handing 5 3)) ≡ true
+  pub handing-itself : inRange2 (running Reorganization 2 100 2 5 (Handing 0 2)) ≡ false
+  pub handing-beyond : inRange2 (running Reorganization 2 100 2 5 (Handing 0 4)) ≡ false
+  pub handing-still : inRange2 (running Reorganization 2 100 2 5 (Handing 2 1)) ≡ false
+  -- whom it checks: 1 and 3
+  pub checking : inRange2 (running Normal 2 100 2 5 (Checking 3)) ≡ true
+  pub checking-itself : inRange2 (running Normal 2 100 2 5 (Checking 2)) ≡ false
+  pub checking-none : inRange2 (running Normal 2 100 2 5 (Checking 0)) ≡ false
+  -- its coordinator, which is not itself, and may be 0
+  pub contacting : inRange2 (running Normal 3 100 3 0 Contacting) ≡ true
+  pub contacting-none : inRange2 (running Normal 0 100 3 0 Contacting) ≡ true
+  pub contacting-itself : inRange2 (running Normal 2 100 3 0 Contacting) ≡ false

@@ -1,28 +1,41 @@
 -- What is claimed of the definitions. The proofs are in proofs/.
 use Prim.Native.Nat.{ℕ, _≤_}
-use mathlib.Core.Bool.{true}
+use mathlib.Core.Bool.{Bool, true, false}
 use mathlib.Core.Path.{_≡_}
 use mathlib.Core.Logic.{_⊎_}
 use mathlib.Core.List.{List, [], _∷_, map}
 use Rattle.model.specs.Limits.{nodeLimit}
 use Rattle.model.specs.Node.{isNormal, isActive}
+use Rattle.model.specs.declared.Status.the-variants.{Down}
 use Rattle.bully_model.specs.Calls.{callee}
 use Rattle.bully_model.specs.State.{State, start, nodeAt, inRange}
-use Rattle.bully_model.specs.Step.{actor, grounds, refused, accepted, step, run}
+use Rattle.bully_model.specs.Step.{actor, grounds, refused, accepted, step, runFrom, run}
+use Rattle.bully_model.specs.declared.Place.{Place}
+use Rattle.bully_model.specs.declared.Place.the-variants.{Idle, Asking, Halting, Announcing, Point, Handing, Checking, Contacting}
 use Rattle.bully_model.specs.declared.Event.{Event}
 use Rattle.bully_model.specs.declared.Event.the-variants.{Crash, Recover, Check, Timeout, GoOn, Finish}
 
--- "Proved after any events from all Down", of every list of events from the starting table of n nodes (Assertion 1 of document 002). i and j are any numbers: one outside 1
--- to n is nobody's, whose record is Down.
-pub record Agreement (n : ℕ) : Type 0 where
+-- What 02 has proved, of every list of events from the table s (Assertion 1 of document 002). i and j are any numbers: one outside 1 to n is nobody's, whose record is Down.
+pub record Agreement (s : State) : Type 0 where
   -- "two cabinets in Reorganization or Normal have the same coordinator"
   pub same-coordinator : (es : List Event) (i j : ℕ)
-      → isActive (nodeAt (run n es) i .status) ≡ true → isActive (nodeAt (run n es) j .status) ≡ true
-      → nodeAt (run n es) i .coordinator ≡ nodeAt (run n es) j .coordinator
+      → isActive (nodeAt (runFrom s es) i .status) ≡ true → isActive (nodeAt (runFrom s es) j .status) ≡ true
+      → nodeAt (runFrom s es) i .coordinator ≡ nodeAt (runFrom s es) j .coordinator
   -- "and two Normal ones the same task"
   pub same-task : (es : List Event) (i j : ℕ)
-      → isNormal (nodeAt (run n es) i .status) ≡ true → isNormal (nodeAt (run n es) j .status) ≡ true
-      → nodeAt (run n es) i .task ≡ nodeAt (run n es) j .task
+      → isNormal (nodeAt (runFrom s es) i .status) ≡ true → isNormal (nodeAt (runFrom s es) j .status) ≡ true
+      → nodeAt (runFrom s es) i .task ≡ nodeAt (runFrom s es) j .task
+
+-- every node is Down and idle, whatever else its record has kept
+abbrev pub AllDown : State → Type 0
+AllDown s = (i : ℕ) → (nodeAt s i .status ≡ Down) × (nodeAt s i .place ≡ Idle)
+
+-- "Proved after any events from all Down"
+pub record AgreesFromDown : Type 0 where
+  -- from the starting table of any number of nodes
+  pub from-start : (n : ℕ) → Agreement (start n)
+  -- and from every table whose nodes are all Down and idle, as after a power cut
+  pub from-down : (s : State) → AllDown s → Agreement s
 
 pub record StaysInRange : Type 0 where
   -- the starting table is in range
@@ -48,8 +61,22 @@ calledBy s (Timeout i) = 0
 calledBy s (GoOn i) = callee (nodeAt s i) (nodeAt s i .place)
 calledBy s (Finish i t) = 0
 
+-- whether the call of a place can change the record of the one called: Halt, NewCoordinator and Ready do, AreYouThere and AreYouNormal only ask
+abbrev pub isTelling : Place → Bool
+isTelling Idle = false
+isTelling (Asking j) = false
+isTelling (Halting j) = true
+isTelling (Announcing still j) = true
+isTelling Point = false
+isTelling (Handing still j) = true
+isTelling (Checking j) = false
+isTelling Contacting = false
+
 -- how little a step changes
 pub record StepIsLocal : Type 0 where
   pub nodes : (s : State) (e : Event) (u : State) → step s e ≡ accepted u → u .n ≡ s .n
   -- only the event's node and the one that it calls
   pub others : (s : State) (e : Event) (u : State) → step s e ≡ accepted u → (j : ℕ) → (j ≡ actor e → ⊥) → (j ≡ calledBy s e → ⊥) → nodeAt u j ≡ nodeAt s j
+  -- only the event's node, where the one that it calls does not run, or is only asked
+  pub timed-out : (s : State) (e : Event) (u : State) → step s e ≡ accepted u → nodeAt s (calledBy s e) .runs ≡ false → (j : ℕ) → (j ≡ actor e → ⊥) → nodeAt u j ≡ nodeAt s j
+  pub asked : (s : State) (e : Event) (u : State) → step s e ≡ accepted u → isTelling (nodeAt s (actor e) .place) ≡ false → (j : ℕ) → (j ≡ actor e → ⊥) → nodeAt u j ≡ nodeAt s j

@@ -20,7 +20,7 @@ isIdle (Handing still j) = false
 isIdle (Checking j) = false
 isIdle Contacting = false
 
--- "the reorganization point"
+-- 02: "the reorganization point"
 abbrev pub isPoint : Place → Bool
 isPoint Idle = false
 isPoint (Asking j) = false
@@ -31,7 +31,7 @@ isPoint (Handing still j) = false
 isPoint (Checking j) = false
 isPoint Contacting = false
 
--- "a call to make"
+-- 02: "a call to make"
 abbrev pub hasCall : Place → Bool
 hasCall Idle = false
 hasCall (Asking j) = true

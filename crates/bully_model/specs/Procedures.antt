@@ -1,5 +1,6 @@
--- The procedures of Appendix I that make calls, each cut at its calls: what node i of n, whose record is c, does up to its next call. "What needs no call is done in
+-- The procedures of Appendix I that make calls, each cut at its calls: what node i of n, whose record is c, does up to its next call. 02: "What needs no call is done in
 -- the event that reaches it." The calls themselves are in Calls. A procedure's parts stand from its end to its beginning, because each goes on with the one above it.
+-- Quoted without a document is the appendix; signs that the scan of it lost are put back.
 use Prim.Native.Nat.{ℕ, _+_, _-_}
 use mathlib.Core.Bool.{true, false, _&&_}
 use lib.Dec.{eqb, leb}
@@ -14,7 +15,7 @@ use Rattle.bully_model.specs.declared.Node.{Node}
 
 -- ── PROCEDURE Election(i) ──
 
--- "FOR j IN S(i)·Up DO .. CALL Ready(j, i, S(i)·d)": those still to be called. "Sets are walked as the appendix does where it says, else from the highest down."
+-- "FOR j IN S(i)·Up DO .. CALL Ready(j, i, S(i)·d)": those still to be called. 02: "Sets are walked as the appendix does where it says, else from the highest down."
 -- After the last: "[[S(i)·s := "Normal";]] END Election"
 unfoldable pub handNext : Node → ℕ → Node
 handNext c still = pick (eqb still 0) (withPlace (withStatus c Normal) Idle) (withPlace c (Handing (without still (highest still)) (highest still)))
@@ -23,19 +24,19 @@ handNext c still = pick (eqb still 0) (withPlace (withStatus c Normal) Idle) (wi
 unfoldable pub announceNext : Node → ℕ → Node
 announceNext c still = pick (eqb still 0) (withPlace c Point) (withPlace c (Announcing (without still (highest still)) (highest still)))
 
--- "Now node i has reached its 'election point.' .. [[S(i)·c := i; S(i)·s := "Reorganization";]]"
+-- "Now node i has reached its "election point." .. [[S(i)·c := i; S(i)·s := "Reorganization";]]"
 unfoldable pub electionPoint : ℕ → Node → Node
 electionPoint i c = announceNext (withStatus (withCoordinator c i) Reorganization) (c .up)
 
--- "FOR j := i − 1, i − 2, .., 2, 1 DO .. CALL Halt(j, i)": from j on down. After 1: the election point
+-- "FOR j := i − 1, i − 2, …, 2, 1 DO .. CALL Halt(j, i)": from j on down. After 1: the election point
 unfoldable pub haltFrom : ℕ → Node → ℕ → Node
 haltFrom i c j = pick (eqb j 0) (electionPoint i c) (withPlace c (Halting j))
 
--- 02's "halting step": "Next, halt all lower priority nodes, starting with this node. [[CALL STOP .. S(i)·s := "Election"; S(i)·h := i; S(i)·Up := { };]]"
+-- 02's "halting step": "Next, halt all lower priority nodes, starting with this node. [[CALL STOP; S(i)·s := "Election"; S(i)·h := i; S(i)·Up := { };]]"
 unfoldable pub haltingStep : ℕ → Node → Node
 haltingStep i c = haltFrom i (withUp (withHalter (withStatus (withPlace c Idle) Election) i) 0) (i - 1)
 
--- "FOR j := i + 1, i + 2, .., n − 1, n DO .. CALL AreYouThere(j)": from j on up. After n: the halting step
+-- "FOR j := i + 1, i + 2, …, n − 1, n DO .. CALL AreYouThere(j)": from j on up. After n: the halting step
 unfoldable pub askFrom : ℕ → ℕ → Node → ℕ → Node
 askFrom n i c j = pick (leb j n) (withPlace c (Asking j)) (haltingStep i c)
 
@@ -50,7 +51,7 @@ finish c t = handNext (withTask c t) (c .up)
 -- ── PROCEDURE Recovery(i) ──
 
 -- 02: "Recovery clears the last halter, starts the election and leaves the status Down until the halting step, though the cabinet runs."
--- The appendix: "S(i)·h := UNDEFINED; CALL Election(i)"
+-- The appendix: "S(i)·h := UNDEFINED; .. CALL Election(i)"
 unfoldable pub recovery : ℕ → ℕ → Node → Node
 recovery n i c = election n i (withHalter (withRuns c true) 0)
 
@@ -60,7 +61,7 @@ recovery n i c = election n i (withHalter (withRuns c true) 0)
 unfoldable pub checkAt : ℕ → Node → ℕ → Node
 checkAt n c j = pick (leb j n) (withPlace c (Checking j)) (withPlace c Idle)
 
--- "FOR j := 1, 2, .., i − 1, i + 1, .., n DO CALL AreYouNormal(j, ans)": from j on up, i itself left out
+-- "FOR j := 1, 2, …, i − 1, i + 1, …, n DO CALL AreYouNormal(j, ans)": from j on up, i itself left out
 unfoldable pub checkFrom : ℕ → ℕ → Node → ℕ → Node
 checkFrom n i c j = pick (eqb j i) (checkAt n c (j + 1)) (checkAt n c j)
 

@@ -1,4 +1,4 @@
--- Ground 1, of one node's record: "a number or set beyond its range, a holder in its own Up or call, or one that does not run but is not Down and idle". State puts
+-- Ground 1, of one node's record. 02: "a number or set beyond its range, a holder in its own Up or call, or one that does not run but is not Down and idle". State puts
 -- the records together.
 use Prim.Native.Nat.{ℕ}
 use mathlib.Core.Bool.{Bool, true, not, _&&_, _||_}
@@ -11,21 +11,22 @@ use Rattle.bully_model.specs.declared.Place.{Place}
 use Rattle.bully_model.specs.declared.Place.the-variants.{Idle, Asking, Halting, Announcing, Point, Handing, Checking, Contacting}
 use Rattle.bully_model.specs.declared.Node.{Node}
 
--- a place of node i, whose coordinator is o: whom it calls is another node, and one that the appendix's loop has
+-- A place of node i, whose coordinator is o. Whom it calls is another node, or for Contacting coordinator 0, which times out; a call that a loop counts up or down to is in the
+-- loop's own range.
 unfoldable pub placeInRange : ℕ → ℕ → ℕ → Place → Bool
 placeInRange n i o Idle = true
--- "FOR j := i + 1, .., n"
+-- "FOR j := i + 1, i + 2, …, n − 1, n"
 placeInRange n i o (Asking j) = ltb i j && leb j n
--- "FOR j := i − 1, .., 1"
+-- "FOR j := i − 1, i − 2, …, 2, 1"
 placeInRange n i o (Halting j) = leb 1 j && ltb j i
 placeInRange n i o (Announcing still j) = isSetOfOthers n i still && isOther n i j
 placeInRange n i o Point = true
 placeInRange n i o (Handing still j) = isSetOfOthers n i still && isOther n i j
 placeInRange n i o (Checking j) = isOther n i j
--- it calls its coordinator, or 0
+-- it calls its coordinator, which may be 0
 placeInRange n i o Contacting = not (eqb o i)
 
--- "one that does not run but is not Down and idle" is not in range
+-- 02: "one that does not run but is not Down and idle" is not in range
 abbrev pub restsUnlessRuns : Node → Bool
 restsUnlessRuns c = c .runs || (isDown (c .status) && isIdle (c .place))
 

@@ -16,14 +16,14 @@ pub record State : Type 0 where
   pub n : ℕ
   pub nodes : List Node
 
--- "all Down": not running and idle, every number 0, the set empty
+-- 02: "all Down", as in 01's starting table, "all Down and idle, every number 0, every set empty"; and it does not run
 abbrev pub startingNode : Node
 startingNode = record { runs = false; status = Down; coordinator = 0; task = record { number = 0 }; halter = 0; up = 0; place = Idle }
 
 abbrev pub start : ℕ → State
 start n = record { n = n; nodes = replicate n startingNode }
 
--- The record of node i, 1 to n. Another number is nobody's, as in "coordinator 0": its record is the starting one, which does not run.
+-- The record of node i, 1 to n. Another number is nobody's, as in 02's "coordinator 0": its record is the starting one, which does not run.
 abbrev pub nodeAt : State → ℕ → Node
 nodeAt s i = getD (startingNode ∷ s .nodes) i startingNode
 
@@ -31,7 +31,7 @@ nodeAt s i = getD (startingNode ∷ s .nodes) i startingNode
 abbrev pub stored : State → ℕ → Node → State
 stored s i c = record { n = s .n; nodes = set (s .nodes) (i - 1) c }
 
--- 1: "n outside 1 to 16" is not in range, nor is a table with a record that is not
+-- 1: "n outside 1 to 16" is not in range, nor is a table with a record that is not. There is a record for each node in every state that a table means.
 unfoldable pub inRange : State → Bool
 inRange s = leb 1 (s .n) && leb (s .n) nodeLimit && eqb (length (s .nodes)) (s .n) && every (nodeInRange (s .n)) 1 (s .nodes)
 

@@ -23,7 +23,7 @@ call s i c p j d =
     (stored (stored s j (called i c p d)) i (answered (s .n) i c p d))
     (stored s i (timedOut (s .n) i c p))
 
--- "Going on makes one cabinet's next call."
+-- 02: "Going on makes one cabinet's next call."
 unfoldable pub goOn : State → ℕ → Node → Place → State
 goOn s i c p = call s i c p (callee c p) (nodeAt s (callee c p))
 
@@ -36,7 +36,7 @@ effect s (Timeout i) = stored s i (timeout (s .n) i (nodeAt s i))
 effect s (GoOn i) = goOn s i (nodeAt s i) (nodeAt s i .place)
 effect s (Finish i t) = stored s i (finish (nodeAt s i) t)
 
--- ── "Checks: 1, 7, 8, 9 and 10 apply in their old places" ──
+-- ── 02: "Checks: 1, 7, 8, 9 and 10 apply in their old places"; those of 01's table of grounds ──
 
 -- the event's node
 abbrev pub actor : Event → ℕ
@@ -47,7 +47,7 @@ actor (Timeout i) = i
 actor (GoOn i) = i
 actor (Finish i t) = i
 
--- 8: "finish task outside 100 to 65,535"
+-- 8, 01: "finish task outside 100 to 65,535"
 abbrev pub wrongTask : Event → Bool
 wrongTask (Crash i) = false
 wrongTask (Recover i) = false
@@ -56,7 +56,7 @@ wrongTask (Timeout i) = false
 wrongTask (GoOn i) = false
 wrongTask (Finish i t) = not (isGivenTask (t .number))
 
--- "9 asks whether the cabinet runs": recover, where it does; all others, where it does not
+-- 02: "9 asks whether the cabinet runs": recover, where it does; all others, where it does not
 abbrev pub wrongRunning : Bool → Event → Bool
 wrongRunning runs (Crash i) = not runs
 wrongRunning runs (Recover i) = runs
@@ -65,7 +65,7 @@ wrongRunning runs (Timeout i) = not runs
 wrongRunning runs (GoOn i) = not runs
 wrongRunning runs (Finish i t) = not runs
 
--- 10: "check, timeout: not idle"; "go on needs a call to make and finish the reorganization point, else 10"
+-- 10, 01: "check, timeout: not idle"; 02: "go on needs a call to make and finish the reorganization point, else 10"
 abbrev pub wrongPlace : Place → Event → Bool
 wrongPlace p (Crash i) = false
 wrongPlace p (Recover i) = false
@@ -77,12 +77,12 @@ wrongPlace p (Finish i t) = not (isPoint p)
 -- the table of grounds of an event
 unfoldable pub grounds : State → Event → List Ground
 grounds s e =
-    -- "table handed in": "not in range"
+    -- 01: "table handed in": "not in range"
     ground 1 (not (inRange s))
-    -- "event's numbers": 7 is "cabinet outside 1 to n"
+    -- 01: "event's numbers": 7 is "cabinet outside 1 to n"
     ∷ ground 7 (not (isNode (s .n) (actor e)))
     ∷ ground 8 (wrongTask e)
-    -- "state"
+    -- 01: "state"
     ∷ ground 9 (wrongRunning (nodeAt s (actor e) .runs) e)
     ∷ ground 10 (wrongPlace (nodeAt s (actor e) .place) e)
     ∷ []
@@ -106,7 +106,7 @@ kept s (accepted u) = u
 abbrev pub after : State → Event → State
 after s e = kept s (step s e)
 
--- ── "after any events from all Down": events of any list, refused ones included ──
+-- ── 02: "after any events from all Down": events of any list, refused ones included ──
 
 unfoldable pub runFrom : State → List Event → State
 runFrom s [] = s

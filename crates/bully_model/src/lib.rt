@@ -3,20 +3,20 @@
 use model::Status;
 use model::TaskNo;
 
-// "the place in its procedure", with what it needs to go on. Sets are 16-bit masks, bit i - 1 for node i.
+// 02: "the place in its procedure", with what it needs to go on. The others quoted are the appendix's words. Sets are 16-bit masks, bit i - 1 for node i.
 pub enum Place {
     Idle,
-    // Election, "FOR j := i + 1, i + 2, .., n": whom it asks now
+    // Election, "FOR j := i + 1, i + 2, …, n - 1, n": whom it asks now
     Asking(u8),
-    // Election, "FOR j := i - 1, i - 2, .., 1": whom it halts now
+    // Election, "FOR j := i - 1, i - 2, …, 2, 1": whom it halts now
     Halting(u8),
-    // Election, "FOR j IN S(i).Up", NewCoordinator: whom still, whom now
+    // Election, "FOR j IN S(i)·Up", NewCoordinator: whom still, whom now
     Announcing { still: u16, now: u8 },
-    // "the reorganization point": "The reorganization of the system occurs here."
+    // 02's reorganization point: "The reorganization of the system occurs here."
     Point,
-    // Election, "FOR j IN S(i).Up", Ready: whom still, whom now
+    // Election, "FOR j IN S(i)·Up", Ready: whom still, whom now
     Handing { still: u16, now: u8 },
-    // Check, "FOR j := 1, 2, .., i - 1, i + 1, .., n": whom it asks now
+    // Check, "FOR j := 1, 2, …, i - 1, i + 1, …, n": whom it asks now
     Checking(u8),
     // Timeout: it calls its coordinator
     Contacting,
@@ -24,13 +24,13 @@ pub enum Place {
 
 // One node (02: cabinet). In the appendix S(i) has s for the status, c for the coordinator, d for the task, h for the last halter, and Up.
 pub struct Node {
-    // "whether the cabinet runs"
+    // 02: "whether the cabinet runs"
     pub runs: bool,
     pub status: Status,
     // 0 for none
     pub coordinator: u8,
     pub task: TaskNo,
-    // "last halter (0 for none)"
+    // 02: "last halter (0 for none)"
     pub halter: u8,
     pub up: u16,
     pub place: Place,
@@ -42,7 +42,7 @@ pub struct Table {
     pub nodes: [Node; 16],
 }
 
-// "events crash, recover, check, timeout, go on and finish with a task"
+// 02: "events crash, recover, check, timeout, go on and finish with a task"
 pub enum Event {
     Crash(u8),
     Recover(u8),

@@ -21,7 +21,7 @@ use Rattle.exports.specs.Boundary.{numberIn, bufferIn}
 abbrev pub stateOf : List ℕ → State
 stateOf t = view (decoded t)
 
--- the bytes of a state: of its table, in which nothing is free
+-- the bytes of a state: of its table, in which nothing is free; what the bytes handed in had past the n records is not given out again
 abbrev pub stateBytes : State → List ℕ
 stateBytes s = encoded (tableOf s)
 
@@ -35,8 +35,8 @@ abbrev pub fieldAfter : State → FieldRead → State
 fieldAfter s (Stopped x) = s
 fieldAfter s (Got e) = after s e
 
--- What is answered for the bytes of a table, t, and of a field, f, with a lent buffer that holds b: a field that is no event is told before the table is looked at, whose
--- ground 1 is the event's first
+-- What is answered for the bytes of a table, t, and of a field, f, with a lent buffer that holds b. A field that is no event is answered by its ground whatever the table
+-- is; 1 is a ground of an event. (nevraspu_step looks at the table before the field. docs/DECISIONS.md, T-07, says why this function does not.)
 unfoldable pub bullyNumber : List ℕ → List ℕ → List ℕ → ℕ
 bullyNumber t f b = numberIn size b (fieldNumber (stateOf t) (eventIn f))
 
