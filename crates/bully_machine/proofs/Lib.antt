@@ -1,3 +1,4 @@
 pub mod Laws
 pub mod Steps
 pub mod Runs
+pub mod Mutants

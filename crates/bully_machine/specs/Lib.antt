@@ -1,4 +1,5 @@
 pub mod Stepped
 pub mod Folded
 pub mod Claims
+pub mod Mutants
 pub mod Parts
