@@ -14,7 +14,7 @@ use Rattle.model.proofs.Invariant.{updated-same, updated-other}
 use Rattle.bully_model.specs.Node.{isPoint}
 use Rattle.bully_model.specs.Calls.{callee, called, answered, timedOut}
 use Rattle.bully_model.specs.State.{State, startingNode, start, nodeAt, stored, inRange}
-use Rattle.bully_model.specs.Step.{call, goOn, effect, actor, kept, after, runFrom, run}
+use Rattle.bully_model.specs.Step.{call, goOn, effect, actor, kept, after, runFrom}
 use Rattle.bully_model.specs.Claims.{Agreement, AllDown, AgreesFromDown}
 use Rattle.bully_model.proofs.Judged.{Clear, by-step}
 use Rattle.bully_model.proofs.Fields.{NodeFacts, in-range-size, in-range-node}
