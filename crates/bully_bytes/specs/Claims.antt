@@ -1,5 +1,5 @@
 -- What is claimed of the byte form, and of reading a field. The proofs are in proofs/RoundTrip, proofs/Cases and proofs/Reading. Every table of the code fits, so `encode` promises
--- the same with no condition.
+-- the same without `Fits`.
 use Prim.Native.Nat.{ℕ, _*_, _+_, _≤_}
 use mathlib.Core.Bool.{true, false}
 use mathlib.Core.Path.{_≡_}
@@ -69,11 +69,11 @@ pub record FieldRules : Type 0 where
   pub lose : (a b : ℕ) → eventIn (0x18 ∷ 0 ∷ 2 ∷ a ∷ b ∷ []) ≡ Stopped WrongTag
   -- nor are 0x01, which begins a list, and the tags beside this machine's own
   pub first-tag : (n : ℕ) → eventIn (0x01 ∷ 0 ∷ 1 ∷ n ∷ []) ≡ Stopped WrongTag
-  pub below : (i : ℕ) → eventIn (0x0f ∷ 0 ∷ 1 ∷ i ∷ []) ≡ Stopped WrongTag
-  pub above : (i : ℕ) → eventIn (0x1a ∷ 0 ∷ 1 ∷ i ∷ []) ≡ Stopped WrongTag
+  pub tag-below : (i : ℕ) → eventIn (0x0f ∷ 0 ∷ 1 ∷ i ∷ []) ≡ Stopped WrongTag
+  pub tag-above : (i : ℕ) → eventIn (0x1a ∷ 0 ∷ 1 ∷ i ∷ []) ≡ Stopped WrongTag
   -- a length that is wrong for the tag, 5: go on without a number, and with two; each other event with one byte more, and finish without its task
-  pub none : eventIn (0x19 ∷ 0 ∷ 0 ∷ []) ≡ Stopped WrongLength
-  pub two : (i j : ℕ) → eventIn (0x19 ∷ 0 ∷ 2 ∷ i ∷ j ∷ []) ≡ Stopped WrongLength
+  pub go-on-empty : eventIn (0x19 ∷ 0 ∷ 0 ∷ []) ≡ Stopped WrongLength
+  pub go-on-long : (i j : ℕ) → eventIn (0x19 ∷ 0 ∷ 2 ∷ i ∷ j ∷ []) ≡ Stopped WrongLength
   pub crash-long : (i j : ℕ) → eventIn (0x10 ∷ 0 ∷ 2 ∷ i ∷ j ∷ []) ≡ Stopped WrongLength
   pub recover-long : (i j : ℕ) → eventIn (0x11 ∷ 0 ∷ 2 ∷ i ∷ j ∷ []) ≡ Stopped WrongLength
   pub check-long : (i j : ℕ) → eventIn (0x12 ∷ 0 ∷ 2 ∷ i ∷ j ∷ []) ≡ Stopped WrongLength

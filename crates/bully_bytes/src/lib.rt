@@ -26,7 +26,7 @@ use number_bytes::status_of;
 use number_bytes::two;
 use number_bytes::yes_number;
 ghost use mathlib.Core.Path.{_≡_};
-ghost use Prim.Native.Nat.{_≤_};
+ghost use Prim.Native.Nat.{_+_, _≤_};
 ghost use Rattle.number_bytes.specs.Bytes.{many, all, written};
 ghost use Rattle.bully_bytes.specs.Bytes as spec;
 ghost use Rattle.bully_bytes.specs.Field.{eventIn};
@@ -144,7 +144,7 @@ fn parts_of(a: Place) -> PlaceParts
 }
 
 fn put_parts(out: &mut [u8], at: usize, p: PlaceParts)
-    requires { ⌜ at ≤ 3000 ⌝ }
+    requires { ⌜ at + 4 ≤ spec.size ⌝ }
     ensures { λ _. ⌜ now (out .exit) ≡ written (now (out .entry)) at (spec.partsBytes p) ⌝ }
 {
     put_one(out, at, p.tag);
@@ -153,7 +153,7 @@ fn put_parts(out: &mut [u8], at: usize, p: PlaceParts)
 }
 
 fn put_node(out: &mut [u8], at: usize, node: Node)
-    requires { ⌜ at ≤ 2000 ⌝ }
+    requires { ⌜ at + 12 ≤ spec.size ⌝ }
     ensures { λ _. ⌜ now (out .exit) ≡ written (now (out .entry)) at (spec.nodeBytes node) ⌝ }
 {
     let status = node.status;

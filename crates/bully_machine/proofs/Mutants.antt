@@ -1,16 +1,16 @@
 -- No outcome that meets the promise of the step is one of these wrong readings.
 use Prim.Native.Nat.{ℕ, zero, suc, _+_, _-_, _≤_, _<_}
 use native.Mathlib.Omega.{arith}
-use mathlib.Core.Bool.{Bool, true, false, _&&_}
-use mathlib.Core.Path.{_≡_, refl, sym, _∙_, ap}
+use mathlib.Core.Bool.{Bool, true, false, _&&_, true≢false}
+use mathlib.Core.Path.{_≡_, refl, sym, _∙_, ap, subst}
 use lib.Dec.{eqb}
-use lib.ListN.{length}
+use lib.ListN.{length, length-set}
 use lib.Seq.{getD-set-same}
 use borrow.Author.Tests.{le-leb, lt-leb, ne-eqb}
 use Rattle.model.specs.Pick.{pick-true, pick-false}
 use Rattle.model.specs.Node.{isReorganization}
 use Rattle.bully_model.specs.Procedures.{haltFrom, haltingStep, askFrom, election, recovery, crashed}
-use Rattle.bully_model.specs.Calls.{halt, ready, callee, called}
+use Rattle.bully_model.specs.Calls.{halt, ready, callee, called, answered, timedOut}
 use Rattle.bully_model.specs.State.{State, startingNode, nodeAt, stored, view}
 use Rattle.bully_model.specs.Step.{effect, accepted, step}
 use Rattle.bully_model.proofs.Judged.{Clear, accepted-is}
@@ -28,7 +28,7 @@ use Rattle.bully_model.specs.declared.Outcome.{Outcome}
 use Rattle.bully_model.specs.declared.Answer.the-variants.{Accepted}
 use Rattle.bully_machine.specs.Stepped.{Stepped}
 use Rattle.bully_machine.specs.Mutants.{NoWrongReading}
-use Rattle.bully_machine.proofs.Steps.{call-answered}
+use Rattle.bully_machine.proofs.Steps.{call-answered, call-timed-out}
 use Rattle.bully_machine.proofs.Runs.{accepted-alike}
 
 -- a record stored for node i is node i's
@@ -88,6 +88,33 @@ called-leaves {t} {i} x a p j e q h n runs =
     here : Node
     here = nodeAt (view t) i
 
+-- and what the caller is afterwards, by whether the one called runs
+caller-leaves : {t : Table} {i : ℕ} {r : Outcome} (x : Stepped t (GoOn i) r) (a : r .answer ≡ Accepted) (P : Node → Type 0)
+    → (nodeAt (view t) (callee (nodeAt (view t) i) (nodeAt (view t) i .place)) .runs ≡ true
+    → P (answered (t .n) i (nodeAt (view t) i) (nodeAt (view t) i .place) (nodeAt (view t) (callee (nodeAt (view t) i) (nodeAt (view t) i .place)))))
+    → (nodeAt (view t) (callee (nodeAt (view t) i) (nodeAt (view t) i .place)) .runs ≡ false → P (timedOut (t .n) i (nodeAt (view t) i) (nodeAt (view t) i .place)))
+    → P (nodeAt (view (r .table)) i)
+unfolding effect
+caller-leaves {t} {i} {r} x a P f g = by (nodeAt (view t) to .runs) refl
+  where
+    here : Node
+    here = nodeAt (view t) i
+
+    to : ℕ
+    to = callee here (here .place)
+
+    by : (b : Bool) → nodeAt (view t) to .runs ≡ b → P (nodeAt (view (r .table)) i)
+    by true q =
+        subst P
+        (sym (ap (λ (s : State). nodeAt s i) (means x a ∙ sym (call-answered (view t) i here (here .place) to (nodeAt (view t) to) refl refl q))
+        ∙ stored-here (stored (view t) to _) i _ (clear x a .low) (omega (arith, length-set (view t .nodes) (to - 1) (called i here (here .place) (nodeAt (view t) to)), long x a, clear x a .high))))
+        (f q)
+    by false q =
+        subst P
+        (sym (ap (λ (s : State). nodeAt s i) (means x a ∙ sym (call-timed-out (view t) i here (here .place) to (nodeAt (view t) to) refl refl q))
+        ∙ stored-here (view t) i _ (clear x a .low) (omega (arith, long x a, clear x a .high))))
+        (g q)
+
 -- whom node i halts, or hands to, in a table in range
 placed : {t : Table} {i : ℕ} {r : Outcome} (x : Stepped t (GoOn i) r) (a : r .answer ≡ Accepted) (p : Place) → nodeAt (view t) i .place ≡ p
     → Placed (t .n) i (nodeAt (view t) i .coordinator) p
@@ -123,13 +150,39 @@ ready-leaves {t} {i} {still} {j} {r} x a e q = by (nodeAt (view t) j .runs) refl
     by false off =
         step-is-local .timed-out (view t) (GoOn i) (view (r .table)) (model x a) (rw e off) j (w .1 .other)
 
+-- asking on, and halting on
+asks-on : (n i : ℕ) (c : Node) (j : ℕ) → j < n → timedOut n i c (Asking j) .place ≡ Asking (j + 1)
+unfolding timedOut askFrom
+asks-on n i c j h = rw (le-leb (j + 1) n (omega arith), pick-true)
+
+halts-on : (i : ℕ) (c : Node) (j : ℕ) → 1 < j → haltFrom i c (j - 1) .place ≡ Halting (j - 1)
+unfolding haltFrom
+halts-on i c j h = rw (ne-eqb (j - 1) 0 (λ z. omega arith), pick-false)
+
+asks-leaves : {t : Table} {i j : ℕ} {r : Outcome} → Stepped t (GoOn i) r → r .answer ≡ Accepted → nodeAt (view t) i .place ≡ Asking j → nodeAt (view t) j .runs ≡ false → j < t .n
+    → nodeAt (view (r .table)) i .place ≡ Asking (j + 1)
+asks-leaves {t} {i} {j} x a e off h =
+    caller-leaves x a (λ (c : Node). c .place ≡ Asking (j + 1))
+    (λ q. absurd (true≢false (sym q ∙ rw e off)))
+    (λ q. rw e (asks-on (t .n) i (nodeAt (view t) i) j h))
+
+halts-leaves : {t : Table} {i j : ℕ} {r : Outcome} → Stepped t (GoOn i) r → r .answer ≡ Accepted → nodeAt (view t) i .place ≡ Halting j → 1 < j
+    → nodeAt (view (r .table)) i .place ≡ Halting (j - 1)
+unfolding answered timedOut
+halts-leaves {t} {i} {j} x a e h =
+    caller-leaves x a (λ (c : Node). c .place ≡ Halting (j - 1))
+    (λ q. rw e (halts-on i _ j h))
+    (λ q. rw e (halts-on i _ j h))
+
 pub no-wrong-reading : NoWrongReading
 no-wrong-reading =
     record {
       crash-keeps-status = λ x a h. h (ap (λ (c : Node). c .status) (crash-leaves x a));
       crash-keeps-place = λ x a h. h (ap (λ (c : Node). c .place) (crash-leaves x a));
       asks-nobody = λ {t} {i} {r} x a l h. h (ap (λ (c : Node). c .place) (recovery-leaves x a) ∙ asks-next (t .n) i (nodeAt (view t) i) l);
+      asks-past = λ x a e q l h. h (asks-leaves x a e q l);
       halts-from-below = λ {t} {i} {r} x a e l h. h (ap (λ (c : Node). c .place) (recovery-leaves x a) ∙ halts-next (t .n) i (nodeAt (view t) i) e l);
+      halts-past = λ x a e l h. h (halts-leaves x a e l);
       halt-keeps-status = λ x a e q h. h (ap (λ (c : Node). c .status) (halt-leaves x a e q));
       halt-keeps-place = λ x a e q h. h (ap (λ (c : Node). c .place) (halt-leaves x a e q));
       ready-in-any-status = λ x a e q h. h (ready-leaves x a e q);

@@ -1,4 +1,5 @@
--- Wrong readings of Appendix I and T-07 under which two nodes can come to differ: no outcome that meets `Stepped` is theirs, on any table. The proof is in proofs/Mutants.
+-- Wrong readings of Appendix I and T-07: no outcome that meets `Stepped` is theirs, on any table. All but the two of a crash, which leave the range, can bring two nodes to
+-- differ. The proof is in proofs/Mutants.
 use Prim.Native.Nat.{ℕ, _+_, _-_, _<_}
 use mathlib.Core.Bool.{true, false}
 use mathlib.Core.Path.{_≡_}
@@ -16,11 +17,15 @@ pub record NoWrongReading : Type 0 where
   -- a crash that leaves another status than Down, or a procedure running
   pub crash-keeps-status : {t : Table} {i : ℕ} {r : Outcome} → Stepped t (Crash i) r → r .answer ≡ Accepted → (nodeAt (view (r .table)) i .status ≡ Down → ⊥) → ⊥
   pub crash-keeps-place : {t : Table} {i : ℕ} {r : Outcome} → Stepped t (Crash i) r → r .answer ≡ Accepted → (nodeAt (view (r .table)) i .place ≡ Idle → ⊥) → ⊥
-  -- an election that does not ask the next higher one first
+  -- the election of a recovery that does not ask the next higher node first, and one that asks on past a node
   pub asks-nobody : {t : Table} {i : ℕ} {r : Outcome} → Stepped t (Recover i) r → r .answer ≡ Accepted → i < t .n → (nodeAt (view (r .table)) i .place ≡ Asking (i + 1) → ⊥) → ⊥
-  -- the highest node, which has nobody to ask, halts another than the next lower one first
+  pub asks-past : {t : Table} {i j : ℕ} {r : Outcome} → Stepped t (GoOn i) r → r .answer ≡ Accepted → nodeAt (view t) i .place ≡ Asking j → nodeAt (view t) j .runs ≡ false → j < t .n
+      → (nodeAt (view (r .table)) i .place ≡ Asking (j + 1) → ⊥) → ⊥
+  -- the highest node, which at its recovery has nobody to ask, halts another than the next lower one first, and one that halts on past a node, off or not
   pub halts-from-below : {t : Table} {i : ℕ} {r : Outcome} → Stepped t (Recover i) r → r .answer ≡ Accepted → i ≡ t .n → 1 < i
       → (nodeAt (view (r .table)) i .place ≡ Halting (i - 1) → ⊥) → ⊥
+  pub halts-past : {t : Table} {i j : ℕ} {r : Outcome} → Stepped t (GoOn i) r → r .answer ≡ Accepted → nodeAt (view t) i .place ≡ Halting j → 1 < j
+      → (nodeAt (view (r .table)) i .place ≡ Halting (j - 1) → ⊥) → ⊥
   -- a halt that leaves another status than Election, or does not stop the halted one
   pub halt-keeps-status : {t : Table} {i j : ℕ} {r : Outcome} → Stepped t (GoOn i) r → r .answer ≡ Accepted → nodeAt (view t) i .place ≡ Halting j → nodeAt (view t) j .runs ≡ true
       → (nodeAt (view (r .table)) j .status ≡ Election → ⊥) → ⊥

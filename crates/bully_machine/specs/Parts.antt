@@ -35,9 +35,9 @@ isAccepted WrongTask = false
 isAccepted WrongRunning = false
 isAccepted WrongPlace = false
 
--- ── what the code needs so that no number leaves its word; what is in range has it ──
+-- ── what the code needs so that no number overflows; what is in range has it ──
 
--- whom it halts can be put into a set and has one before it; the one after whom it asks or checks has a number
+-- j can be put into a set, and j − 1 and j + 1 fit a u8, where they are needed
 abbrev pub FitsPlace : Place → Type 0
 FitsPlace Idle = Unit {0}
 FitsPlace (Asking j) = j ≤ nodeLimit

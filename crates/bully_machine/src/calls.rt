@@ -1,10 +1,11 @@
-// The calls: the definitions of bully_model's specs/Calls as functions. What they need of a place, so that no number leaves its word, is `FitsPlace` of specs/Parts.
+// The calls: the definitions of bully_model's specs/Calls as functions. What they need of a place, so that no number overflows, is `FitsPlace` of specs/Parts.
 ghost use mathlib.Core.Path.{_≡_};
-ghost use Prim.Native.Nat.{_≤_};
+ghost use Prim.Native.Nat.{_-_, _≤_};
 ghost use Rattle.model.specs.Limits.{nodeLimit};
 ghost use Rattle.node_set.specs.NodeSet.{with};
 ghost use Rattle.model.specs.declared.Status.the-variants as status;
 ghost use Rattle.bully_model.specs.Node as node;
+ghost use Rattle.bully_model.specs.Procedures.{haltFrom};
 ghost use Rattle.bully_model.specs.Calls as spec;
 ghost use Rattle.bully_machine.specs.Parts.{FitsPlace};
 use crate::node::with_place;
@@ -87,7 +88,7 @@ pub fn called(i: u8, c: Node, p: Place, d: Node) -> Node
     }
 }
 
-// "[[S(i).Up := {j} UNION S(i).Up;]]"
+// "[[S(i)·Up := {j} UNION S(i)·Up;]]"
 fn joined(c: Node, j: u8) -> Node
     requires { ⌜ (1 ≤ j) × (j ≤ nodeLimit) ⌝ }
     ensures { λ r. ⌜ r ≡ node.withUp c (with (c .up) j) ⌝ }
@@ -98,7 +99,7 @@ fn joined(c: Node, j: u8) -> Node
 
 fn halted_one(i: u8, c: Node, j: u8) -> Node
     requires { ⌜ (1 ≤ j) × (j ≤ nodeLimit) ⌝ }
-    ensures { λ r. ⌜ r ≡ spec.answered 0 i c (Place.Halting j) c ⌝ }
+    ensures { λ r. ⌜ r ≡ haltFrom i (node.withUp c (with (c .up) j)) (j - 1) ⌝ }
 {
     procedures::halt_from(i, joined(c, j), j - 1)
 }

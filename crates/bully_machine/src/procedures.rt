@@ -12,7 +12,7 @@ use bully_model::Place;
 use model::Status;
 use model::TaskNo;
 
-// "[[S(i).s := "Normal";]] END Election"
+// "[[S(i)·s := "Normal";]] END Election"
 fn ended(c: Node) -> Node
     ensures { λ r. ⌜ r ≡ node.withPlace (node.withStatus c status.Normal) Place.Idle ⌝ }
 {
@@ -83,7 +83,7 @@ pub fn halt_from(i: u8, c: Node, j: u8) -> Node
     with_place(c, Place::Halting(j))
 }
 
-// "[[CALL STOP .. S(i).s := "Election"; S(i).h := i; S(i).Up := { };]]"
+// "[[CALL STOP; S(i)·s := "Election"; S(i)·h := i; S(i)·Up := { };]]"
 fn stopped(i: u8, c: Node) -> Node
     ensures { λ r. ⌜ r ≡ node.withUp (node.withHalter (node.withStatus (node.withPlace c Place.Idle) status.Election) i) 0 ⌝ }
 {

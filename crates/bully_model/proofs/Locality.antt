@@ -9,7 +9,7 @@ use Rattle.model.specs.Pick.{pick-false, by-test}
 use Rattle.bully_model.specs.Calls.{callee, called}
 use Rattle.bully_model.specs.State.{State, startingNode, nodeAt, stored}
 use Rattle.bully_model.specs.Step.{call, goOn, effect, actor}
-use Rattle.bully_model.specs.Claims.{calledBy, isTelling, StepIsLocal}
+use Rattle.bully_model.specs.Claims.{calledBy, changesCalled, StepIsLocal}
 use Rattle.bully_model.proofs.Judged.{Clear, accepted-is}
 use Rattle.bully_model.proofs.InRange.{runner}
 use Rattle.bully_model.specs.declared.Place.{Place}
@@ -52,7 +52,7 @@ unfolding goOn call
 goOn-timed-out s i j l n q = rw (q, pick-false) (stored-other s i _ j l n)
 
 -- and so does one that only asks
-called-asked : (i : ℕ) (c : Node) (p : Place) (d : Node) → isTelling p ≡ false → called i c p d ≡ d
+called-asked : (i : ℕ) (c : Node) (p : Place) (d : Node) → changesCalled p ≡ false → called i c p d ≡ d
 unfolding called
 called-asked i c Idle d e = refl
 called-asked i c (Asking j) d e = refl
@@ -70,7 +70,7 @@ stored-same s (suc i) l =
     let e : suc i - 1 ≡ i = omega arith in
     ap (λ (cs : List Node). record { n = s .n; nodes = cs }) (rw e (set-getD (s .nodes) i startingNode))
 
-goOn-asked : (s : State) (i j : ℕ) → 1 ≤ i → (j ≡ i → ⊥) → isTelling (nodeAt s i .place) ≡ false → nodeAt (goOn s i (nodeAt s i) (nodeAt s i .place)) j ≡ nodeAt s j
+goOn-asked : (s : State) (i j : ℕ) → 1 ≤ i → (j ≡ i → ⊥) → changesCalled (nodeAt s i .place) ≡ false → nodeAt (goOn s i (nodeAt s i) (nodeAt s i .place)) j ≡ nodeAt s j
 unfolding goOn call
 goOn-asked s i j l n a =
     by-test (λ (u : State). nodeAt u j ≡ nodeAt s j)
@@ -98,7 +98,7 @@ effect-timed-out s (Timeout i) c q j n = stored-other s i _ j (c .low) n
 effect-timed-out s (GoOn i) c q j n = goOn-timed-out s i j (c .low) n q
 effect-timed-out s (Finish i t) c q j n = stored-other s i _ j (c .low) n
 
-effect-asked : (s : State) (e : Event) → Clear s e → isTelling (nodeAt s (actor e) .place) ≡ false → (j : ℕ) → (j ≡ actor e → ⊥) → nodeAt (effect s e) j ≡ nodeAt s j
+effect-asked : (s : State) (e : Event) → Clear s e → changesCalled (nodeAt s (actor e) .place) ≡ false → (j : ℕ) → (j ≡ actor e → ⊥) → nodeAt (effect s e) j ≡ nodeAt s j
 unfolding effect
 effect-asked s (Crash i) c a j n = stored-other s i _ j (c .low) n
 effect-asked s (Recover i) c a j n = stored-other s i _ j (c .low) n

@@ -35,7 +35,7 @@ ready c j x = pick (eqb (c .coordinator) j && isReorganization (c .status)) (wit
 
 -- ── the call of node i, whose record is c, by its place ──
 
--- whom it calls; 0 where there is no call to make
+-- whom it calls: a node, or its coordinator, which may be 0; 0 too where there is no call to make
 abbrev pub callee : Node → Place → ℕ
 callee c Idle = 0
 callee c (Asking j) = j

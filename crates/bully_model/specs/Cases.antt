@@ -41,7 +41,7 @@ elected = begun ++ (GoOn 3 ∷ GoOn 3 ∷ GoOn 3 ∷ GoOn 3 ∷ [])
 abbrev pub grouped : List Event
 grouped = elected ++ (Finish 3 (taskNo 100) ∷ GoOn 3 ∷ GoOn 3 ∷ [])
 
--- which leaves
+-- the table after it
 abbrev pub group : State
 group = three (running Normal 3 100 3 0 Idle) (running Normal 3 100 3 0 Idle) (running Normal 3 100 3 3 Idle)
 
@@ -129,10 +129,11 @@ pub record CallCases : Type 0 where
 abbrev pub without2 : Node → Node → State
 without2 a c = three a (off 0 0 0 0) c
 
--- nodes 1 and 2 in Reorganization under 2, which announces itself to 1, or hands task 100 to it; 3 is off
+-- node 2 in Reorganization as its own coordinator, with task 100 and Up {1}, at the place p; node 1 has the record a, and 3 is off
 abbrev pub under2 : Node → Place → State
 under2 a p = three a (running Reorganization 2 100 2 1 p) (off 3 100 3 3)
 
+-- the other ways out of each place, and the order of the grounds
 pub record FurtherCases : Type 0 where
   -- Timeout, "ELSE CALL Election(i)": in Election, and Down while it runs
   pub timeout-election : step (three (running Election 0 0 3 0 Idle) startingNode startingNode) (Timeout 1) ≡ accepted (three (running Election 0 0 3 0 (Asking 2)) startingNode startingNode)
@@ -155,10 +156,10 @@ pub record FurtherCases : Type 0 where
   pub announce-timed-out : step (without2 (off 3 100 3 0) (running Reorganization 3 0 3 1 (Announcing 0 1))) (GoOn 3)
       ≡ accepted (without2 (off 3 100 3 0) (running Election 3 0 3 0 (Halting 2)))
   pub announce-restarts : step (under2 (off 2 0 2 0) (Announcing 0 1)) (GoOn 2) ≡ accepted (under2 (off 2 0 2 0) (Asking 3))
-  -- Ready the same; and where a higher one answers then, it gives up as it stands
+  -- Ready the same; and where a higher one answers then, it gives up, with its status and coordinator
   pub hand-restarts : step (under2 (off 2 0 2 0) (Handing 0 1)) (GoOn 2) ≡ accepted (under2 (off 2 0 2 0) (Asking 3))
-  pub restart-given-up : step (three (off 2 0 2 0) (running Reorganization 2 100 2 1 (Asking 3)) (running Down 3 100 0 3 Idle)) (GoOn 2)
-      ≡ accepted (three (off 2 0 2 0) (running Reorganization 2 100 2 1 Idle) (running Down 3 100 0 3 Idle))
+  pub restart-given-up : step (three (off 2 0 2 0) (running Reorganization 2 100 2 1 (Asking 3)) (running Election 3 100 3 0 (Halting 2))) (GoOn 2)
+      ≡ accepted (three (off 2 0 2 0) (running Reorganization 2 100 2 1 Idle) (running Election 3 100 3 0 (Halting 2)))
   -- Check: 1 asks 2 first, 2 goes from 1 to 3, one that is off is passed over, and after n it ends; with n = 1 there is nobody to ask
   pub check-first : step (three (running Normal 1 100 1 0 Idle) startingNode startingNode) (Check 1) ≡ accepted (three (running Normal 1 100 1 0 (Checking 2)) startingNode startingNode)
   pub check-passes : step (three (running Normal 2 100 2 0 Idle) (running Normal 2 100 2 1 (Checking 1)) startingNode) (GoOn 2)
@@ -196,10 +197,11 @@ pub record RangeCases : Type 0 where
   pub one : inRange (start 1) ≡ true
   pub sixteen : inRange (start 16) ≡ true
   pub seventeen : inRange (start 17) ≡ false
-  -- coordinator and last halter 0 to 3
+  -- coordinator and last halter 0 to 3, task 0 to 65,535
   pub numbers : inRange2 (running Normal 3 65535 3 0 Idle) ≡ true
   pub coordinator : inRange2 (running Normal 4 100 3 0 Idle) ≡ false
   pub halter : inRange2 (running Normal 3 100 4 0 Idle) ≡ false
+  pub task : inRange2 (running Normal 3 65536 3 0 Idle) ≡ false
   -- Up: 1 and 3 at the most; "a holder in its own Up"
   pub up : inRange2 (running Normal 3 100 3 5 Idle) ≡ true
   pub up-holder : inRange2 (running Normal 3 100 3 2 Idle) ≡ false
@@ -210,27 +212,33 @@ pub record RangeCases : Type 0 where
   pub off-asking : inRange2 (record { runs = false; status = Down; coordinator = 0; task = taskNo 0; halter = 0; up = 0; place = Asking 3 }) ≡ false
   -- whom it asks: 3 alone
   pub asking : inRange2 (running Down 0 0 0 0 (Asking 3)) ≡ true
+  pub asking-lower : inRange2 (running Down 0 0 0 0 (Asking 1)) ≡ false
   pub asking-itself : inRange2 (running Down 0 0 0 0 (Asking 2)) ≡ false
   pub asking-beyond : inRange2 (running Down 0 0 0 0 (Asking 4)) ≡ false
   -- whom it halts: 1 alone
   pub halting : inRange2 (running Election 0 0 2 0 (Halting 1)) ≡ true
+  pub halting-higher : inRange2 (running Election 0 0 2 0 (Halting 3)) ≡ false
   pub halting-itself : inRange2 (running Election 0 0 2 0 (Halting 2)) ≡ false
   pub halting-none : inRange2 (running Election 0 0 2 0 (Halting 0)) ≡ false
   -- to whom it announces itself, and to whom still: 1 and 3
   pub announcing : inRange2 (running Reorganization 2 0 2 5 (Announcing 5 3)) ≡ true
   pub announcing-itself : inRange2 (running Reorganization 2 0 2 5 (Announcing 0 2)) ≡ false
   pub announcing-none : inRange2 (running Reorganization 2 0 2 5 (Announcing 0 0)) ≡ false
+  pub announcing-beyond : inRange2 (running Reorganization 2 0 2 5 (Announcing 0 4)) ≡ false
   pub announcing-still : inRange2 (running Reorganization 2 0 2 5 (Announcing 2 1)) ≡ false
-  pub announcing-beyond : inRange2 (running Reorganization 2 0 2 5 (Announcing 8 1)) ≡ false
+  pub announcing-still-beyond : inRange2 (running Reorganization 2 0 2 5 (Announcing 8 1)) ≡ false
   -- the same of handing
   pub handing : inRange2 (running Reorganization 2 100 2 5 (Handing 5 3)) ≡ true
   pub handing-itself : inRange2 (running Reorganization 2 100 2 5 (Handing 0 2)) ≡ false
+  pub handing-none : inRange2 (running Reorganization 2 100 2 5 (Handing 0 0)) ≡ false
   pub handing-beyond : inRange2 (running Reorganization 2 100 2 5 (Handing 0 4)) ≡ false
   pub handing-still : inRange2 (running Reorganization 2 100 2 5 (Handing 2 1)) ≡ false
+  pub handing-still-beyond : inRange2 (running Reorganization 2 100 2 5 (Handing 8 1)) ≡ false
   -- whom it checks: 1 and 3
   pub checking : inRange2 (running Normal 2 100 2 5 (Checking 3)) ≡ true
   pub checking-itself : inRange2 (running Normal 2 100 2 5 (Checking 2)) ≡ false
   pub checking-none : inRange2 (running Normal 2 100 2 5 (Checking 0)) ≡ false
+  pub checking-beyond : inRange2 (running Normal 2 100 2 5 (Checking 4)) ≡ false
   -- its coordinator, which is not itself, and may be 0
   pub contacting : inRange2 (running Normal 3 100 3 0 Contacting) ≡ true
   pub contacting-none : inRange2 (running Normal 0 100 3 0 Contacting) ≡ true

@@ -15,7 +15,7 @@ use Rattle.bully_model.specs.declared.Place.the-variants.{Idle, Asking, 
 use Rattle.bully_model.specs.declared.Event.{Event}
 use Rattle.bully_model.specs.declared.Event.the-variants.{Crash, Recover, Check, Timeout, GoOn, Finish}
 
--- What 02 has proved, of every list of events from the table s (Assertion 1 of document 002). i and j are any numbers: one outside 1 to n is nobody's, whose record is Down.
+-- What 02 wants proved, of every list of events from the table s (Assertion 1 of document 002). i and j are any numbers: one outside 1 to n is nobody's, whose record is Down.
 pub record Agreement (s : State) : Type 0 where
   -- "two cabinets in Reorganization or Normal have the same coordinator"
   pub same-coordinator : (es : List Event) (i j : ℕ)
@@ -26,7 +26,7 @@ pub record Agreement (s : State) : Type 0 where
       → isNormal (nodeAt (runFrom s es) i .status) ≡ true → isNormal (nodeAt (runFrom s es) j .status) ≡ true
       → nodeAt (runFrom s es) i .task ≡ nodeAt (runFrom s es) j .task
 
--- every node is Down and idle, whatever else its record has kept
+-- every node is Down and idle, running or not, whatever else its record has kept
 abbrev pub AllDown : State → Type 0
 AllDown s = (i : ℕ) → (nodeAt s i .status ≡ Down) × (nodeAt s i .place ≡ Idle)
 
@@ -52,7 +52,7 @@ pub record RefusesByGround : Type 0 where
   -- and no other ground does
   pub numbers : (s : State) (e : Event) (r : ℕ) → step s e ≡ refused r → (r ≡ 1) ⊎ ((7 ≤ r) × (r ≤ 10))
 
--- whom the event's node calls; only a go on makes a call
+-- whom the event's node calls; only a go on makes a call, else 0
 abbrev pub calledBy : State → Event → ℕ
 calledBy s (Crash i) = 0
 calledBy s (Recover i) = 0
@@ -62,21 +62,22 @@ calledBy s (GoOn i) = callee (nodeAt s i) (nodeAt s i .place)
 calledBy s (Finish i t) = 0
 
 -- whether the call of a place can change the record of the one called: Halt, NewCoordinator and Ready do, AreYouThere and AreYouNormal only ask
-abbrev pub isTelling : Place → Bool
-isTelling Idle = false
-isTelling (Asking j) = false
-isTelling (Halting j) = true
-isTelling (Announcing still j) = true
-isTelling Point = false
-isTelling (Handing still j) = true
-isTelling (Checking j) = false
-isTelling Contacting = false
+abbrev pub changesCalled : Place → Bool
+changesCalled Idle = false
+changesCalled (Asking j) = false
+changesCalled (Halting j) = true
+changesCalled (Announcing still j) = true
+changesCalled Point = false
+changesCalled (Handing still j) = true
+changesCalled (Checking j) = false
+changesCalled Contacting = false
 
 -- how little a step changes
 pub record StepIsLocal : Type 0 where
+  -- the number of nodes stays
   pub nodes : (s : State) (e : Event) (u : State) → step s e ≡ accepted u → u .n ≡ s .n
   -- only the event's node and the one that it calls
   pub others : (s : State) (e : Event) (u : State) → step s e ≡ accepted u → (j : ℕ) → (j ≡ actor e → ⊥) → (j ≡ calledBy s e → ⊥) → nodeAt u j ≡ nodeAt s j
   -- only the event's node, where the one that it calls does not run, or is only asked
   pub timed-out : (s : State) (e : Event) (u : State) → step s e ≡ accepted u → nodeAt s (calledBy s e) .runs ≡ false → (j : ℕ) → (j ≡ actor e → ⊥) → nodeAt u j ≡ nodeAt s j
-  pub asked : (s : State) (e : Event) (u : State) → step s e ≡ accepted u → isTelling (nodeAt s (actor e) .place) ≡ false → (j : ℕ) → (j ≡ actor e → ⊥) → nodeAt u j ≡ nodeAt s j
+  pub asked : (s : State) (e : Event) (u : State) → step s e ≡ accepted u → changesCalled (nodeAt s (actor e) .place) ≡ false → (j : ℕ) → (j ≡ actor e → ⊥) → nodeAt u j ≡ nodeAt s j

@@ -1,5 +1,5 @@
 -- One node (02: cabinet): tests of its place, and its record with a field set. The appendix's state vector S(i) is the record of node i: s is the status, c the
--- coordinator, d the task, h the last halter, Up the set up.
+-- coordinator, d the task, h the last halter, Up the set up. In the definitions c and d are records.
 use Prim.Native.Nat.{ℕ}
 use mathlib.Core.Bool.{Bool, true, false}
 use Rattle.model.specs.declared.Status.{Status}

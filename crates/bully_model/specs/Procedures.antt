@@ -20,6 +20,10 @@ use Rattle.bully_model.specs.declared.Node.{Node}
 unfoldable pub handNext : Node → ℕ → Node
 handNext c still = pick (eqb still 0) (withPlace (withStatus c Normal) Idle) (withPlace c (Handing (without still (highest still)) (highest still)))
 
+-- the reorganization is over: "When done, node i has computed S(i)·d, the new task description", which is t
+unfoldable pub finish : Node → TaskNo → Node
+finish c t = handNext (withTask c t) (c .up)
+
 -- "FOR j IN S(i)·Up DO .. CALL NewCoordinator(j, i)": those still to be called, in the same order. After the last: "The reorganization of the system occurs here."
 unfoldable pub announceNext : Node → ℕ → Node
 announceNext c still = pick (eqb still 0) (withPlace c Point) (withPlace c (Announcing (without still (highest still)) (highest still)))
@@ -43,10 +47,6 @@ askFrom n i c j = pick (leb j n) (withPlace c (Asking j)) (haltingStep i c)
 -- "First step is to check if any higher priority nodes are up."
 unfoldable pub election : ℕ → ℕ → Node → Node
 election n i c = askFrom n i c (i + 1)
-
--- the reorganization is over: "When done, node i has computed S(i)·d, the new task description", which is t
-unfoldable pub finish : Node → TaskNo → Node
-finish c t = handNext (withTask c t) (c .up)
 
 -- ── PROCEDURE Recovery(i) ──
 

@@ -11,20 +11,19 @@ use Rattle.bully_model.specs.declared.Place.{Place}
 use Rattle.bully_model.specs.declared.Place.the-variants.{Idle, Asking, Halting, Announcing, Point, Handing, Checking, Contacting}
 use Rattle.bully_model.specs.declared.Node.{Node}
 
--- A place of node i, whose coordinator is o. Whom it calls is another node, or for Contacting coordinator 0, which times out; a call that a loop counts up or down to is in the
--- loop's own range.
+-- A place of node i. Whom it asks is above it and whom it halts below it, as the appendix's loops count; whom it calls else is another node, or, contacting, its coordinator, which
+-- may be 0.
 unfoldable pub placeInRange : ℕ → ℕ → ℕ → Place → Bool
-placeInRange n i o Idle = true
+placeInRange n i coordinator Idle = true
 -- "FOR j := i + 1, i + 2, …, n − 1, n"
-placeInRange n i o (Asking j) = ltb i j && leb j n
+placeInRange n i coordinator (Asking j) = ltb i j && leb j n
 -- "FOR j := i − 1, i − 2, …, 2, 1"
-placeInRange n i o (Halting j) = leb 1 j && ltb j i
-placeInRange n i o (Announcing still j) = isSetOfOthers n i still && isOther n i j
-placeInRange n i o Point = true
-placeInRange n i o (Handing still j) = isSetOfOthers n i still && isOther n i j
-placeInRange n i o (Checking j) = isOther n i j
--- it calls its coordinator, which may be 0
-placeInRange n i o Contacting = not (eqb o i)
+placeInRange n i coordinator (Halting j) = leb 1 j && ltb j i
+placeInRange n i coordinator (Announcing still j) = isSetOfOthers n i still && isOther n i j
+placeInRange n i coordinator Point = true
+placeInRange n i coordinator (Handing still j) = isSetOfOthers n i still && isOther n i j
+placeInRange n i coordinator (Checking j) = isOther n i j
+placeInRange n i coordinator Contacting = not (eqb coordinator i)
 
 -- 02: "one that does not run but is not Down and idle" is not in range
 abbrev pub restsUnlessRuns : Node → Bool

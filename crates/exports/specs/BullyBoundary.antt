@@ -1,5 +1,5 @@
 -- What nevraspu_bully_step promises (02, T-07): for any bytes at all, the number that is answered and what the lent buffer then holds; and what is claimed of it. The
--- proofs are in proofs/BullyStepping and proofs/BullyClaims.
+-- proofs are in proofs/bully/nevraspu_bully_step and proofs/BullyClaims.
 use mathlib.Core.Path.{_≡_}
 use mathlib.Core.Bool.{false}
 use mathlib.Core.List.{List, [], _++_}

@@ -43,12 +43,12 @@ fn answered(answer: Answer, t: Table, out: &mut [u8]) -> u8
 }
 
 // One event on a table of the Bully machine. table is the table in bytes, in the form of crate bully_bytes: any bytes are some table, in range or not. field is the
-// event as a field: tag, two-byte length, contents; bytes behind it are not looked at. out needs the room of a table, 193 bytes. The answer:
-//   0           accepted: out starts with the table after the event, with 0 in all places that are no part of it
-//   3, 4, 5     no event: cut short, or no bytes at all; a tag that is no event's; a length that is wrong for the tag; this is looked at next
+// event as a field: tag, two-byte length, contents; bytes behind it are not looked at. out needs the room of a table, 193 bytes. The answer, in the order in which it is looked for:
+//   255         out is too short
+//   3, 4, 5     no event: cut short, or no bytes at all; a tag that is no event's; a length that is wrong for the tag
 //   1, 7 to 10  the event is refused, by 01's number; 1 is a table that is not in range
-//   255         out is too short; this is looked at first
-// By any answer but 0 out is left as it was, and what is behind a table in out is in any case.
+//   0           accepted: out starts with the table after the event, with 0 in all places that are no part of it
+// By any answer but 0 out is left as it was; what it has behind the bytes of a table is never changed.
 #[no_mangle]
 pub extern "C" fn nevraspu_bully_step(table: &[u8], field: &[u8], out: &mut [u8]) -> u8
     ensures { λ r. ⌜ BullyExported (now (table .entry)) (now (field .entry)) (now (out .entry)) (now (out .exit)) r ⌝ }

@@ -98,7 +98,7 @@ fn answered(answer: Answer, t: Table, out: &mut [u8]) -> u8
 //   3, 4, 5           no event: cut short, or no bytes at all; a tag that is no event's; a length that is wrong for the tag
 //   7 to 14, 17, 18   the event is refused, by 01's number, T-05's or T-06's
 //   255               out is too short; this is looked at first
-// By any answer but 0 out is left as it was, and what is behind a table in out is in any case.
+// By any answer but 0 out is left as it was; what it has behind the bytes of a table is never changed.
 #[no_mangle]
 pub extern "C" fn nevraspu_step(table: &[u8], field: &[u8], out: &mut [u8]) -> u8
     ensures { λ r. ⌜ StepExported (now (table .entry)) (now (field .entry)) (now (out .entry)) (now (out .exit)) r ⌝ }
@@ -128,7 +128,7 @@ pub extern "C" fn nevraspu_step(table: &[u8], field: &[u8], out: &mut [u8]) -> u
 //                  others may be out of range
 //   1, 7, 9, 12    refused, as the event recover is
 //   255            out is too short; this is looked at first
-// By any answer but 0 out is left as it was, and what is behind eight records in out is in any case.
+// By any answer but 0 out is left as it was; what it has behind the bytes of eight records is never changed.
 #[no_mangle]
 pub extern "C" fn nevraspu_recovery(table: &[u8], node: u8, out: &mut [u8]) -> u8
     ensures { λ r. ⌜ RecoveryExported (now (table .entry)) node (now (out .entry)) (now (out .exit)) r ⌝ }

@@ -1,5 +1,5 @@
-// Tests that the machines share, of a status, a node's number, a set of nodes, a task and the number of nodes: definitions of model's specs/Node, specs/Range and
-// specs/State as functions.
+// Tests that both machines use, of a status, a node's number, a set of nodes and a task, and the answer to a number of nodes: definitions of model's specs/Node, specs/Range
+// and specs/State as functions.
 ghost use mathlib.Core.Path.{_≡_};
 ghost use Prim.Native.Nat.{_≤_};
 ghost use Rattle.model.specs.Limits.{nodeLimit};

@@ -1,11 +1,9 @@
 -- `halted_one` meets its contract: what the callees ensure.
 use borrow.Author.Needs.{needs}
-use Rattle.bully_model.specs.Calls.{answered}
 use Rattle.bully_machine.proofs.calls.halted_one.Statement.{statement}
 use Rattle.bully_machine.proofs.calls.halted_one.Tie as tie
 
 pub halted-one-spec : {M : Type 1} → statement M
-unfolding answered
 halted-one-spec =
     tie.close
     (tie.spec
