@@ -1,7 +1,7 @@
-//! Events, places and tables of the Bully machine in words.
+//! Events, places, calls and tables of the Bully machine in words.
 
 use crate::bully::machine::{Event, Node, Place, Table};
-use crate::machine::{only, Set, MAX_NODES};
+use crate::machine::{only, Set, Status, MAX_NODES};
 use std::fmt;
 
 impl fmt::Display for Event {
@@ -52,6 +52,39 @@ pub fn record_words(node: &Node) -> [String; 7] {
         set_words(node.up),
         node.place.to_string(),
     ]
+}
+
+/// Which call an accepted go on of node i made, and what became of it, from the tables before and after it
+/// alone: the place before names the call, and one that runs answers. None where the place has no call.
+pub fn call_words(before: &Table, after: &Table, i: u8) -> Option<String> {
+    let node = before.node(i);
+    let (call, j) = match node.place {
+        Place::Idle | Place::Point => return None,
+        Place::Asking(j) => ("AreYouThere", j),
+        Place::Contacting => ("AreYouThere", node.coordinator),
+        Place::Halting(j) => ("Halt", j),
+        Place::Announcing { now, .. } => ("NewCoordinator", now),
+        Place::Handing { now, .. } => ("Ready", now),
+        Place::Checking(j) => ("AreYouNormal", j),
+    };
+    let became = if j == 0 || !before.node(j).runs {
+        "no answer"
+    } else {
+        match node.place {
+            Place::Halting(_) => "done",
+            Place::Announcing { .. } | Place::Handing { .. } => {
+                if before.node(j) == after.node(j) {
+                    "ignored"
+                } else {
+                    "taken"
+                }
+            }
+            Place::Checking(_) if before.node(j).status == Status::Normal => "yes",
+            Place::Checking(_) => "no",
+            _ => "answered",
+        }
+    };
+    Some(format!("{call} {j}: {became}"))
 }
 
 /// n and a line for each node.
