@@ -1,1 +1,2 @@
 pub mod Fixed
+pub mod Agreed

@@ -1,4 +1,7 @@
 // What a user of the library writes: the public entries called one after another, and a part of demand 3, or of T-05, cited for the table that comes out.
+mod bully;
+
+pub use bully::agreed;
 ghost use mathlib.Core.Path.{_≡_};
 ghost use mathlib.Core.List.{[], _∷_};
 ghost use Rattle.model.specs.Counts.{rowsOf};
