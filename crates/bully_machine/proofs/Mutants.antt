@@ -1,7 +1,7 @@
 -- No outcome that meets the promise of the step is one of these wrong readings.
 use Prim.Native.Nat.{ℕ, zero, suc, _+_, _-_, _≤_, _<_}
 use native.Mathlib.Omega.{arith}
-use mathlib.Core.Bool.{Bool, true, false, _&&_, true≢false}
+use mathlib.Core.Bool.{Bool, true, false, and-false, true≢false}
 use mathlib.Core.Path.{_≡_, refl, sym, _∙_, ap, subst}
 use lib.Dec.{eqb}
 use lib.ListN.{length, length-set}
@@ -131,10 +131,6 @@ halt-leaves {t} {i} {j} x a e runs =
 ready-ignored : (c : Node) (i : ℕ) (x : TaskNo) → isReorganization (c .status) ≡ false → ready c i x ≡ c
 unfolding ready
 ready-ignored c i x e = rw (e, and-false (eqb (c .coordinator) i), pick-false)
-  where
-    and-false : (b : Bool) → (b && false) ≡ false
-    and-false true = refl
-    and-false false = refl
 
 ready-leaves : {t : Table} {i still j : ℕ} {r : Outcome} → Stepped t (GoOn i) r → r .answer ≡ Accepted → nodeAt (view t) i .place ≡ Handing still j
     → isReorganization (nodeAt (view t) j .status) ≡ false → nodeAt (view (r .table)) j ≡ nodeAt (view t) j

@@ -15,7 +15,8 @@ use Rattle.bully_model.specs.State.{State, nodeAt, stored, inRange, view}
 use Rattle.bully_model.specs.Step.{call, goOn, effect, actor, grounds, refused, accepted, step, kept}
 use Rattle.bully_model.specs.Answers.{answerNumber, resultNumber}
 use Rattle.bully_model.proofs.Fields.{Placed, NodeFacts, in-range-size, in-range-node}
-use Rattle.bully_model.proofs.Range.{Numbered, callee-in}
+use Rattle.model.proofs.Range.{Numbered}
+use Rattle.bully_model.proofs.Range.{callee-in}
 use Rattle.bully_model.specs.declared.Place.{Place}
 use Rattle.bully_model.specs.declared.Place.the-variants.{Idle, Asking, Halting, Announcing, Point, Handing, Checking, Contacting}
 use Rattle.bully_model.specs.declared.Node.{Node}

@@ -18,7 +18,8 @@ use Rattle.bully_model.specs.Step.{call, goOn, effect, actor, kept, afte
 use Rattle.bully_model.specs.Claims.{StaysInRange}
 use Rattle.bully_model.proofs.Judged.{Clear, by-step, accepted-is, in-range-not-one}
 use Rattle.bully_model.proofs.Fields.{NodeFacts, is-node, in-range-size, in-range-nodes, in-range-node}
-use Rattle.bully_model.proofs.Range.{Numbered, crashed-in, recovery-in, check-in, timeout-in, finish-in, callee-in, answered-in, timedOut-in, called-in}
+use Rattle.model.proofs.Range.{Numbered}
+use Rattle.bully_model.proofs.Range.{crashed-in, recovery-in, check-in, timeout-in, finish-in, callee-in, answered-in, timedOut-in, called-in}
 use Rattle.bully_model.specs.declared.Node.{Node}
 use Rattle.bully_model.specs.declared.Event.{Event}
 use Rattle.bully_model.specs.declared.Event.the-variants.{Crash, Recover, Check, Timeout, GoOn, Finish}

@@ -4,11 +4,11 @@ use native.Mathlib.Omega.{arith}
 use mathlib.Core.Bool.{true, true≢false}
 use mathlib.Core.Path.{_≡_, refl, sym, _∙_}
 use borrow.Author.Tests.{eqb-true, eqb-false, leb-true}
-use Rattle.node_set.specs.NodeSet.{with, without, highest}
-use Rattle.node_set.proofs.Laws.{within-word, empty-within, empty-lacks, highest-in, highest-other, with-within, with-lacks, without-within, without-lacks}
+use Rattle.node_set.specs.NodeSet.{with, highest}
 use Rattle.model.specs.Pick.{by-test}
 use Rattle.model.specs.Limits.{taskEnd}
-use Rattle.model.proofs.Fields.{IsOther, IsSetOfOthers}
+use Rattle.model.proofs.Fields.{IsSetOfOthers}
+use Rattle.model.proofs.Range.{Numbered, empty-set, set-without, set-with, next-one}
 use Rattle.model.specs.declared.Status.{Status}
 use Rattle.model.specs.declared.Status.the-variants.{Election, Reorganization, Normal}
 use Rattle.model.specs.declared.TaskNo.{TaskNo}
@@ -19,12 +19,6 @@ use Rattle.bully_model.proofs.Fields.{Placed, NodeFacts}
 use Rattle.bully_model.specs.declared.Place.{Place}
 use Rattle.bully_model.specs.declared.Place.the-variants.{Idle, Asking, Halting, Announcing, Point, Handing, Checking, Contacting}
 use Rattle.bully_model.specs.declared.Node.{Node}
-
--- node i of n
-pub record Numbered (n i : ℕ) : Type 0 where
-  pub low : 1 ≤ i
-  pub high : i ≤ n
-  pub small : n ≤ 16
 
 -- a node that runs, its place aside
 pub record Sound (n i : ℕ) (c : Node) : Type 0 where
@@ -41,9 +35,6 @@ sound r x = record { runs = r; coordinator = x .coordinator; task = x .task; hal
 at-in : {n i : ℕ} {c : Node} → Sound n i c → (p : Place) → Placed n i (c .coordinator) p → NodeFacts n i (withPlace c p)
 at-in x p y = record { coordinator = x .coordinator; task = x .task; halter = x .halter; up = x .up; rests = λ f. absurd (true≢false (sym (x .runs) ∙ f)); place = y }
 
-empty-in : (n i : ℕ) → IsSetOfOthers n i 0
-empty-in n i = record { inside = empty-within n; lacks = empty-lacks i }
-
 -- another coordinator, not node j itself
 placed-under : (n j o q : ℕ) (p : Place) → (q ≡ j → ⊥) → Placed n j o p → Placed n j q p
 placed-under n j o q Idle h x = x
@@ -56,15 +47,6 @@ placed-under n j o q (Checking k) h x = x
 placed-under n j o q Contacting h x = h
 
 module _ {n i : ℕ} (a : Numbered n i) where
-  next-in : {s : ℕ} → IsSetOfOthers n i s → (s ≡ 0 → ⊥) → IsOther n i (highest s)
-  next-in {s} x e =
-      let p : 0 < s = omega arith in
-      let h = highest-in n s (a .small) (x .inside) p in
-      record { low = h .0; high = h .1; other = highest-other s i p (within-word n s (a .small) (x .inside)) (x .lacks) }
-
-  rest-in : {s : ℕ} (k : ℕ) → IsSetOfOthers n i s → IsSetOfOthers n i (without s k)
-  rest-in {s} k x = record { inside = without-within n s k (x .inside); lacks = without-lacks s i k (x .lacks) }
-
   -- the status is free
   status-in : {c : Node} (s : Status) → Sound n i c → Sound n i (withStatus c s)
   status-in s x = record { runs = x .runs; coordinator = x .coordinator; task = x .task; halter = x .halter; up = x .up }
@@ -74,14 +56,14 @@ module _ {n i : ℕ} (a : Numbered n i) where
   handNext-in c still x w =
       by-test (NodeFacts n i)
       (λ _. at-in (status-in Normal x) Idle tt)
-      (λ e. at-in x (Handing _ _) (rest-in (highest still) w, next-in w (eqb-false still 0 e)))
+      (λ e. at-in x (Handing _ _) (set-without a (highest still) w, next-one a w e))
 
   announceNext-in : (c : Node) (still : ℕ) → Sound n i c → IsSetOfOthers n i still → NodeFacts n i (announceNext c still)
   unfolding announceNext
   announceNext-in c still x w =
       by-test (NodeFacts n i)
       (λ _. at-in x Point tt)
-      (λ e. at-in x (Announcing _ _) (rest-in (highest still) w, next-in w (eqb-false still 0 e)))
+      (λ e. at-in x (Announcing _ _) (set-without a (highest still) w, next-one a w e))
 
   electionPoint-in : (c : Node) → Sound n i c → NodeFacts n i (electionPoint i c)
   unfolding electionPoint
@@ -98,7 +80,7 @@ module _ {n i : ℕ} (a : Numbered n i) where
   unfolding haltingStep
   haltingStep-in c x =
       haltFrom-in (withUp (withHalter (withStatus (withPlace c Idle) Election) i) 0) _
-      (record { runs = x .runs; coordinator = x .coordinator; task = x .task; halter = a .high; up = empty-in n i })
+      (record { runs = x .runs; coordinator = x .coordinator; task = x .task; halter = a .high; up = empty-set a })
       (omega (arith, a .low))
 
   askFrom-in : (c : Node) (j : ℕ) → Sound n i c → i < j → NodeFacts n i (askFrom n i c j)
@@ -168,10 +150,7 @@ module _ {n i : ℕ} (a : Numbered n i) where
         coordinator = x .coordinator;
         task = x .task;
         halter = x .halter;
-        up = record {
-          inside = with-within n (c .up) j (x .up .inside) (y .0) (omega (arith, a .high));
-          lacks = with-lacks (c .up) i j (a .low) (y .0) (λ e. omega arith) (x .up .lacks);
-        };
+        up = set-with a j (record { low = y .0; high = omega (arith, y .1, a .high); other = λ e. omega arith }) (x .up);
       })
       (omega arith)
   answered-in c (Announcing still j) d r x y = announceNext-in c still (sound r x) (y .0)

@@ -1,7 +1,7 @@
 -- No mutant and no wrong turning meets the contract: computed over the definitions on concrete tables, and shown for every table where the claim is for every one.
 use Prim.Native.Nat.{ℕ, zero, suc, _+_, _-_, _≤_, _<_}
 use native.Mathlib.Omega.{arith}
-use mathlib.Core.Bool.{Bool, true, false, not, _&&_, true≢false}
+use mathlib.Core.Bool.{Bool, true, false, not, _&&_, and-false, true≢false}
 use mathlib.Core.Path.{_≡_, refl, sym, _∙_, ap, subst}
 use mathlib.Core.Logic.{_⊎_, ⊎-elim}
 use mathlib.Core.List.{List, [], _∷_, _++_, map, append-nil, append-cancel-left}
@@ -521,10 +521,6 @@ no-loss l (Lose a b) q = absurd (true≢false q)
 not-in-range : (s : State) (e : Event) → trafficInRange s ≡ false → step s e ≡ refused 1
 unfolding step grounds judged inRange pick
 not-in-range s e f = rw (f, and-false (baseInRange (s .n) (s .nodes) (s .queue)))
-  where
-    and-false : (x : Bool) → (x && false) ≡ false
-    and-false true = refl
-    and-false false = refl
 
 -- 17 is given only where the pair's count is at its end
 seventeen-at-end : (s : State) (e : Event) → step s e ≡ refused 17 → pairAtEnd (s .sent) (reactionTo s e .outgoing) ≡ true

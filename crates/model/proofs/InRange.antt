@@ -25,7 +25,7 @@ use Rattle.model.proofs.Locality.{taken-out}
 use Rattle.model.proofs.Numbers.{actor-in}
 use Rattle.model.proofs.Fields.{node-is, other-is, given-is, NodeFacts, node-facts, message-facts, Counting, count-bounded, in-range-nodes, in-range-queue, in-range-size, in-range-places, in-range-each, in-range-sum, in-range-node, in-range-oldest, oldest-goes}
 use Rattle.model.proofs.Counts.{none-counted, many-append, upTo-all, is-count, pair-counting, sent-more, sent-room, sent-length, delivered-more, delivered-length, lost-more, lost-length, out-counted}
-use Rattle.model.proofs.Range.{both, is-node, Place, OutgoingIn, ReactionIn, Room, InputIn, react-in}
+use Rattle.model.proofs.Range.{both, is-node, Numbered, OutgoingIn, ReactionIn, Room, InputIn, react-in}
 use Rattle.model.specs.declared.Message.{Message}
 use Rattle.model.specs.declared.Outgoing.{Outgoing}
 use Rattle.model.specs.declared.Outgoing.the-variants.{Nothing, Send}
@@ -92,13 +92,13 @@ spare true a b e h t = let d = eqb-false a b e in omega arith
 spare false a b e h t = absurd (true≢false (sym t))
 
 pub record EventIn (s : State) (e : Event) : Type 0 where
-  pub place : Place (s .n) (actor e)
+  pub place : Numbered (s .n) (actor e)
   pub reaction : ReactionIn (s .n) (actor e) (reactionTo s e)
   pub fewer : length (remaining s e) ≤ length (s .queue)
   pub stays : every (λ _. messageInRange (s .n)) 1 (remaining s e) ≡ true
 
 module _ (s : State) (e : Event) (c : Clear s e) where
-  place : Place (s .n) (actor e)
+  place : Numbered (s .n) (actor e)
   place = let x = actor-in (s .n) e (c .number) in record { low = x .0; high = x .1; small = in-range-size s (c .in-range) .1 }
 
   -- the event's node as it stands

@@ -118,7 +118,7 @@ is-message n m x =
 -- ── what a procedure keeps ──
 
 -- node i of n
-pub record Place (n i : ℕ) : Type 0 where
+pub record Numbered (n i : ℕ) : Type 0 where
   pub low : 1 ≤ i
   pub high : i ≤ n
   pub small : n ≤ 16
@@ -207,7 +207,7 @@ InputIn n i c Expire = isDown (c .status) ≡ false
 InputIn n i c (Finish t) = (isDown (c .status) ≡ false) × IsGivenTask (t .number)
 InputIn n i c (Receive m) = (isDown (c .status) ≡ false) × MessageFacts n m × (m .receiver ≡ i)
 
-module _ {n i : ℕ} (p : Place n i) where
+module _ {n i : ℕ} (p : Numbered n i) where
   number : NodeNumber i
   number = record { low = p .low; high = omega (arith, p .high, p .small) }
 
@@ -215,20 +215,20 @@ module _ {n i : ℕ} (p : Place n i) where
   here = record { low = p .low; high = p .high }
 
   -- ── sets of others ──
-  none : IsSetOfOthers n i 0
-  none = record { inside = empty-within n; lacks = empty-lacks i }
+  pub empty-set : IsSetOfOthers n i 0
+  empty-set = record { inside = empty-within n; lacks = empty-lacks i }
 
-  less : {s : ℕ} (j : ℕ) → IsSetOfOthers n i s → IsSetOfOthers n i (without s j)
-  less {s} j x = record { inside = without-within n s j (x .inside); lacks = without-lacks s i j (x .lacks) }
+  pub set-without : {s : ℕ} (j : ℕ) → IsSetOfOthers n i s → IsSetOfOthers n i (without s j)
+  set-without {s} j x = record { inside = without-within n s j (x .inside); lacks = without-lacks s i j (x .lacks) }
 
-  more : {s : ℕ} (j : ℕ) → IsOther n i j → IsSetOfOthers n i s → IsSetOfOthers n i (with s j)
-  more {s} j o x =
+  pub set-with : {s : ℕ} (j : ℕ) → IsOther n i j → IsSetOfOthers n i s → IsSetOfOthers n i (with s j)
+  set-with {s} j o x =
       record { inside = with-within n s j (x .inside) (o .low) (o .high); lacks = with-lacks s i j (p .low) (o .low) (o .other) (x .lacks) }
 
   some : (s : ℕ) → eqb s 0 ≡ false → 0 < s
   some s e = let q = eqb-false s 0 e in omega arith
 
-  next-one : {s : ℕ} → IsSetOfOthers n i s → eqb s 0 ≡ false → IsOther n i (next s)
+  pub next-one : {s : ℕ} → IsSetOfOthers n i s → eqb s 0 ≡ false → IsOther n i (next s)
   next-one {s} x e =
       let q = next-in n s (p .small) (x .inside) (some s e) in
       record { low = q .0; high = q .1; other = next-other s i (some s e) (within-word n s (p .small) (x .inside)) (x .lacks) }
@@ -244,7 +244,7 @@ module _ {n i : ℕ} (p : Place n i) where
 
   formed-up : (a : Status) (k t l : ℕ) → isDown a ≡ false → k < counterEnd → t ≤ taskEnd → l ≤ callEnd → Up n i a (k + 1) (groupOf (k + 1) i) i t 0 l
   formed-up a k t l e h ht hl =
-      record { up = e; counter = omega arith; group = fresh k h; led = owner-of (k + 1) i number; task = ht; members = none; last = hl }
+      record { up = e; counter = omega arith; group = fresh k h; led = owner-of (k + 1) i number; task = ht; members = empty-set; last = hl }
 
   recovers-in : {l : ℕ} (c : Node) → c .last .number ≤ callEnd → Fits n i (c .counter) l (recovers i c)
   recovers-in c h room _ =
@@ -323,9 +323,9 @@ module _ {n i : ℕ} (p : Place n i) where
     unfolding inviteNext
     inviteNext-in {k} x f o sf so =
         by-test (Fits n i k (c .last .number))
-        (λ t. let e = not-true _ t in calls-in (Inviting _ _ _) 3 (next f) x (omega arith) (omega arith) (next-one sf e) (less (next f) sf, so, next-one sf e))
+        (λ t. let e = not-true _ t in calls-in (Inviting _ _ _) 3 (next f) x (omega arith) (omega arith) (next-one sf e) (set-without (next f) sf, so, next-one sf e))
         (λ _. by-test (Fits n i k (c .last .number))
-        (λ t. let e = not-true _ t in calls-in (Inviting _ _ _) 3 (next o) x (omega arith) (omega arith) (next-one so e) (none, less (next o) so, next-one so e))
+        (λ t. let e = not-true _ t in calls-in (Inviting _ _ _) 3 (next o) x (omega arith) (omega arith) (next-one so e) (empty-set, set-without (next o) so, next-one so e))
         (λ _ _ _. record { node = up-node n i (turned c Collecting) u tt; outgoing = tt }))
 
     handNext-in : {k : ℕ} (r : ℕ) → IsSetOfOthers n i r → IsGivenTask (c .task .number) → Fits n i k (c .last .number) (handNext i c r)
@@ -336,7 +336,7 @@ module _ {n i : ℕ} (p : Place n i) where
           node = up-node n i (settled c Normal) (standing c Normal _ refl (u .task) u) tt;
           outgoing = tt;
         })
-        (λ e. calling-in (Handing _ _) (readies i (next r) (nextCall c) (c .group) (c .task)) Plain (omega arith) (less (next r) s, next-one s e, t)
+        (λ e. calling-in (Handing _ _) (readies i (next r) (nextCall c) (c .group) (c .task)) Plain (omega arith) (set-without (next r) s, next-one s e, t)
         (λ q. record {
           sender = here;
           receiver = next-one s e;
@@ -353,7 +353,7 @@ module _ {n i : ℕ} (p : Place n i) where
     forwardNext-in {k} r a x s o q d =
         by-test (Fits n i k (c .last .number))
         (λ _. calls-in (Accepting a x) 4 (c .coordinator) Plain (omega arith) (omega arith) (leader (λ e. d (u .led ∙ e))) (o, q, d))
-        (λ e. calls-in (Forwarding _ _ a x) 3 (next r) Plain (omega arith) (omega arith) (next-one s e) (less (next r) s, next-one s e, o, q, d))
+        (λ e. calls-in (Forwarding _ _ a x) 3 (next r) Plain (omega arith) (omega arith) (next-one s e) (set-without (next r) s, next-one s e, o, q, d))
 
   module _ (c : Node) (u : UpNode n i c) where
     merges-in : (f : ℕ) → IsSetOfOthers n i f → Room n i c (merges i c f)
@@ -403,7 +403,7 @@ module _ {n i : ℕ} (p : Place n i) where
     module _ (b : BusyNode n i c) where
       checked-in : Room n i c (checked n i c)
       unfolding checked
-      checked-in = by-test (Room n i c) (λ _. askAfter-in 0 0 none) (λ _. kept-in c u b)
+      checked-in = by-test (Room n i c) (λ _. askAfter-in 0 0 empty-set) (λ _. kept-in c u b)
 
       timedOut-in : Room n i c (timedOut i c)
       unfolding timedOut
@@ -444,7 +444,7 @@ module _ {n i : ℕ} (p : Place n i) where
       resumed-in : (y : Bool) (a : Activity) → Busy n i (c .group .number) (c .task .number) a → Room n i c (resumed n i c y a)
       unfolding resumed
       resumed-in y Idle x = kept-in c u b
-      resumed-in y (Asking a f) x = askAfter-in a (pick y (with f a) f) (by-test (IsSetOfOthers n i) (λ _. more a (x .0) (x .1)) (λ _. x .1))
+      resumed-in y (Asking a f) x = askAfter-in a (pick y (with f a) f) (by-test (IsSetOfOthers n i) (λ _. set-with a (x .0) (x .1)) (λ _. x .1))
       resumed-in y (Waiting k f) x = kept-in c u b
       resumed-in y (Inviting f o w) x = inviteNext-in c u Plain f o (x .0) (x .1)
       resumed-in y Collecting x = kept-in c u b
@@ -478,7 +478,7 @@ module _ {n i : ℕ} (p : Place n i) where
               last = u .last;
             })
             (pick (eqb (c .coordinator) i) (c .members) 0) (m .sender) (m .call)
-            (by-test (IsSetOfOthers n i) (λ _. u .members) (λ _. none)) sender (x .call)
+            (by-test (IsSetOfOthers n i) (λ _. u .members) (λ _. empty-set)) sender (x .call)
             (acts-not-owned i c (m .group) e))
 
         onAccept-in : Room n i c (onAccept i c m)
@@ -493,7 +493,7 @@ module _ {n i : ℕ} (p : Place n i) where
               group = u .group;
               led = u .led;
               task = u .task;
-              members = more (m .sender) sender (u .members);
+              members = set-with (m .sender) sender (u .members);
               last = u .last;
             })
             b)

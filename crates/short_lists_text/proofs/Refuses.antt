@@ -1,7 +1,7 @@
 -- Every input that is not allowed is refused.
 use Prim.Native.Nat.{ℕ, _<_}
 use native.Mathlib.Omega.{arith}
-use mathlib.Core.Bool.{Bool, true, false, _&&_}
+use mathlib.Core.Bool.{false, _&&_, and-false}
 use mathlib.Core.Path.{_≡_, refl, sym, _∙_}
 use mathlib.Core.List.{List, [], _∷_}
 use lib.Dec.{leb}
@@ -21,10 +21,6 @@ stopped = refl
 by-fits : (l : List ℕ) → fits l ≡ false → textOf l ≡ bytes "stopped 0 16\n"
 unfolding textOf
 by-fits l q = rw (q, pick-false) stopped
-
-and-false : (b : Bool) → b && false ≡ false
-and-false true = refl
-and-false false = refl
 
 not-two : (l : List ℕ) → (length l ≡ 2 → ⊥) → textOf l ≡ bytes "stopped 0 16\n"
 unfolding fits
