@@ -3,7 +3,10 @@
 //! what out begins with after the call, or `same`.
 
 use crate::bully;
-use crate::proved::{table_from_bytes, traffic_to_bytes, Library, COUNTS_AT, TABLE_BYTES};
+use crate::machine::TOWER;
+use crate::proved::{
+    limits_to_bytes, table_from_bytes, traffic_to_bytes, Library, COUNTS_AT, TABLE_BYTES,
+};
 use crate::traffic_tables::count_waiting;
 use crate::vectors::{number, read_hex};
 use std::ops::Range;
@@ -12,8 +15,8 @@ use std::ops::Range;
 #[derive(Clone, Copy, Debug)]
 pub enum Takes {
     Slice,
-    /// A slice too: a table, which stands in the vectors without counts, as it was before T-05.
-    TableWithoutCounts,
+    /// A slice too: a table, which stands in the vectors without counts and limits, as it was before T-05.
+    OlderTable,
     Number,
 }
 
@@ -43,7 +46,7 @@ pub fn none_free(_: &[u8]) -> Range<usize> {
 pub static FUNCTIONS: [Function; 2] = [
     Function {
         name: "nevraspu_recovery",
-        takes: &[Takes::TableWithoutCounts, Takes::Number],
+        takes: &[Takes::OlderTable, Takes::Number],
         call: |library, given, out| library.recovery(&given.slices[0], given.numbers[0], out),
         free: none_free,
     },
@@ -90,7 +93,7 @@ fn read_call(line: usize, words: &str, functions: &'static [Function]) -> Option
     for takes in function.takes {
         match takes {
             Takes::Slice => arguments.slices.push(read_hex(w.next()?)?),
-            Takes::TableWithoutCounts => arguments.slices.push(with_counts(&read_hex(w.next()?)?)),
+            Takes::OlderTable => arguments.slices.push(completed(&read_hex(w.next()?)?)),
             Takes::Number => arguments.numbers.push(number(w)?),
         }
     }
@@ -104,24 +107,21 @@ fn read_call(line: usize, words: &str, functions: &'static [Function]) -> Option
     whole.then_some(CallCase { line, function, arguments, room, answer, written })
 }
 
-/// A table of T-04's vectors with counts. They were made for the table of that time, 1,362 bytes, behind which
-/// zeros are read; as counts zeros put every table with a waiting message out of range, and its answer
-/// would be 1. So that each call asks for what it was made for, and answer and OUT stay, each pair gets what
-/// waits of it as sent, and nothing as delivered or lost. A message whose sender or receiver is none of the
+/// A table of T-04's vectors with counts and limits. They were made for the table of that time, 1,362 bytes,
+/// behind which zeros are read; as counts zeros put every table with a waiting message out of range, and as
+/// limits every table, and its answer would be 1. So that each call asks for what it was made for, and answer
+/// and OUT stay, each pair gets what waits of it as sent, and nothing as delivered or lost, and the table gets
+/// the tower's limits, which were those of every table then. A message whose sender or receiver is none of the
 /// n nodes, or the same, is of no pair and not counted; such a table is out of range with any counts. A table
-/// that was cut short is filled with zeros up to its counts and then cut behind the last byte that is not 0;
-/// what stood behind a longer one, which is not looked at, stands behind the counts.
-pub fn with_counts(given: &[u8]) -> Vec<u8> {
+/// that was cut short is filled with zeros up to its counts; what stood behind a longer one, which is not
+/// looked at, stands behind the limits.
+pub fn completed(given: &[u8]) -> Vec<u8> {
     let (old, behind) = given.split_at(given.len().min(COUNTS_AT));
     let mut bytes = [0; TABLE_BYTES];
     bytes[..old.len()].copy_from_slice(old);
     let mut table = table_from_bytes(&bytes);
     count_waiting(&mut table);
     traffic_to_bytes(&table.traffic, &mut bytes);
-    let mut table = [&bytes, behind].concat();
-    if old.len() < COUNTS_AT {
-        let end = table.iter().rposition(|&byte| byte != 0).map_or(0, |place| place + 1);
-        table.truncate(end);
-    }
-    table
+    limits_to_bytes(TOWER, &mut bytes);
+    [&bytes, behind].concat()
 }

@@ -2,9 +2,8 @@
 //! check, and what it leaves, is written out here, apart from the machine.
 
 use crate::corners::{add, Count, Source, ACTIVITIES};
-use crate::list::List;
 use crate::machine::{
-    advance, count_of, Activity, Body, Event, Message, Node, Status, Table, MAX_CALL, MAX_COUNT,
+    count_of, Activity, Body, Event, Message, Node, Status, Table, MAX_CALL, MAX_COUNT,
     MAX_MESSAGES, MAX_NODES,
 };
 use crate::proved::tag;
@@ -138,7 +137,8 @@ impl Grounds {
             not_normal: is(|node| node.status != Status::Normal),
             not_own: node.is_some_and(|node| node.coordinator != i),
             no_call: asks && is(|node| node.last_call == MAX_CALL),
-            full: asks && table.messages.len() == MAX_MESSAGES,
+            // T-08: "Grounds 1, 6 and 14 read the table's own limits."
+            full: asks && table.messages.len() == usize::from(table.limits.messages),
             no_more: asks && count_of(&table.traffic.sent, i, lowest_other(i)) == MAX_COUNT,
         }
     }
@@ -255,21 +255,19 @@ impl CheckCorners {
         }
     }
 
-    /// Counts a list and the text printed for it, and judges each of its checks by that.
-    pub fn printed(&mut self, list: &List, text: &[u8]) {
-        let refused = refused_lines(text, list.events.len());
-        let mut table = Table::start(list.n);
+    /// Judges an event of a list by the number that is printed for it, if one is.
+    pub fn printed_event(&mut self, table: &Table, event: &Event, number: Option<u8>) {
         let mut wrong = [false; WRONG.len()];
-        for (event, &number) in list.events.iter().zip(&refused) {
-            match *event {
-                Event::Check(i) => wrong[5] |= Grounds::of(&table, i).first() != number,
-                _ => wrong[6] |= number == Some(18),
-            }
-            let _ = advance(&mut table, event);
+        match *event {
+            Event::Check(i) => wrong[5] = Grounds::of(table, i).first() != number,
+            _ => wrong[6] = number == Some(18),
         }
         add(&mut self.wrong, Source::Run as usize, wrong);
-        let stopped = list.stop.is_some();
-        add(&mut self.printed, Source::Run as usize, printed(&refused, stopped));
+    }
+
+    /// Counts a list by the numbers that are printed for its events.
+    pub fn printed(&mut self, refused: &[Option<u8>], stopped: bool) {
+        add(&mut self.printed, Source::Run as usize, printed(refused, stopped));
     }
 
     /// Every corner, with its counts.
@@ -343,21 +341,6 @@ fn met(table: &Table, i: u8, answer: Result<(), u8>, grounds: &Grounds) -> [bool
         refused(1) && idle && !grounds.turned_away(),
         refused(1) && grounds.down && grounds.busy,
     ]
-}
-
-/// The number that a text has for each of so many events, or none where it is accepted.
-fn refused_lines(text: &[u8], events: usize) -> Vec<Option<u8>> {
-    let mut refused = vec![None; events];
-    for line in String::from_utf8_lossy(text).lines() {
-        let words: Vec<&str> = line.split(' ').collect();
-        if let ["refused", e, r] = words[..] {
-            let place = e.parse::<usize>().ok().and_then(|e| e.checked_sub(1));
-            if let Some(number) = place.and_then(|place| refused.get_mut(place)) {
-                *number = r.parse().ok();
-            }
-        }
-    }
-    refused
 }
 
 /// Which of `PRINTED` a list meets, by the numbers of its events.

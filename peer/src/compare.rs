@@ -5,7 +5,7 @@ use crate::calls::{none_free, CallCase};
 use crate::corners::{Before, Corners, Source};
 use crate::history::Checker;
 use crate::list::{first_event, read_list, write_event, write_list};
-use crate::machine::{count_mut, count_of, step, Event, Message, Node, Table, MAX_NODES};
+use crate::machine::{count_mut, count_of, step, Event, Limits, Message, Node, Table, MAX_NODES};
 use crate::numbers::Numbers;
 use crate::print::run_list;
 use crate::proved::{
@@ -139,12 +139,13 @@ pub struct Difference {
 pub fn run_difference(
     library: &impl Library,
     n: u8,
+    limits: Limits,
     events: &[Event],
     mut corners: Option<&mut Corners>,
 ) -> Option<Difference> {
-    let mut checker = Checker::new(n);
+    let mut checker = Checker::new(n, limits);
     let mut bytes = [0; TABLE_BYTES];
-    table_to_bytes(&Table::start(n), &mut bytes);
+    table_to_bytes(&Table::start(n, limits), &mut bytes);
     let mut numbers = Numbers::new(u64::from(n));
     let mut lent = Lent::for_table(&mut numbers);
     let mut field = Vec::with_capacity(8);
@@ -403,13 +404,18 @@ pub fn call_difference(library: &dyn Library, case: &CallCase) -> Option<String>
 }
 
 /// The shortest run found that still shows a difference, by its step, its text or its count.
-pub fn shortest_run(library: &impl Library, n: u8, events: &[Event]) -> (u8, Vec<Event>) {
+pub fn shortest_run(
+    library: &impl Library,
+    n: u8,
+    limits: Limits,
+    events: &[Event],
+) -> (u8, Vec<Event>) {
     let differs = |n: u8, events: &[Event]| {
-        run_difference(library, n, events, None).is_some()
-            || list_difference(library, &write_list(n, events)).is_some()
+        run_difference(library, n, limits, events, None).is_some()
+            || list_difference(library, &write_list(n, limits, events)).is_some()
     };
     let (mut n, mut events) = (n, events.to_vec());
-    if let Some(found) = run_difference(library, n, &events, None) {
+    if let Some(found) = run_difference(library, n, limits, &events, None) {
         events.truncate(found.events);
     }
     // With fewer nodes fewer events may do.
@@ -457,10 +463,10 @@ fn map_nodes(event: &Event, mut to: impl FnMut(u8) -> u8) -> Event {
 }
 
 /// A run's difference, shortened, in words.
-pub fn tell_run(library: &impl Library, n: u8, events: &[Event]) -> String {
-    let (n, events) = shortest_run(library, n, events);
-    let list = write_list(n, &events);
-    let words = match run_difference(library, n, &events, None) {
+pub fn tell_run(library: &impl Library, n: u8, limits: Limits, events: &[Event]) -> String {
+    let (n, events) = shortest_run(library, n, limits, events);
+    let list = write_list(n, limits, &events);
+    let words = match run_difference(library, n, limits, &events, None) {
         Some(found) => found.words,
         None => list_difference(library, &list).unwrap_or_default(),
     };
@@ -483,7 +489,9 @@ pub fn list_words(list: &[u8]) -> String {
     match read_list(list) {
         Err(stop) => writeln!(words, "  stopped {} {}", stop.offset, stop.number),
         Ok(list) => {
-            writeln!(words, "  n {}, {} events", list.n, list.events.len())
+            let Limits { nodes, messages } = list.limits;
+            let events = list.events.len();
+            writeln!(words, "  n {}, limits {nodes} {messages}, {events} events", list.n)
                 .expect("a String takes it");
             for event in list.events.iter().take(1000) {
                 writeln!(words, "  {}", event_words(event)).expect("a String takes it");

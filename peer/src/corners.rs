@@ -1,13 +1,15 @@
 //! Counts what the compared events met: refusals, kinds delivered, activities, transitions, picks of the
 //! next node and invitations, so that a corner that was never met shows. What document 01 and T-02 and
 //! T-03 of document 02 make possible is written out here, apart from the machine. `recovery_corners.rs`
-//! does the same for the records of a recovery, `traffic_corners.rs` for the messages counted by pair, and
-//! `check_corners.rs` for checks.
+//! does the same for the records of a recovery, `traffic_corners.rs` for the messages counted by pair,
+//! `check_corners.rs` for checks, and `limit_corners.rs` for the limits.
 
 use crate::check_corners::{CheckBefore, CheckCorners};
+use crate::limit_corners::{LimitBefore, LimitCorners};
 use crate::list::List;
 use crate::machine::{
-    only, owner, Activity, Body, Event, Message, Node, Set, Status, Table, MAX_CALL, MAX_MESSAGES,
+    advance, only, owner, Activity, Body, Event, Message, Node, Set, Status, Table, MAX_CALL,
+    MAX_MESSAGES,
 };
 use crate::proved::tag;
 use crate::recovery_corners::{Call, RecoveryCorners};
@@ -240,6 +242,7 @@ pub struct Before {
     held: Option<Table>,
     traffic: TrafficBefore,
     check: Option<CheckBefore>,
+    limits: LimitBefore,
 }
 
 impl Before {
@@ -258,8 +261,8 @@ impl Before {
             }
             _ => None,
         };
-        let traffic = TrafficBefore::of(table, &event);
-        Before { node, message, held, traffic, check: CheckBefore::of(table, &event) }
+        let (traffic, check) = (TrafficBefore::of(table, &event), CheckBefore::of(table, &event));
+        Before { node, message, held, traffic, check, limits: LimitBefore::of(table, &event) }
     }
 }
 
@@ -314,6 +317,7 @@ pub struct Corners {
     recoveries: RecoveryCorners,
     traffic: TrafficCorners,
     checks: CheckCorners,
+    limits: LimitCorners,
     /// Whom each inviting node has called since it merged, as far as it was seen.
     called: [Set; 16],
 }
@@ -335,6 +339,7 @@ impl Default for Corners {
             recoveries: RecoveryCorners::default(),
             traffic: TrafficCorners::default(),
             checks: CheckCorners::default(),
+            limits: LimitCorners::default(),
             called: [0; 16],
         }
     }
@@ -359,6 +364,7 @@ impl Corners {
         if let Some(before) = &before.check {
             self.checks.count(source, before, answer, after);
         }
+        self.limits.count(source, &before.limits, &before.traffic, answer, after);
         let source = source as usize;
         let place = event_place(event);
         if answer != Err(1) {
@@ -489,6 +495,7 @@ impl Corners {
     /// Counts a call for the records of a recovery.
     pub fn recovery(&mut self, source: Source, call: &Call) {
         self.recoveries.count(source, call);
+        self.limits.recovery(source, call);
     }
 
     /// Counts a refusal of a list or of a line.
@@ -496,15 +503,45 @@ impl Corners {
         self.other_refusals[number_place(number)] += 1;
     }
 
-    /// Counts a list and the text printed for it.
+    /// Counts a list that is read and the text printed for it, and judges each of its events by that.
     pub fn printed(&mut self, list: &List, text: &[u8]) {
-        self.checks.printed(list, text);
+        let refused = refused_lines(text, list.events.len());
+        let mut table = Table::start(list.n, list.limits);
+        for (event, &number) in list.events.iter().zip(&refused) {
+            self.checks.printed_event(&table, event, number);
+            self.limits.printed_event(&table, event, number);
+            let _ = advance(&mut table, event);
+        }
+        self.checks.printed(&refused, list.stop.is_some());
+        self.limits.printed(&table);
+    }
+
+    /// Counts the first field of any list, and fields behind it that must be first, by the text printed.
+    pub fn fields(&mut self, list: &[u8], text: &[u8]) {
+        self.limits.fields(list, text);
+    }
+
+    /// Counts the answer of a step to a field with the tag of a first one.
+    pub fn first_tag(&mut self, field: &[u8], answer: u8) {
+        self.limits.first_tag(field, answer);
     }
 
     /// Counts the answer on a table with a rule of the range broken in its counts, the one at this place of
     /// `BROKEN`.
     pub fn broken_counts(&mut self, which: usize, answer: Result<(), u8>) {
         self.traffic.broken(which, answer);
+    }
+
+    /// Counts the answer on a table with a rule of the range broken by its limits, the one with this number
+    /// below `BROKEN`.
+    pub fn broken_limits(&mut self, which: usize, answer: Result<(), u8>) {
+        self.limits.broken(which, answer);
+    }
+
+    /// Counts the answer on a table whose limits are no allowed pair, and the one on the table with its right
+    /// ones.
+    pub fn limits_first(&mut self, answer: Result<(), u8>, else_answer: Result<(), u8>) {
+        self.limits.first(answer, else_answer);
     }
 
     /// Every corner that the papers make possible, with its counts.
@@ -545,6 +582,7 @@ impl Corners {
         corners.extend(named.map(|(name, count)| (name.to_string(), count)));
         corners.extend(self.traffic.corners());
         corners.extend(self.checks.corners());
+        corners.extend(self.limits.corners());
         corners
     }
 
@@ -574,6 +612,7 @@ impl Corners {
         let wrong = picks.chain(WRONG_INVITATIONS.iter().zip(self.wrong_invitations));
         let wrong = wrong.map(|(&name, count)| (name, count)).chain(self.recoveries.wrong());
         let wrong = wrong.chain(self.traffic.wrong()).chain(self.checks.wrong());
+        let wrong = wrong.chain(self.limits.wrong());
         found.extend(wrong.filter(|&(_, count)| met(count)).map(|(name, _)| name.to_string()));
         found
     }
@@ -581,6 +620,13 @@ impl Corners {
     /// The counts in lines.
     pub fn text(&self) -> String {
         counts_text(&self.corners())
+    }
+
+    /// The corners that were met less often than so many times, in runs and tables together.
+    pub fn seldom(&self, times: u64) -> Vec<String> {
+        let corners = self.corners().into_iter();
+        let seldom = corners.filter(|(_, [runs, tables])| runs + tables < times);
+        seldom.map(|(name, [runs, tables])| format!("{name}: {}", runs + tables)).collect()
     }
 }
 
@@ -601,6 +647,21 @@ pub fn counts_text(corners: &[(String, Count)]) -> String {
         writeln!(text, "least met: {}, {} times", least.0, sum(least)).expect("a String takes it");
     }
     text
+}
+
+/// The number that a text has for each of so many events, or none where it is accepted.
+fn refused_lines(text: &[u8], events: usize) -> Vec<Option<u8>> {
+    let mut refused = vec![None; events];
+    for line in String::from_utf8_lossy(text).lines() {
+        let words: Vec<&str> = line.split(' ').collect();
+        if let ["refused", e, r] = words[..] {
+            let place = e.parse::<usize>().ok().and_then(|e| e.checked_sub(1));
+            if let Some(number) = place.and_then(|place| refused.get_mut(place)) {
+                *number = r.parse().ok();
+            }
+        }
+    }
+    refused
 }
 
 /// Adds one to the counts of all that was met.

@@ -1,8 +1,9 @@
 //! Picks the events of random runs, with an eye on the table, so that the protocol gets on and its
 //! corners are met.
 
+use crate::limit_tables::any_limits;
 use crate::list::MAX_LIST;
-use crate::machine::{advance, Activity, Event, Set, Status, Table, MAX_MESSAGES, MIN_TASK};
+use crate::machine::{advance, Activity, Event, Limits, Set, Status, Table, MIN_TASK, STAND};
 use crate::numbers::Numbers;
 use crate::slow_invitation::slow_invitation;
 
@@ -11,7 +12,7 @@ use crate::slow_invitation::slow_invitation;
 pub struct Manner {
     /// In the order of `Thing`.
     weights: [u32; 10],
-    /// Messages are delivered and lost only when nearly 64 wait.
+    /// Messages are delivered and lost only when nearly as many wait as may.
     full: bool,
 }
 
@@ -53,7 +54,7 @@ pub const CROSSING: Manner = Manner { weights: [80, 1, 1, 20, 25, 4, 30, 5, 12, 
 pub const GROUPS: Manner = Manner { weights: [100, 0, 0, 20, 9, 2, 30, 6, 20, 0], full: false };
 /// Calls are given up early, so that acceptances and replies come late.
 pub const LATE: Manner = Manner { weights: [30, 2, 3, 20, 15, 10, 25, 25, 20, 1], full: false };
-/// Nearly 64 messages wait.
+/// Nearly as many messages wait as may.
 pub const FULL: Manner = Manner { weights: [40, 4, 3, 12, 20, 10, 15, 20, 12, 2], full: true };
 /// Nearly every event is refused.
 pub const REFUSED: Manner = Manner { weights: [2, 0, 1, 1, 1, 1, 1, 1, 1, 150], full: false };
@@ -114,7 +115,7 @@ pub fn pick(table: &Table, manner: &Manner, numbers: &mut Numbers) -> Event {
     let ready = Ready::of(table);
     let mut weights = manner.weights;
     let waiting = table.messages.len();
-    if manner.full && waiting + 3 < MAX_MESSAGES {
+    if manner.full && waiting + 3 < usize::from(table.limits.messages) {
         (weights[0], weights[1]) = (8, 0);
     }
     let sets = [ready.up, ready.down, ready.check, ready.timeout, ready.tick, ready.expire];
@@ -223,11 +224,11 @@ fn wrong_check(table: &Table, numbers: &mut Numbers) -> Event {
 
 /// A run of so many events from the starting table of n; its manner changes now and then. In half of them
 /// an invitation is slow now and then, and in half a timer is wrongly wired.
-pub fn run(n: u8, length: usize, numbers: &mut Numbers) -> Vec<Event> {
+pub fn run(n: u8, limits: Limits, length: usize, numbers: &mut Numbers) -> Vec<Event> {
     let slow = numbers.one_in(2);
     let wrongly_wired = numbers.one_in(2);
     let mut manner = any_manner(numbers);
-    let mut run = Run { table: Table::start(n), events: Vec::with_capacity(length) };
+    let mut run = Run { table: Table::start(n, limits), events: Vec::with_capacity(length) };
     while run.events.len() < length {
         if numbers.one_in(300) {
             manner = any_manner(numbers);
@@ -248,10 +249,10 @@ pub fn run(n: u8, length: usize, numbers: &mut Numbers) -> Vec<Event> {
 
 /// A short run of two or three nodes, among which groups form soon, with a wrongly wired timer: checks at
 /// members stand early in it, and often at its end.
-pub fn run_with_wrong_checks(numbers: &mut Numbers) -> (u8, Vec<Event>) {
-    let n = numbers.of(&[2, 2, 3]);
+pub fn run_with_wrong_checks(numbers: &mut Numbers) -> (u8, Limits, Vec<Event>) {
+    let (n, limits) = (numbers.of(&[2, 2, 3]), any_limits(numbers));
     let length = numbers.between(10, 160) as usize;
-    let mut run = Run { table: Table::start(n), events: Vec::with_capacity(length + 1) };
+    let mut run = Run { table: Table::start(n, limits), events: Vec::with_capacity(length + 1) };
     while run.events.len() < length {
         let event = match numbers.one_in(4) {
             true => wrong_check(&run.table, numbers),
@@ -263,12 +264,44 @@ pub fn run_with_wrong_checks(numbers: &mut Numbers) -> (u8, Vec<Event>) {
         let event = wrong_check(&run.table, numbers);
         run.go(event);
     }
-    (n, run.events)
+    (n, limits, run.events)
+}
+
+/// Nodes ask until so many messages wait, and nobody answers.
+pub fn fill(run: &mut Run, waiting: usize, numbers: &mut Numbers) {
+    for _ in 0..150 {
+        let table = &run.table;
+        if table.messages.len() >= waiting {
+            return;
+        }
+        let asks = |j: &u8| matches!(table.node(*j).activity, Activity::Asking { .. });
+        let event = match ((1..=table.n).find(asks), Ready::of(table).check) {
+            (Some(j), _) => Event::Expire(j),
+            (None, 0) => return,
+            (None, set) => Event::Check(member(set, numbers)),
+        };
+        run.go(event);
+    }
+}
+
+/// A short run of up to four nodes in which nearly as many messages wait as may. Mostly it ends with as many
+/// as may on the stand, or, in the tower, with more.
+pub fn full_queue(numbers: &mut Numbers) -> (u8, Limits, Vec<Event>) {
+    let (n, limits) = (numbers.of(&[2, 3, 4, 4]), any_limits(numbers));
+    let length = numbers.between(20, 100) as usize;
+    let mut run = Run { table: Table::start(n, limits), events: Vec::with_capacity(length + 20) };
+    while run.events.len() < length {
+        let event = pick(&run.table, &FULL, numbers);
+        run.go(event);
+    }
+    let more = if limits == STAND { 0 } else { numbers.between(1, 4) as usize };
+    fill(&mut run, usize::from(STAND.messages) + more, numbers);
+    (n, limits, run.events)
 }
 
 /// A run in one manner whose list is as long as a list may be.
-pub fn full_run(n: u8, manner: &Manner, numbers: &mut Numbers) -> Vec<Event> {
-    let mut table = Table::start(n);
+pub fn full_run(n: u8, limits: Limits, manner: &Manner, numbers: &mut Numbers) -> Vec<Event> {
+    let mut table = Table::start(n, limits);
     let mut events = Vec::new();
     let mut bytes = 4;
     loop {

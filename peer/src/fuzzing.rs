@@ -6,12 +6,14 @@ use crate::compare::{
     tell_list, tell_recovery, tell_run, tell_walk, text_and_fold_difference, walk_difference,
 };
 use crate::corners::{Before, Corners, Source};
-use crate::damage::{damage, no_event};
+use crate::damage::{damage, first_tag_later, no_event, other_first};
 use crate::drive::{
-    any_event, any_manner, any_node, member, pick, run, run_with_wrong_checks, Ready,
+    any_event, any_manner, any_node, full_queue, member, pick, run, run_with_wrong_checks, Ready,
 };
+use crate::limit_corners::BROKEN as BROKEN_LIMITS;
+use crate::limit_tables::{any_limits, to_break, to_fill, wrong_pair};
 use crate::list::{first_event, read_list, write_event, write_list, MAX_LIST};
-use crate::machine::{advance, step, Event, Table, MAX_NODES};
+use crate::machine::{advance, step, Event, Limits, Table};
 use crate::numbers::Numbers;
 use crate::print::run_list;
 use crate::proved::{Library, RECORDS_BYTES, TABLE_BYTES};
@@ -98,14 +100,27 @@ impl<L: Library> Fuzz<L> {
             for _ in 0..4 {
                 self.list_with_checks();
             }
+            for _ in 0..190 {
+                let (table, event) = to_fill(&mut self.numbers);
+                self.walk(&table, &[event]);
+            }
+            for _ in 0..40 {
+                self.broken_limits();
+            }
+            for _ in 0..60 {
+                self.limits_first();
+            }
+            for _ in 0..3 {
+                self.full_queue();
+            }
             for _ in 0..150 {
                 let (table, event) = to_check(&mut self.numbers);
                 self.walk(&table, &[event]);
             }
-            for _ in 0..4 {
+            for _ in 0..10 {
                 self.field();
             }
-            for _ in 0..90 {
+            for _ in 0..100 {
                 let (table, i) = to_recover(&mut self.numbers);
                 self.recovery(Source::Table, &table, i);
             }
@@ -119,12 +134,17 @@ impl<L: Library> Fuzz<L> {
         self.seconds = start.elapsed().as_secs_f64();
     }
 
-    /// Prints the counts and gives how many comparisons passed and how many failed.
-    pub fn tell(&mut self) -> (u64, u64) {
+    /// Prints the counts and gives how many comparisons passed and how many failed. What was met less often
+    /// than so many times is a failure too.
+    pub fn tell(&mut self, least: u64) -> (u64, u64) {
         print!("{}", self.corners.text());
         for words in self.corners.impossible() {
             self.failed += 1;
             println!("the papers have no place for this: {words}");
+        }
+        for words in self.corners.seldom(least) {
+            self.failed += 1;
+            println!("met fewer than {least} times: {words}");
         }
         let events = self.run_events + self.list_events + self.table_events;
         println!("runs: {}, {} events", self.runs, self.run_events);
@@ -146,11 +166,13 @@ impl<L: Library> Fuzz<L> {
 
     /// A run, event by event; its list, printed; and lists that damage makes of it.
     fn run(&mut self) {
-        // Half of them small, where groups form and meet sooner.
+        // Half of the tower's are small, where groups form and meet sooner.
+        let limits = any_limits(&mut self.numbers);
+        let most = u32::from(limits.nodes);
         let n = match self.numbers.below(8) {
-            0 => MAX_NODES,
-            1..=4 => self.numbers.between(2, 6) as u8,
-            _ => self.numbers.between(1, u32::from(MAX_NODES)) as u8,
+            0 => limits.nodes,
+            1..=4 => self.numbers.between(2, most.min(6)) as u8,
+            _ => self.numbers.between(1, most) as u8,
         };
         let length = match self.numbers.below(64) {
             0 => 13_000,
@@ -158,18 +180,12 @@ impl<L: Library> Fuzz<L> {
             9..=32 => 500,
             _ => self.numbers.between(1, 200) as usize,
         };
-        let events = run(n, length, &mut self.numbers);
-        self.runs += 1;
-        self.run_events += events.len() as u64;
-        let found = run_difference(&self.library, n, &events, Some(&mut self.corners));
-        if let Some(found) = found {
-            self.passed += found.events as u64 - 1;
-            let words = tell_run(&self.library, n, &events);
-            return self.difference(words);
+        let events = run(n, limits, length, &mut self.numbers);
+        if !self.each_event(n, limits, &events) {
+            return;
         }
-        self.passed += events.len() as u64;
-        self.recoveries_of_run(n, &events);
-        let mut list = write_list(n, &events);
+        self.recoveries_of_run(n, limits, &events);
+        let mut list = write_list(n, limits, &events);
         self.list(&list);
         let kept = list.len().min(self.numbers.between(4, 2000) as usize);
         list.truncate(kept);
@@ -185,9 +201,35 @@ impl<L: Library> Fuzz<L> {
         }
     }
 
+    /// The events of a run, one after another; whether there is no difference.
+    fn each_event(&mut self, n: u8, limits: Limits, events: &[Event]) -> bool {
+        if self.failed >= ENOUGH {
+            return false;
+        }
+        self.runs += 1;
+        self.run_events += events.len() as u64;
+        let found = run_difference(&self.library, n, limits, events, Some(&mut self.corners));
+        if let Some(found) = found {
+            self.passed += found.events as u64 - 1;
+            let words = tell_run(&self.library, n, limits, events);
+            self.difference(words);
+            return false;
+        }
+        self.passed += events.len() as u64;
+        true
+    }
+
+    /// A short run of few nodes in which the queue is full soon, and its list.
+    fn full_queue(&mut self) {
+        let (n, limits, events) = full_queue(&mut self.numbers);
+        if self.each_event(n, limits, &events) {
+            self.list(&write_list(n, limits, &events));
+        }
+    }
+
     /// The records of recoveries, on some tables of a run.
-    fn recoveries_of_run(&mut self, n: u8, events: &[Event]) {
-        let mut table = Table::start(n);
+    fn recoveries_of_run(&mut self, n: u8, limits: Limits, events: &[Event]) {
+        let mut table = Table::start(n, limits);
         for event in events {
             if self.numbers.one_in(64) {
                 let numbers = &mut self.numbers;
@@ -225,12 +267,16 @@ impl<L: Library> Fuzz<L> {
 
     /// A list of any bytes, printed and folded.
     fn list(&mut self, list: &[u8]) {
+        if self.failed >= ENOUGH {
+            return;
+        }
         self.lists += 1;
         let text = run_list(list);
         if text_and_fold_difference(&self.library, list, &text).is_some() {
             let words = tell_list(list, |list| list_difference(&self.library, list));
             return self.difference(words);
         }
+        self.corners.fields(list, &text);
         match read_list(list) {
             Err(stop) => self.corners.refusal(stop.number),
             Ok(list) => {
@@ -269,23 +315,24 @@ impl<L: Library> Fuzz<L> {
         }
     }
 
-    /// Every number in the first field, now and then with nothing behind it.
+    /// Other first fields, now and then with nothing behind them, and the tags of first ones in other places.
     fn first_fields(&mut self, list: &[u8]) {
-        if list.len() < 4 {
-            return;
+        let mut short = list[..list.len().min(60)].to_vec();
+        for _ in 0..24 {
+            let other = other_first(&short, &mut self.numbers);
+            self.list(&other);
+            let later = first_tag_later(&short, &mut self.numbers);
+            self.list(&later);
         }
-        let mut list = list[..list.len().min(100)].to_vec();
-        list[3] = self.numbers.of(&[0, 1, 16, 17, 255]);
-        self.list(&list);
-        list.truncate(4);
-        list[3] = self.numbers.byte();
-        self.list(&list);
+        short.truncate(4);
+        short[3] = self.numbers.byte();
+        self.list(&short);
     }
 
     /// A list with checks that are refused 18, which a field that is no event may stop.
     fn list_with_checks(&mut self) {
-        let (n, events) = run_with_wrong_checks(&mut self.numbers);
-        let mut list = write_list(n, &events);
+        let (n, limits, events) = run_with_wrong_checks(&mut self.numbers);
+        let mut list = write_list(n, limits, &events);
         if self.numbers.one_in(3) {
             list.extend(no_event(&mut self.numbers));
         }
@@ -312,10 +359,11 @@ impl<L: Library> Fuzz<L> {
         let kind = self.numbers.below(16);
         let mut table = match kind {
             0 => {
-                let (n, length) =
-                    (self.numbers.between(1, 16) as u8, self.numbers.between(1, 300) as usize);
-                let mut table = Table::start(n);
-                for event in run(n, length, &mut self.numbers) {
+                let limits = any_limits(&mut self.numbers);
+                let n = self.numbers.between(1, u32::from(limits.nodes)) as u8;
+                let length = self.numbers.between(1, 300) as usize;
+                let mut table = Table::start(n, limits);
+                for event in run(n, limits, length, &mut self.numbers) {
                     let _ = step(&mut table, &event);
                 }
                 move_to_ends(&mut table, &mut self.numbers);
@@ -353,6 +401,41 @@ impl<L: Library> Fuzz<L> {
         let which = self.numbers.place(BROKEN.len());
         if break_counts(&mut table, which, &mut self.numbers) && self.walk(&table, &[event]) {
             self.corners.broken_counts(which, step(&mut table, &event));
+        }
+    }
+
+    /// An event on a table that is out of range by its limits alone. It is mostly one that is accepted where
+    /// they are right.
+    fn broken_limits(&mut self) {
+        let which = self.numbers.place(BROKEN_LIMITS);
+        let (mut table, fine) = to_break(which, &mut self.numbers);
+        let events = self.events(&fine, 4);
+        let accepted = |event: &&Event| step(&mut fine.clone(), event).is_ok();
+        let event = *events.iter().find(accepted).unwrap_or(&events[0]);
+        if self.walk(&table, &[event]) {
+            self.corners.broken_limits(which, step(&mut table, &event));
+        }
+    }
+
+    /// An event that is refused, or not, on a table whose limits become no allowed pair: ground 1 comes first.
+    fn limits_first(&mut self) {
+        let (mut table, event) = match self.numbers.below(8) {
+            0 | 1 => to_check(&mut self.numbers),
+            2 | 3 => to_fill(&mut self.numbers),
+            4 => {
+                let (table, i) = to_recover(&mut self.numbers);
+                (table, Event::Recover(i))
+            }
+            _ => {
+                let table = in_range(&mut self.numbers);
+                let event = any_event(table.n, &mut self.numbers);
+                (table, event)
+            }
+        };
+        let else_answer = step(&mut table.clone(), &event);
+        table.limits = wrong_pair(&mut self.numbers);
+        if self.walk(&table, &[event]) {
+            self.corners.limits_first(step(&mut table, &event), else_answer);
         }
     }
 
@@ -413,9 +496,14 @@ impl<L: Library> Fuzz<L> {
             spoil(&mut table, &mut self.numbers);
         }
         let mut field = no_event(&mut self.numbers);
-        if self.numbers.one_in(4) {
-            field.clear();
-            write_event(&mut field, &any_event(table.n, &mut self.numbers));
+        match self.numbers.below(4) {
+            0 => {
+                field.clear();
+                write_event(&mut field, &any_event(table.n, &mut self.numbers));
+            }
+            // Of a first field.
+            1 => field = vec![self.numbers.of(&[0x01, 0x02]), 0, 1, table.n],
+            _ => {}
         }
         if self.numbers.one_in(3) {
             let mut behind = vec![0; self.numbers.place(40)];
@@ -435,7 +523,12 @@ impl<L: Library> Fuzz<L> {
         self.passed += 1;
         match first_event(&field) {
             _ if room < TABLE_BYTES => {}
-            Err(number) => self.corners.refusal(number),
+            Err(number) => {
+                self.corners.refusal(number);
+                if table.in_range() {
+                    self.corners.first_tag(&field, number);
+                }
+            }
             Ok(event) => {
                 let before = Before::of(&table, &event);
                 let answer = step(&mut table, &event);

@@ -3,13 +3,13 @@
 //! implementation.
 
 use crate::machine::{
-    advance_noting, count_mut, count_of, Activity, Event, Formed, PairCounts, Status, Table,
-    Traffic, MAX_NODES,
+    advance_noting, count_mut, count_of, Activity, Event, Formed, Limits, PairCounts, Status,
+    Table, Traffic, MAX_NODES,
 };
 use std::collections::{HashMap, HashSet};
 
-/// "fed n and the events alone": it runs the definitions for itself and never sees the table that is
-/// checked.
+/// "fed n and the events alone", and T-08: "its book is fed the limits too". It runs the definitions for
+/// itself and never sees the table that is checked.
 #[derive(Clone, Debug)]
 pub struct History {
     run: Table,
@@ -36,9 +36,9 @@ pub struct Entry {
 }
 
 impl History {
-    pub fn new(n: u8) -> History {
+    pub fn new(n: u8, limits: Limits) -> History {
         History {
-            run: Table::start(n),
+            run: Table::start(n, limits),
             counts: [0; MAX_NODES as usize],
             last: [0; MAX_NODES as usize],
             groups: HashMap::new(),
@@ -122,8 +122,8 @@ pub struct Checker {
 }
 
 impl Checker {
-    pub fn new(n: u8) -> Checker {
-        Checker { history: History::new(n), held: HashSet::new() }
+    pub fn new(n: u8, limits: Limits) -> Checker {
+        Checker { history: History::new(n, limits), held: HashSet::new() }
     }
 
     pub fn history(&self) -> &History {
@@ -136,6 +136,9 @@ impl Checker {
         let entry = self.history.feed(event);
         if table.n != self.history.run.n {
             return Err(format!("the table has {} nodes", table.n));
+        }
+        if table.limits != self.history.run.limits {
+            return Err(format!("the table has other limits: {:?}", table.limits));
         }
         if let Some(group) = entry.second_task {
             return Err(format!("group {group} gets a second task"));
@@ -152,7 +155,8 @@ impl Checker {
             }
         }
         self.check_nodes(table)?;
-        if !table.in_range() {
+        // T-08: "with the rule of the two pairs left out"; the limits are the ones that the run began with.
+        if !table.in_range_of_any_pair() {
             return Err("the table is not in range".to_string());
         }
         // Remembers the groups that the table holds. One that was not held before is a new group.
@@ -279,9 +283,9 @@ fn groups_held(table: &Table) -> impl Iterator<Item = u32> + '_ {
 
 /// Runs the events from the starting table of n on this program's own machine, with the check after
 /// each. Gives the last table, or the event's number from 1 and what does not hold.
-pub fn check_run(n: u8, events: &[Event]) -> Result<Table, String> {
-    let mut table = Table::start(n);
-    let mut checker = Checker::new(n);
+pub fn check_run(n: u8, limits: Limits, events: &[Event]) -> Result<Table, String> {
+    let mut table = Table::start(n, limits);
+    let mut checker = Checker::new(n, limits);
     for (k, event) in events.iter().enumerate() {
         let before = table.clone();
         let answer = crate::machine::advance(&mut table, event);

@@ -1,8 +1,12 @@
 //! The reader of event lists: bytes into n and events, with refusals 2 to 6 and their places.
 
-use crate::machine::{Event, MAX_NODES};
+use crate::machine::{Event, Limits, STAND, TOWER};
 
 pub const MAX_LIST: usize = 65_536;
+
+/// The first field's tags, with the limits that each gives. T-08: "A list meant for the stand gives them by a
+/// first tag of 0x02 instead of 0x01, with the same byte n."
+pub const FIRST_TAGS: [(u8, Limits); 2] = [(0x01, TOWER), (0x02, STAND)];
 
 /// A refusal that ends the list: "the offset b of its field's tag (0 for the whole list)" and the
 /// number.
@@ -12,11 +16,12 @@ pub struct Stop {
     pub number: u8,
 }
 
-/// What a list says: n, "the events ... before the list ends or stops", and where it stopped if it
-/// did.
+/// What a list says: n and the limits, "the events ... before the list ends or stops", and where it stopped
+/// if it did.
 #[derive(Clone, Debug, PartialEq, Eq)]
 pub struct List {
     pub n: u8,
+    pub limits: Limits,
     pub events: Vec<Event>,
     pub stop: Option<Stop>,
 }
@@ -27,7 +32,7 @@ pub fn read_list(list: &[u8]) -> Result<List, Stop> {
         return Err(Stop { offset: 0, number: 2 });
     }
     let first = read_field(list, 0)?;
-    let n = read_n(&first).map_err(|number| Stop { offset: 0, number })?;
+    let (n, limits) = read_n(&first).map_err(|number| Stop { offset: 0, number })?;
     let mut events = Vec::new();
     let mut at = first.end;
     while at < list.len() {
@@ -40,10 +45,10 @@ pub fn read_list(list: &[u8]) -> Result<List, Stop> {
                 events.push(event);
                 at = end;
             }
-            Err(stop) => return Ok(List { n, events, stop: Some(stop) }),
+            Err(stop) => return Ok(List { n, limits, events, stop: Some(stop) }),
         }
     }
-    Ok(List { n, events, stop: None })
+    Ok(List { n, limits, events, stop: None })
 }
 
 /// "one-byte tag, two-byte length with the high byte first, contents"
@@ -63,19 +68,20 @@ fn read_field(list: &[u8], at: usize) -> Result<Field<'_>, Stop> {
     Ok(Field { tag: head[0], contents, end })
 }
 
-/// "First field: 0x01, one byte n." Grounds 4, 5 and 6.
-fn read_n(field: &Field) -> Result<u8, u8> {
-    if field.tag != 0x01 {
-        return Err(4);
-    }
+/// "First field: 0x01, one byte n." T-08: "Ground 4 lets 0x02 stand first as well, and nowhere else." Grounds
+/// 4, 5 and 6, which reads the limits that the tag gives.
+fn read_n(field: &Field) -> Result<(u8, Limits), u8> {
+    let by_tag = FIRST_TAGS.iter().find(|&&(tag, _)| tag == field.tag);
+    let &(_, limits) = by_tag.ok_or(4)?;
     match *field.contents {
-        [n] if (1..=MAX_NODES).contains(&n) => Ok(n),
+        [n] if (1..=limits.nodes).contains(&n) => Ok((n, limits)),
         [_] => Err(6),
         _ => Err(5),
     }
 }
 
-/// "Then events". Ground 4: "unknown tag, 0x01 not first". Ground 5: "length wrong for the tag".
+/// "Then events". Ground 4: "unknown tag, 0x01 not first", and 0x02 not first. Ground 5: "length wrong for
+/// the tag".
 fn read_event(field: &Field) -> Result<Event, u8> {
     match (field.tag, field.contents) {
         (0x10, &[i]) => Ok(Event::Crash(i)),
@@ -120,9 +126,11 @@ pub fn write_event(list: &mut Vec<u8>, event: &Event) {
     }
 }
 
-/// A list of n and events as bytes.
-pub fn write_list(n: u8, events: &[Event]) -> Vec<u8> {
-    let mut list = vec![0x01, 0, 1, n];
+/// A list of n and events as bytes, for the tower or the stand.
+pub fn write_list(n: u8, limits: Limits, events: &[Event]) -> Vec<u8> {
+    let by_limits = FIRST_TAGS.iter().find(|&&(_, given)| given == limits);
+    let &(tag, _) = by_limits.expect("no list has other limits");
+    let mut list = vec![tag, 0, 1, n];
     for event in events {
         write_event(&mut list, event);
     }

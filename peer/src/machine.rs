@@ -1,14 +1,28 @@
 //! The reference machine: the table, when it is in range, what each of the nine events does to it, and
-//! the records of a recovery. T-02 to T-06 of document 02 are in it. Words in quotation marks in the
-//! comments are document 01's, or those of a request where that is said; their cabinet is called node
+//! the records of a recovery. T-02 to T-06 and T-08 of document 02 are in it. Words in quotation marks in
+//! the comments are document 01's, or those of a request where that is said; their cabinet is called node
 //! here.
 
-pub const MAX_NODES: u8 = 16;
+/// The largest number of nodes and of waiting messages. T-08: "One machine serves both, and its two limits
+/// are part of the table's starting data".
+#[derive(Clone, Copy, Debug, PartialEq, Eq)]
+pub struct Limits {
+    pub nodes: u8,
+    pub messages: u8,
+}
+
+/// T-08: "The tower keeps 16 and 64."
+pub const TOWER: Limits = Limits { nodes: 16, messages: 64 };
+/// T-08: "Our practice stand has four cabinets and memory for 12 waiting messages."
+pub const STAND: Limits = Limits { nodes: 4, messages: 12 };
+
+/// Every table has room for as many as the tower's.
+pub const MAX_NODES: u8 = TOWER.nodes;
+pub const MAX_MESSAGES: usize = TOWER.messages as usize;
 pub const MAX_COUNTER: u32 = 1_048_575;
 pub const MAX_CALL: u32 = 16_777_215;
 pub const MAX_TICKS: u8 = 15;
 pub const MIN_TASK: u16 = 100;
-pub const MAX_MESSAGES: usize = 64;
 /// T-05: "no count is above 33,554,430"
 pub const MAX_COUNT: u32 = 33_554_430;
 
@@ -107,10 +121,11 @@ pub struct Traffic {
 }
 
 /// Node i stands at nodes[i - 1]; those above n are no part of the table and are never written.
-/// The messages stand "in the order sent".
+/// The messages stand "in the order sent". No event writes n and the limits.
 #[derive(Clone, Debug, PartialEq, Eq)]
 pub struct Table {
     pub n: u8,
+    pub limits: Limits,
     pub nodes: [Node; MAX_NODES as usize],
     pub messages: Vec<Message>,
     pub traffic: Traffic,
@@ -255,10 +270,11 @@ impl Traffic {
 const NO_COUNTS: PairCounts = [[0; MAX_NODES as usize]; MAX_NODES as usize];
 
 impl Table {
-    /// The "starting table" of n nodes.
-    pub fn start(n: u8) -> Table {
+    /// The "starting table" of n nodes, with its limits.
+    pub fn start(n: u8, limits: Limits) -> Table {
         Table {
             n,
+            limits,
             nodes: [Node::START; MAX_NODES as usize],
             messages: Vec::with_capacity(MAX_MESSAGES),
             traffic: Traffic::START,
@@ -270,11 +286,18 @@ impl Table {
         &self.nodes[usize::from(i) - 1]
     }
 
-    /// "A table is in range when".
+    /// "A table is in range when". T-08: "no other pair is allowed".
     pub fn in_range(&self) -> bool {
-        (1..=MAX_NODES).contains(&self.n)
+        [TOWER, STAND].contains(&self.limits) && self.in_range_of_any_pair()
+    }
+
+    /// The same "for any limits not above the tower's, with the rule of the two pairs left out" (T-08).
+    pub fn in_range_of_any_pair(&self) -> bool {
+        self.limits.nodes <= TOWER.nodes
+            && self.limits.messages <= TOWER.messages
+            && (1..=self.limits.nodes).contains(&self.n)
             && (1..=self.n).all(|i| self.node_in_range(i))
-            && self.messages.len() <= MAX_MESSAGES
+            && self.messages.len() <= usize::from(self.limits.messages)
             && self.messages.iter().all(|m| self.message_in_range(m))
             && self.traffic_in_range()
     }
@@ -402,6 +425,7 @@ pub fn advance_noting(table: &mut Table, event: &Event) -> Result<Option<Formed>
         node: *table.node(i),
         // "a delivered one is already out"
         waiting: table.messages.len() - usize::from(place.is_some()),
+        most_waiting: usize::from(table.limits.messages),
         sent_before: &table.traffic.sent[usize::from(i) - 1],
         sent: None,
         formed: None,
@@ -559,8 +583,9 @@ struct Turn<'a> {
     i: u8,
     n: u8,
     node: Node,
-    /// How many messages wait.
+    /// How many messages wait, and how many may.
     waiting: usize,
+    most_waiting: usize,
     /// How many the node has sent to each.
     sent_before: &'a [u32; MAX_NODES as usize],
     sent: Option<Message>,
@@ -573,7 +598,8 @@ impl Turn<'_> {
     }
 
     fn send(&mut self, receiver: u8, call: u32, body: Body) -> Result<(), u8> {
-        if self.waiting >= MAX_MESSAGES {
+        // T-08: "Grounds 1, 6 and 14 read the table's own limits."
+        if self.waiting >= self.most_waiting {
             return Err(14);
         }
         // T-05: "its pair's sent count is 33,554,430, after 14"

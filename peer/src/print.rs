@@ -11,7 +11,7 @@ pub fn run_list(list: &[u8]) -> Vec<u8> {
         // "if the whole list or the first field failed, that line is all that is printed"
         Err(stop) => print_stop(&mut text, stop),
         Ok(list) => {
-            let mut table = Table::start(list.n);
+            let mut table = Table::start(list.n, list.limits);
             line(&mut text, format_args!("cabinets {}", list.n));
             for (k, event) in list.events.iter().enumerate() {
                 // "e counts events from 1, r the number"

@@ -4,8 +4,8 @@
 use crate::bully::{self, bytes::bully_step_by};
 use crate::list::{first_event, read_list};
 use crate::machine::{
-    self, Activity, Body, Event, Message, Node, PairCounts, Status, Table, Traffic, ASSIGNMENTS,
-    MAX_MESSAGES, MAX_NODES,
+    self, Activity, Body, Event, Limits, Message, Node, PairCounts, Status, Table, Traffic,
+    ASSIGNMENTS, MAX_MESSAGES, MAX_NODES,
 };
 use crate::numbers::Numbers;
 use crate::print::run_list;
@@ -19,10 +19,12 @@ pub const WAITING_AT: usize = MESSAGES_AT + MAX_MESSAGES * MESSAGE_BYTES;
 /// T-05's counts: sent, delivered, lost, 256 of each.
 pub const COUNTS_AT: usize = WAITING_AT + 1;
 const PAIRS_BYTES: usize = MAX_NODES as usize * MAX_NODES as usize * COUNT_BYTES;
-pub const TABLE_BYTES: usize = COUNTS_AT + 3 * PAIRS_BYTES;
+/// T-08's limits: of nodes, of messages.
+pub const LIMITS_AT: usize = COUNTS_AT + 3 * PAIRS_BYTES;
+pub const TABLE_BYTES: usize = LIMITS_AT + 2;
 
-/// A table in bytes, numbers high byte first: n, 16 nodes, 64 messages, how many of them wait, and the
-/// counts sent, delivered and lost, each with 16 rows of 16, a row for each sender.
+/// A table in bytes, numbers high byte first: n, 16 nodes, 64 messages, how many of them wait, the counts
+/// sent, delivered and lost, each with 16 rows of 16, a row for each sender, and the two limits.
 pub type TableBytes = [u8; TABLE_BYTES];
 
 /// The records of a recovery in bytes, each as in a table.
@@ -299,7 +301,7 @@ pub fn fold(list: &[u8]) -> u32 {
     let Ok(list) = read_list(list) else {
         return 0;
     };
-    let mut table = Table::start(list.n);
+    let mut table = Table::start(list.n, list.limits);
     list.events.iter().map(|event| u32::from(machine::step(&mut table, event).is_ok())).sum()
 }
 
@@ -328,11 +330,17 @@ pub fn table_to_bytes(table: &Table, bytes: &mut TableBytes) {
     }
     bytes[WAITING_AT] = table.messages.len().try_into().expect("at most 255 messages");
     traffic_to_bytes(&table.traffic, bytes);
+    limits_to_bytes(table.limits, bytes);
+}
+
+/// Writes the limits of a table.
+pub fn limits_to_bytes(limits: Limits, bytes: &mut TableBytes) {
+    bytes[LIMITS_AT..].copy_from_slice(&[limits.nodes, limits.messages]);
 }
 
 /// Writes the counts of a table.
 pub fn traffic_to_bytes(traffic: &Traffic, bytes: &mut TableBytes) {
-    let places = bytes[COUNTS_AT..].chunks_exact_mut(PAIRS_BYTES);
+    let places = bytes[COUNTS_AT..LIMITS_AT].chunks_exact_mut(PAIRS_BYTES);
     for (counts, place) in [&traffic.sent, &traffic.delivered, &traffic.lost].iter().zip(places) {
         for (count, place) in counts.iter().flatten().zip(place.chunks_exact_mut(COUNT_BYTES)) {
             place.copy_from_slice(&count.to_be_bytes());
@@ -343,7 +351,8 @@ pub fn traffic_to_bytes(traffic: &Traffic, bytes: &mut TableBytes) {
 /// Reads a table. Nodes above n are as in the starting table. A waiting number over 64 gives so many
 /// messages, of which those without a place have kind 0.
 pub fn table_from_bytes(bytes: &TableBytes) -> Table {
-    let mut table = Table::start(bytes[0]);
+    let limits = Limits { nodes: bytes[LIMITS_AT], messages: bytes[LIMITS_AT + 1] };
+    let mut table = Table::start(bytes[0], limits);
     let n = usize::from(table.n.min(MAX_NODES));
     let nodes = bytes[NODES_AT..MESSAGES_AT].chunks_exact(NODE_BYTES);
     for (node, place) in table.nodes[..n].iter_mut().zip(nodes) {
@@ -369,7 +378,7 @@ fn counts_from_bytes(bytes: &[u8]) -> PairCounts {
 }
 
 /// Whether the bytes are the same in all that is part of the table. What a message's kind does not
-/// carry is no part of it; every count is.
+/// carry is no part of it; every count and both limits are.
 pub fn same_table(a: &TableBytes, b: &TableBytes) -> bool {
     let (nodes, messages) = parts(a);
     let message = |bytes: &[u8]| message_from_bytes(bytes.try_into().expect("a message's place"));

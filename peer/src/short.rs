@@ -2,7 +2,7 @@
 //! after another, as text. Words in quotation marks in the comments are that request's.
 
 use crate::compare::event_words;
-use crate::machine::{advance, Event, PairCounts, Table};
+use crate::machine::{advance, Event, PairCounts, Table, TOWER};
 use std::io::{Result, Write};
 
 /// "n from 1 to 3"
@@ -40,14 +40,14 @@ pub fn print(input: &[u8], out: &mut impl Write) -> Result<()> {
     }
 }
 
-/// Prints "every list of exactly that many events", and the "last line".
+/// Prints "every list of exactly that many events", and the "last line". They are the tower's.
 pub fn print_lists(n: u8, length: u8, out: &mut impl Write) -> Result<Counts> {
     let words = |event| (event, event_words(&event));
     let alphabet: Vec<_> = alphabet(n).into_iter().map(words).collect();
     let counts = Counts::default();
     let mut printer = Printer { alphabet: &alphabet, line: Vec::new(), counts, out };
-    let mut room = vec![Table::start(n); usize::from(length)];
-    printer.go_on(&Table::start(n), &mut room)?;
+    let mut room = vec![Table::start(n, TOWER); usize::from(length)];
+    printer.go_on(&Table::start(n, TOWER), &mut room)?;
     let counts = printer.counts;
     writeln!(out, "lists {}", counts.lists)?;
     Ok(counts)

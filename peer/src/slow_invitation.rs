@@ -2,10 +2,8 @@
 //! Random events alone come there too seldom.
 
 use crate::corners::called;
-use crate::drive::{member, task, Ready, Run};
-use crate::machine::{
-    only, owner, Activity, Body, Event, Message, Set, Status, Table, MAX_MESSAGES,
-};
+use crate::drive::{fill, member, task, Ready, Run};
+use crate::machine::{only, owner, Activity, Body, Event, Message, Set, Status, Table};
 use crate::numbers::Numbers;
 
 /// No part of a story has more events.
@@ -85,7 +83,8 @@ impl SlowInvitation<'_> {
             self.run.go(Event::Timeout(self.i));
         }
         if full {
-            self.fill();
+            let most = self.most_waiting();
+            fill(self.run, most, self.numbers);
         }
         self.run.go(Event::Deliver(self.former, self.i));
     }
@@ -94,7 +93,7 @@ impl SlowInvitation<'_> {
     fn begin(&mut self) {
         let three = [self.third, self.former, self.i];
         let messages = &self.run.table.messages;
-        let many = messages.len().saturating_sub(MAX_MESSAGES / 2);
+        let many = messages.len().saturating_sub(self.most_waiting() / 2);
         let lost =
             messages.iter().enumerate().filter(|(k, m)| *k < many || three.contains(&m.receiver));
         let lost: Vec<Event> = lost.map(|(_, m)| Event::Lose(m.sender, m.receiver)).collect();
@@ -172,21 +171,8 @@ impl SlowInvitation<'_> {
         one(ready.expire).map(Event::Expire)
     }
 
-    /// Nodes ask until 64 messages wait, and nobody answers.
-    fn fill(&mut self) {
-        for _ in 0..MOST {
-            let table = &self.run.table;
-            if table.messages.len() == MAX_MESSAGES {
-                return;
-            }
-            let asks = |j: &u8| matches!(table.node(*j).activity, Activity::Asking { .. });
-            let event = match ((1..=table.n).find(asks), Ready::of(table).check) {
-                (Some(j), _) => Event::Expire(j),
-                (None, 0) => return,
-                (None, set) => Event::Check(member(set, self.numbers)),
-            };
-            self.run.go(event);
-        }
+    fn most_waiting(&self) -> usize {
+        usize::from(self.run.table.limits.messages)
     }
 }
 

@@ -2,9 +2,11 @@
 
 use crate::check_corners::lowest_other;
 use crate::drive::any_node;
+use crate::limit_corners::BROKEN as BROKEN_LIMITS;
+use crate::limit_tables::{any_limits, to_break, wrong_pair};
 use crate::machine::{
-    group_number, only, owner, Activity, Body, Event, Message, Node, Set, Status, Table, MAX_CALL,
-    MAX_COUNT, MAX_COUNTER, MAX_MESSAGES, MAX_NODES, MAX_TICKS, MIN_TASK,
+    group_number, only, owner, Activity, Body, Event, Limits, Message, Node, Set, Status, Table,
+    MAX_CALL, MAX_COUNT, MAX_COUNTER, MAX_MESSAGES, MAX_NODES, MAX_TICKS, MIN_TASK, STAND,
 };
 use crate::numbers::Numbers;
 use crate::proved::{
@@ -15,58 +17,72 @@ use crate::traffic_tables::{
     break_counts, count_waiting, give_counts, move_counts_to_ends, set_sent,
 };
 
-/// A table in range.
+/// A table in range, the tower's or the stand's.
 pub fn in_range(numbers: &mut Numbers) -> Table {
+    let limits = any_limits(numbers);
     let n = match numbers.below(16) {
         0 => 1,
         1..=3 => 2,
         4..=6 => 3,
-        7 => MAX_NODES,
-        _ => numbers.between(2, u32::from(MAX_NODES)) as u8,
+        7 => limits.nodes,
+        _ => numbers.between(2, u32::from(limits.nodes)) as u8,
     };
-    of_nodes(n, numbers)
+    of_nodes(n, limits, numbers)
 }
 
 /// A table of n nodes, in range.
-pub fn of_nodes(n: u8, numbers: &mut Numbers) -> Table {
-    let mut table = Table::start(n);
+pub fn of_nodes(n: u8, limits: Limits, numbers: &mut Numbers) -> Table {
+    let most = u32::from(limits.messages);
+    let waiting = match numbers.below(8) {
+        _ if n == 1 => 0,
+        0 => 0,
+        1 | 2 => numbers.below(5),
+        3 => most - 1,
+        4 | 5 => most,
+        _ => numbers.below(most + 1),
+    };
+    with_waiting(n, limits, waiting as usize, numbers)
+}
+
+/// A table of n nodes in which so many messages wait, in range if n and they are. With n = 1 there is no
+/// pair to send one.
+pub fn with_waiting(n: u8, limits: Limits, waiting: usize, numbers: &mut Numbers) -> Table {
+    let mut table = Table::start(n, limits);
     for i in 1..=n {
         table.nodes[usize::from(i) - 1] = node(i, n, numbers);
     }
-    if n > 1 {
-        let waiting = match numbers.below(8) {
-            0 => 0,
-            1 | 2 => numbers.below(5),
-            3 => 63,
-            4 | 5 => 64,
-            _ => numbers.below(65),
-        };
-        for _ in 0..waiting {
-            let m = any_message(&table, numbers);
-            table.messages.push(m);
-        }
-    }
+    add_messages(&mut table, waiting, numbers);
     give_counts(&mut table, numbers);
     table
+}
+
+/// Adds messages behind the others until so many wait.
+pub fn add_messages(table: &mut Table, waiting: usize, numbers: &mut Numbers) {
+    while table.messages.len() < waiting {
+        let m = any_message(table, numbers);
+        table.messages.push(m);
+    }
 }
 
 /// A table and a node number for the records of a recovery. Mostly the table is in range and the node is
 /// Down; now and then its group is already the one that the recovery forms, which no run has.
 pub fn to_recover(numbers: &mut Numbers) -> (Table, u8) {
+    let limits = any_limits(numbers);
     let n = match numbers.below(8) {
         0 => 1,
-        1 | 2 => MAX_NODES,
-        _ => numbers.between(1, u32::from(MAX_NODES)) as u8,
+        1..=3 => limits.nodes,
+        _ => numbers.between(1, u32::from(limits.nodes)) as u8,
     };
-    let mut table = of_nodes(n, numbers);
+    let mut table = of_nodes(n, limits, numbers);
     let i = match numbers.below(8) {
-        0 => match numbers.below(3) {
+        0 => match numbers.below(4) {
             0 => 0,
-            1 if n < MAX_NODES => numbers.between(u32::from(n) + 1, u32::from(MAX_NODES)) as u8,
+            1 if limits == STAND => STAND.nodes + 1,
+            1 | 2 if n < MAX_NODES => numbers.between(u32::from(n) + 1, u32::from(MAX_NODES)) as u8,
             _ => numbers.between(u32::from(MAX_NODES) + 1, 255) as u8,
         },
         1 => 1,
-        2 => n,
+        2 | 3 => n,
         _ => numbers.between(1, u32::from(n)) as u8,
     };
     if (1..=n).contains(&i) && !numbers.one_in(4) {
@@ -77,9 +93,10 @@ pub fn to_recover(numbers: &mut Numbers) -> (Table, u8) {
             node.group = group_number(node.counter + 1, i);
         }
     }
-    match numbers.below(8) {
-        0 | 1 => spoil(&mut table, numbers),
-        2 => table = scramble(&table, numbers),
+    match numbers.below(16) {
+        0..=2 => spoil(&mut table, numbers),
+        3 => (table, _) = to_break(numbers.place(BROKEN_LIMITS), numbers),
+        4 | 5 => table = scramble(&table, numbers),
         _ => {}
     }
     (table, i)
@@ -89,14 +106,15 @@ pub fn to_recover(numbers: &mut Numbers) -> (Table, u8) {
 /// idle. What grounds 13, 14 and 17 look at is at its end in a third of them each. Now and then the table is
 /// not in range, by something else or since the node is Down and not idle.
 pub fn to_check(numbers: &mut Numbers) -> (Table, Event) {
+    let limits = any_limits(numbers);
     let n = match numbers.below(8) {
         0 => 1,
         1 => 2,
-        2 => MAX_NODES,
-        _ => numbers.between(2, u32::from(MAX_NODES)) as u8,
+        2 => limits.nodes,
+        _ => numbers.between(2, u32::from(limits.nodes)) as u8,
     };
     let i = if numbers.one_in(4) { 1 } else { numbers.between(1, u32::from(n)) as u8 };
-    let mut table = of_nodes(n, numbers);
+    let mut table = of_nodes(n, limits, numbers);
     let [no_call, full, no_more] = [0; 3].map(|_| numbers.one_in(3));
     let own = n == 1 || numbers.one_in(2);
     let node = &mut table.nodes[usize::from(i) - 1];
@@ -117,10 +135,10 @@ pub fn to_check(numbers: &mut Numbers) -> (Table, Event) {
         node.coordinator = numbers.of(&[0, owner]);
     }
     if n > 1 {
-        table.messages.truncate(MAX_MESSAGES - 1);
-        while full && table.messages.len() < MAX_MESSAGES {
-            let m = any_message(&table, numbers);
-            table.messages.push(m);
+        let most = usize::from(limits.messages);
+        table.messages.truncate(most - 1);
+        if full {
+            add_messages(&mut table, most, numbers);
         }
         give_counts(&mut table, numbers);
         if no_more {
@@ -323,6 +341,11 @@ pub fn spoil(table: &mut Table, numbers: &mut Numbers) {
     if numbers.one_in(8) && break_counts(table, numbers.place(BROKEN.len()), numbers) {
         return;
     }
+    if numbers.one_in(12) {
+        table.limits = wrong_pair(numbers);
+        return;
+    }
+    let Limits { nodes: most_nodes, messages: most } = table.limits;
     let n = table.n;
     let i = numbers.between(1, u32::from(n)) as u8;
     let k = usize::from(i) - 1;
@@ -354,9 +377,9 @@ pub fn spoil(table: &mut Table, numbers: &mut Numbers) {
             node.group = group_number(1, i);
             node.coordinator = i;
         }
-        15 | 16 => table.n = numbers.of(&[0, 17, 18, 32, 255]),
+        15 | 16 => table.n = numbers.of(&[0, most_nodes + 1, 17, 18, 32, 255]),
         17 => {
-            let waiting = numbers.of(&[65, 66, 128, 255]);
+            let waiting = usize::from(numbers.of(&[most + 1, most + 2, 65, 128, 255]));
             let none = Message { sender: 1, receiver: 2, call: 1, body: Body::AreYouCoordinator };
             table.messages.resize(waiting, none);
             count_waiting(table);

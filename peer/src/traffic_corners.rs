@@ -6,7 +6,7 @@ use crate::corners::{acting, add, Count, Source};
 use crate::history::beyond_calls;
 use crate::machine::{
     count_mut, count_of, only, owner, total, Activity, Body, Event, Message, Node, PairCounts, Set,
-    Status, Table, Traffic, MAX_CALL, MAX_COUNT, MAX_COUNTER, MAX_MESSAGES, MAX_NODES,
+    Status, Table, Traffic, MAX_CALL, MAX_COUNT, MAX_COUNTER, MAX_NODES,
 };
 
 /// How an event comes to send a message.
@@ -301,10 +301,11 @@ const WRONG: [&str; 8] = [
 /// What is remembered of a table for the event that follows.
 pub struct TrafficBefore {
     traffic: Traffic,
-    waiting: usize,
+    /// Whether as many messages wait as may.
+    full: bool,
     /// The acting node.
     node: Option<Node>,
-    need: Option<Need>,
+    pub need: Option<Need>,
     /// Whether the calls bound what was sent, as they do in a run.
     within_calls: bool,
 }
@@ -314,7 +315,7 @@ impl TrafficBefore {
         let i = acting(event);
         TrafficBefore {
             traffic: table.traffic.clone(),
-            waiting: table.messages.len(),
+            full: table.messages.len() >= usize::from(table.limits.messages),
             node: (1..=table.n.min(MAX_NODES)).contains(&i).then(|| *table.node(i)),
             need: need(table, event),
             within_calls: beyond_calls(table).is_none(),
@@ -322,12 +323,12 @@ impl TrafficBefore {
     }
 
     /// Which of 12, 13, 14 and 17 apply to an event that must send a message.
-    fn grounds(&self, need: &Need) -> [bool; 4] {
+    pub fn grounds(&self, need: &Need) -> [bool; 4] {
         let node = self.node.unwrap_or(Node::START);
         [
             need.way.forms() && node.counter >= MAX_COUNTER,
             need.way.calls() && node.last_call >= MAX_CALL,
-            !need.way.delivers() && self.waiting >= MAX_MESSAGES,
+            !need.way.delivers() && self.full,
             count_of(&self.traffic.sent, need.from, need.to) >= MAX_COUNT,
         ]
     }

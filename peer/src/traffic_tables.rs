@@ -4,13 +4,13 @@
 
 use crate::drive::task;
 use crate::history::due_by_calls;
+use crate::limit_tables::any_limits;
 use crate::machine::{
-    count_mut, count_of, group_number, only, owner, Activity, Body, Event, Message, Node,
-    PairCounts, Set, Status, Table, Traffic, MAX_CALL, MAX_COUNT, MAX_COUNTER, MAX_MESSAGES,
-    MAX_NODES, MIN_TASK,
+    count_mut, count_of, group_number, only, owner, Activity, Body, Event, Limits, Message, Node,
+    PairCounts, Set, Status, Table, Traffic, MAX_CALL, MAX_COUNT, MAX_COUNTER, MAX_NODES, MIN_TASK,
 };
 use crate::numbers::Numbers;
-use crate::tables::{any_message, near_ends, of_nodes, other, part, set_activity};
+use crate::tables::{add_messages, any_message, near_ends, of_nodes, other, part, set_activity};
 use crate::traffic_corners::{need, Way, WAYS};
 
 /// All ordered pairs of n nodes.
@@ -122,7 +122,15 @@ pub fn to_send(numbers: &mut Numbers) -> (Table, Event) {
         false => numbers.of(&WAYS),
     };
     let end = Some(numbers.of(&ENDS)).filter(|end| end.fits(way)).unwrap_or(End::Others);
-    let (mut table, event) = sending(way, end, numbers);
+    let limits = any_limits(numbers);
+    let scene = Scene {
+        way,
+        limits,
+        waiting: (end == End::SentAndWaiting).then_some(usize::from(limits.messages)),
+        no_call: end == End::SentAndCalls,
+        no_counter: end == End::SentAndCounter,
+    };
+    let (mut table, event) = sending(&scene, numbers);
     give_counts(&mut table, numbers);
     let need = need(&table, &event).expect("the event must send a message");
     let pair = (need.from, need.to);
@@ -142,52 +150,67 @@ pub fn to_send(numbers: &mut Numbers) -> (Table, Event) {
     (table, event)
 }
 
-/// A table, without counts, on which an event must send a message in this way. It can where it is not to be
-/// refused: there is a counter, a call number and room for a message, but for what is at its end.
-fn sending(way: Way, end: End, numbers: &mut Numbers) -> (Table, Event) {
+/// A table on which an event must send a message.
+pub struct Scene {
+    /// How it comes to send it.
+    pub way: Way,
+    pub limits: Limits,
+    /// How many messages wait, the delivered one too. Where it is not said, there is room for one more.
+    pub waiting: Option<usize>,
+    /// Whether the acting node has no call number left, and no counter.
+    pub no_call: bool,
+    pub no_counter: bool,
+}
+
+/// The table, without counts, and the event. It can send where it is not to be refused: there is a counter
+/// and a call number, if the scene does not say otherwise.
+pub fn sending(scene: &Scene, numbers: &mut Numbers) -> (Table, Event) {
+    let &Scene { way, limits, waiting, no_call, no_counter } = scene;
     // Where node i asks on there is one more to be asked, and where it merges one below it.
     let least = if matches!(way, Way::ExpireAsks | Way::ReplyAsks) { 3 } else { 2 };
     let n = match numbers.below(4) {
         0 => least,
-        1 => u32::from(MAX_NODES),
-        _ => numbers.between(least, u32::from(MAX_NODES)),
+        1 => u32::from(limits.nodes),
+        _ => numbers.between(least, u32::from(limits.nodes)),
     } as u8;
     let merges = matches!(way, Way::ExpireMerges | Way::ReplyMerges);
     let i = numbers.between(if merges { 2 } else { 1 }, u32::from(n)) as u8;
-    let mut table = of_nodes(n, numbers);
+    let mut table = of_nodes(n, limits, numbers);
     let sender = other(i, n, numbers);
     let node = &mut table.nodes[usize::from(i) - 1];
     *node = sending_node(way, i, n, numbers);
     let counter = near_ends(0, MAX_COUNTER - 1, numbers);
-    node.counter = if end == End::SentAndCounter { MAX_COUNTER } else { counter };
+    node.counter = if no_counter { MAX_COUNTER } else { counter };
     // A reply to an open call has its number.
     let last_call = near_ends(1, MAX_CALL - 1, numbers);
-    node.last_call = if end == End::SentAndCalls { MAX_CALL } else { last_call };
+    node.last_call = if no_call { MAX_CALL } else { last_call };
     let node = *node;
-    if let Some(body) = delivered(way, &node, i, n, numbers) {
-        let call = match body {
-            Body::Reply { .. } => node.last_call,
-            _ => near_ends(1, MAX_CALL, numbers),
-        };
-        // It is the oldest of its pair.
-        table.messages.retain(|m| (m.sender, m.receiver) != (sender, i));
-        table.messages.truncate(MAX_MESSAGES - 1);
-        let place = numbers.place(table.messages.len() + 1);
-        table.messages.insert(place, Message { sender, receiver: i, call, body });
-        return (table, Event::Deliver(sender, i));
-    }
-    table.messages.truncate(MAX_MESSAGES - 1);
-    while end == End::SentAndWaiting && table.messages.len() < MAX_MESSAGES {
-        let m = any_message(&table, numbers);
-        table.messages.push(m);
-    }
-    let event = match way {
-        Way::CheckAsks => Event::Check(i),
-        Way::TimeoutContacts => Event::Timeout(i),
-        Way::TickInvites => Event::Tick(i),
-        Way::FinishHands => Event::Finish(i, task(numbers)),
-        _ => Event::Expire(i),
+    let most = usize::from(limits.messages);
+    let event = match delivered(way, &node, i, n, numbers) {
+        Some(body) => {
+            let call = match body {
+                Body::Reply { .. } => node.last_call,
+                _ => near_ends(1, MAX_CALL, numbers),
+            };
+            // It is the oldest of its pair.
+            table.messages.retain(|m| (m.sender, m.receiver) != (sender, i));
+            table.messages.truncate(waiting.unwrap_or(most) - 1);
+            let place = numbers.place(table.messages.len() + 1);
+            table.messages.insert(place, Message { sender, receiver: i, call, body });
+            Event::Deliver(sender, i)
+        }
+        None => {
+            table.messages.truncate(waiting.unwrap_or(most - 1));
+            match way {
+                Way::CheckAsks => Event::Check(i),
+                Way::TimeoutContacts => Event::Timeout(i),
+                Way::TickInvites => Event::Tick(i),
+                Way::FinishHands => Event::Finish(i, task(numbers)),
+                _ => Event::Expire(i),
+            }
+        }
     };
+    add_messages(&mut table, waiting.unwrap_or(0), numbers);
     (table, event)
 }
 
@@ -445,9 +468,10 @@ fn broken_pair(
 /// A table in range, and an event that takes out the last message of a pair which has sent 33,554,430, where
 /// all others of the pair were delivered, and it is, or were lost, and it is.
 pub fn to_take_last(numbers: &mut Numbers) -> (Table, Event) {
-    let n = numbers.between(2, u32::from(MAX_NODES)) as u8;
-    let mut table = of_nodes(n, numbers);
-    table.messages.truncate(MAX_MESSAGES - 1);
+    let limits = any_limits(numbers);
+    let n = numbers.between(2, u32::from(limits.nodes)) as u8;
+    let mut table = of_nodes(n, limits, numbers);
+    table.messages.truncate(usize::from(limits.messages) - 1);
     let m = any_message(&table, numbers);
     let (a, b) = (m.sender, m.receiver);
     table.messages.retain(|m| (m.sender, m.receiver) != (a, b));

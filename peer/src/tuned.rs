@@ -1,11 +1,12 @@
-//! Document 01's list program, with T-02, T-03, T-05 and T-06 of document 02, written for speed alone, as
-//! the second baseline of the benchmark: the bytes of a list in, the printed text out, into a lent buffer,
+//! Document 01's list program, with T-02, T-03, T-05, T-06 and T-08 of document 02, written for speed alone,
+//! as the second baseline of the benchmark: the bytes of a list in, the printed text out, into a lent buffer,
 //! and nothing allocated. Words in quotation marks in the comments are document 01's, or those of a request
 //! where that is said; their cabinet is called node here.
 //!
 //! What it does otherwise than `machine`:
 //! - Nothing of a run shows in which order messages of different pairs were sent. So the messages of
-//!   each pair are a queue of their own, linked through 64 slots, and no message is searched or moved.
+//!   each pair are a queue of their own, linked through 64 slots, and no message is searched or moved. On
+//!   T-08's stand twelve of the slots are free at the start, so that ground 14 is the same look there.
 //! - Status, activity and "its own coordinator" are one number. With the event, and for a delivery the
 //!   kind of the message, it gives refusals 7 to 11 and 18, or what is to be done, by one look into a
 //!   table.
@@ -22,7 +23,7 @@
 //! Nodes are numbered from 0 here. All of it is safe Rust: what is masked needs no check.
 
 use crate::list::MAX_LIST;
-use crate::machine::{MAX_CALL, MAX_COUNTER, MAX_NODES, MIN_TASK};
+use crate::machine::{Limits, MAX_CALL, MAX_COUNTER, MIN_TASK, STAND, TOWER};
 use std::hint::select_unpredictable;
 
 /// A state is a multiple of this, so that a row of `ACTIONS` is added to it.
@@ -122,7 +123,7 @@ struct Table {
 }
 
 /// "Starting table: all Down and idle, every number 0, every set empty, no messages." Here without
-/// nodes.
+/// nodes and free slots.
 static START: Table = {
     let mut ends = [0; SLOTS as usize];
     let mut queue = 0;
@@ -149,7 +150,7 @@ static START: Table = {
         messages: [Message { call: 0, group: 0, task: 0 }; 128],
         taken: [0; QUEUES as usize],
         lost: [0; QUEUES as usize],
-        free: u64::MAX,
+        free: 0,
         all: 0,
     }
 };
@@ -293,14 +294,14 @@ static FIELDS: [Field; 16] = {
 pub fn print(list: &[u8], out: &mut [u8]) -> Option<usize> {
     let mut text = Text { out, at: 0 };
     match first_field(list) {
-        Ok(n) => run(list, n, &mut text)?,
+        Ok((n, limits)) => run(list, n, limits, &mut text)?,
         Err(r) => text.stopped(0, r)?,
     }
     Some(text.at)
 }
 
-/// "First field: 0x01, one byte n."
-fn first_field(list: &[u8]) -> Result<u8, u8> {
+/// "First field: 0x01, one byte n." T-08: "A list meant for the stand gives them by a first tag of 0x02".
+fn first_field(list: &[u8]) -> Result<(u8, Limits), u8> {
     if list.len() > MAX_LIST {
         return Err(2);
     }
@@ -311,11 +312,15 @@ fn first_field(list: &[u8]) -> Result<u8, u8> {
     if contents.len() < usize::from(length) {
         return Err(3);
     }
+    let limits = match tag {
+        0x01 => TOWER,
+        0x02 => STAND,
+        _ => return Err(4),
+    };
     match contents {
-        _ if *tag != 0x01 => Err(4),
         [n, ..] if length == 1 => {
-            if (1..=MAX_NODES).contains(n) {
-                Ok(*n)
+            if (1..=limits.nodes).contains(n) {
+                Ok((*n, limits))
             } else {
                 Err(6)
             }
@@ -325,10 +330,11 @@ fn first_field(list: &[u8]) -> Result<u8, u8> {
 }
 
 /// The events, from the fourth byte on.
-fn run(list: &[u8], n: u8, text: &mut Text) -> Option<()> {
+fn run(list: &[u8], n: u8, limits: Limits, text: &mut Text) -> Option<()> {
     text.cabinets(n)?;
     let mut table = START.clone();
     table.set_nodes(n);
+    table.free = u64::MAX >> (64 - limits.messages);
     let mut events = Events::new();
     let mut at = 4;
     loop {
@@ -366,7 +372,8 @@ fn run(list: &[u8], n: u8, text: &mut Text) -> Option<()> {
         text.node(i, &table.nodes[usize::from(i & 31)])?;
     }
     let sum = |counts: &[u16]| counts.iter().map(|&count| u32::from(count)).sum::<u32>();
-    text.traffic(table.free.count_zeros(), sum(&table.taken), sum(&table.lost))
+    let waiting = u32::from(limits.messages) - table.free.count_ones();
+    text.traffic(waiting, sum(&table.taken), sum(&table.lost))
 }
 
 /// The number of the refusal of a field that is no event.

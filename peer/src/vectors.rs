@@ -3,7 +3,8 @@
 //! the calls.
 
 use crate::machine::{
-    count_mut, count_of, Activity, Body, Event, Message, Node, Status, Table, Traffic, MAX_NODES,
+    count_mut, count_of, Activity, Body, Event, Limits, Message, Node, Status, Table, Traffic,
+    MAX_NODES,
 };
 use std::fmt::Write;
 use std::path::Path;
@@ -117,6 +118,7 @@ pub fn read_hex(word: &str) -> Option<Vec<u8>> {
 /// The parts of a case as its lines come.
 struct Draft {
     number: u32,
+    limits: Option<Limits>,
     table: Table,
     event: Option<Event>,
     answer: Option<Result<(), u8>>,
@@ -148,14 +150,21 @@ fn read_line(line: &str, draft: &mut Option<Draft>) -> Option<Option<StepCase>> 
             return None;
         }
         let number = number(&mut words)?;
-        let (table, after) = (Table::start(0), Table::start(0));
-        *draft = Some(Draft { number, table, event: None, answer: None, after });
+        // What they are is not known before their lines come.
+        let table = Table::start(0, Limits { nodes: 0, messages: 0 });
+        let after = table.clone();
+        *draft = Some(Draft { number, limits: None, table, event: None, answer: None, after });
         return Some(None);
     }
     let case = draft.as_mut()?;
     let table = if case.answer.is_none() { &mut case.table } else { &mut case.after };
     match first {
         "n" => table.n = number(&mut words)?,
+        // They stand there once, before the event, which leaves them as they are.
+        "limits" if case.limits.is_none() && case.event.is_none() => {
+            let limits = Limits { nodes: number(&mut words)?, messages: number(&mut words)? };
+            (case.limits, table.limits) = (Some(limits), limits);
+        }
         "cabinet" => {
             let i: u8 = number(&mut words)?;
             *table.nodes.get_mut(usize::from(i).checked_sub(1)?)? = read_node(&mut words)?;
@@ -166,7 +175,7 @@ fn read_line(line: &str, draft: &mut Option<Draft>) -> Option<Option<StepCase>> 
         "answer" => {
             match words.next()? {
                 "accepted" => {
-                    case.after.n = case.table.n;
+                    (case.after.n, case.after.limits) = (case.table.n, case.table.limits);
                     case.answer = Some(Ok(()));
                 }
                 "refused" => {
@@ -177,7 +186,8 @@ fn read_line(line: &str, draft: &mut Option<Draft>) -> Option<Option<StepCase>> 
             };
         }
         "end" => {
-            let Draft { number, table, event, answer, after } = draft.take()?;
+            let Draft { number, limits, table, event, answer, after } = draft.take()?;
+            limits?;
             return Some(Some(StepCase { number, table, event: event?, answer: answer?, after }));
         }
         _ => return None,
@@ -296,10 +306,10 @@ pub fn node_text(i: u8, x: &Node) -> String {
     )
 }
 
-/// The cabinet, message and counts lines of a table, as in steps.txt.
+/// The limits, cabinet, message and counts lines of a table, as in steps.txt.
 pub fn table_text(table: &Table) -> String {
-    let mut text: String =
-        (1..=table.n.min(MAX_NODES)).map(|i| node_text(i, table.node(i))).collect();
+    let mut text = format!("limits {} {}\n", table.limits.nodes, table.limits.messages);
+    text.extend((1..=table.n.min(MAX_NODES)).map(|i| node_text(i, table.node(i))));
     for m in &table.messages {
         let task = if let Body::Ready { task, .. } = m.body { task } else { 0 };
         let yes = matches!(m.body, Body::Reply { yes: true });

@@ -1,8 +1,10 @@
 //! What the library's functions answer and what they leave in the buffer, at every edge: this program's
 //! own machine behind the boundary, and the proved library where it is linked.
 
+mod functions;
 mod other_forms;
 
+use functions::Functions;
 use other_forms::in_another_form;
 use peer::compare::{field_difference, printed_difference, walk_difference, Lent};
 use peer::drive::any_event;
@@ -30,7 +32,7 @@ fn too_short_a_buffer(library: &impl Library) {
     let fields: [&[u8]; 4] = [&[0x11, 0, 1, 1], &[], &[0xff, 0, 0], &[0x11, 0, 1, 0]];
     for room in (0..TABLE_BYTES).step_by(31).chain([TABLE_BYTES - 1]) {
         for field in fields {
-            let mut table = Table::start(2);
+            let mut table = Table::start(2, TOWER);
             if numbers.one_in(2) {
                 table = in_range(&mut numbers);
                 spoil(&mut table, &mut numbers);
@@ -80,7 +82,7 @@ fn no_field(library: &impl Library) {
     let mut numbers = Numbers::new(2);
     for (field, number) in cases {
         assert_eq!(first_event(field), Err(number), "{field:02x?}");
-        for table in [Table::start(16), in_range(&mut numbers)] {
+        for table in [Table::start(16, TOWER), in_range(&mut numbers)] {
             for room in [TABLE_BYTES, TABLE_BYTES + 7] {
                 no_difference(field_difference(library, &table, field, room, numbers.bits()));
             }
@@ -90,7 +92,7 @@ fn no_field(library: &impl Library) {
     let mut long = vec![0x11, 1, 0];
     long.resize(3 + 256, 1);
     assert_eq!(first_event(&long), Err(5));
-    no_difference(field_difference(library, &Table::start(2), &long, TABLE_BYTES, 3));
+    no_difference(field_difference(library, &Table::start(2, TOWER), &long, TABLE_BYTES, 3));
 }
 
 /// "bytes behind the first field are not looked at": a second event, no field, and more than a list may
@@ -112,7 +114,7 @@ fn bytes_behind_the_field(library: &impl Library) {
         let field = [&[0x11, 0, 1, 1], behind].concat();
         let mut out = [0; TABLE_BYTES];
         let mut bytes = [0; TABLE_BYTES];
-        table_to_bytes(&Table::start(2), &mut bytes);
+        table_to_bytes(&Table::start(2, TOWER), &mut bytes);
         assert_eq!(library.step(&bytes, &field, &mut out), 0);
         assert_eq!(table_from_bytes(&out).node(2).status, Status::Down);
         // A field that is none is refused, whatever stands behind it.
@@ -150,10 +152,10 @@ fn small_rooms(library: &impl Library) {
     let lists = [
         vec![],
         vec![0x01, 0, 1, 0],
-        write_list(1, &[]),
-        write_list(2, &[Recover(1), Recover(1), Check(9), Deliver(1, 2)]),
-        [write_list(2, &[Recover(2), Recover(2)]), vec![0x10, 0]].concat(),
-        write_list(16, &[Crash(1); 130]),
+        write_list(1, TOWER, &[]),
+        write_list(2, TOWER, &[Recover(1), Recover(1), Check(9), Deliver(1, 2)]),
+        [write_list(2, TOWER, &[Recover(2), Recover(2)]), vec![0x10, 0]].concat(),
+        write_list(16, TOWER, &[Crash(1); 130]),
     ];
     for list in lists {
         let text = run_list(&list);
@@ -228,20 +230,18 @@ fn proved_small_rooms() {
 /// Libraries that are nearly right at the boundary are found.
 #[test]
 fn wrong_boundaries_are_found() {
-    /// Which mistake it makes.
-    struct Wrong(u8);
-    impl Library for Wrong {
-        fn print(&self, list: &[u8], out: &mut [u8]) -> Option<usize> {
+    let wrong = |mistake: u8| {
+        let print = move |list: &[u8], out: &mut [u8]| {
             let length = Own.print(list, out);
-            if let (6, Some(byte)) = (self.0, length.and_then(|length| out.get_mut(length))) {
+            if let (6, Some(byte)) = (mistake, length.and_then(|length| out.get_mut(length))) {
                 *byte = !*byte;
             }
             length
-        }
-        fn step(&self, table: &[u8], field: &[u8], out: &mut [u8]) -> u8 {
+        };
+        let step = move |table: &[u8], field: &[u8], out: &mut [u8]| {
             let answer = Own.step(table, field, out);
             let refused = (1..TOO_SHORT).contains(&answer);
-            match self.0 {
+            match mistake {
                 // Writes the table that it was given when it refuses.
                 0 if refused => out[..table.len()].copy_from_slice(table),
                 // Answers 255 where the field is none.
@@ -257,52 +257,30 @@ fn wrong_boundaries_are_found() {
                 _ => {}
             }
             answer
-        }
-        fn fold(&self, list: &[u8]) -> u32 {
-            Own.fold(list)
-        }
-        fn recovery(&self, table: &[u8], node: u8, out: &mut [u8]) -> u8 {
-            Own.recovery(table, node, out)
-        }
-        fn bully_step(&self, table: &[u8], field: &[u8], out: &mut [u8]) -> u8 {
-            Own.bully_step(table, field, out)
-        }
-    }
+        };
+        Functions { print: Box::new(print), step: Box::new(step), ..Functions::default() }
+    };
     for mistake in 0..=6 {
-        let mut fuzz = peer::fuzzing::Fuzz::new(Wrong(mistake), 1);
+        let mut fuzz = peer::fuzzing::Fuzz::new(wrong(mistake), 1);
         fuzz.go_on(std::time::Duration::from_secs(20));
-        assert!(fuzz.tell().1 > 0, "{mistake}");
+        assert!(fuzz.tell(0).1 > 0, "{mistake}");
     }
 }
 
 /// A library that takes what a message's kind does not carry for a part of it is found.
 #[test]
 fn fields_that_are_not_carried_decide_nothing() {
-    /// Refuses by 1 where a group that is not carried is out of range.
-    struct Reads;
-    impl Library for Reads {
-        fn print(&self, list: &[u8], out: &mut [u8]) -> Option<usize> {
-            Own.print(list, out)
+    // Refuses by 1 where a group that is not carried is out of range.
+    let step = |table: &[u8], field: &[u8], out: &mut [u8]| {
+        let waiting = usize::from(table[WAITING_AT]).min(MAX_MESSAGES);
+        let messages = table[465..465 + 14 * waiting].chunks(14);
+        if out.len() >= TABLE_BYTES && messages.clone().any(|m| m[2] == 6 && m[7] != 0) {
+            return 1;
         }
-        fn step(&self, table: &[u8], field: &[u8], out: &mut [u8]) -> u8 {
-            let waiting = usize::from(table[WAITING_AT]).min(MAX_MESSAGES);
-            let messages = table[465..465 + 14 * waiting].chunks(14);
-            if out.len() >= TABLE_BYTES && messages.clone().any(|m| m[2] == 6 && m[7] != 0) {
-                return 1;
-            }
-            Own.step(table, field, out)
-        }
-        fn fold(&self, list: &[u8]) -> u32 {
-            Own.fold(list)
-        }
-        fn recovery(&self, table: &[u8], node: u8, out: &mut [u8]) -> u8 {
-            Own.recovery(table, node, out)
-        }
-        fn bully_step(&self, table: &[u8], field: &[u8], out: &mut [u8]) -> u8 {
-            Own.bully_step(table, field, out)
-        }
-    }
-    let mut fuzz = peer::fuzzing::Fuzz::new(Reads, 1);
+        Own.step(table, field, out)
+    };
+    let reads = Functions { step: Box::new(step), ..Functions::default() };
+    let mut fuzz = peer::fuzzing::Fuzz::new(reads, 1);
     fuzz.go_on(std::time::Duration::from_secs(20));
-    assert!(fuzz.tell().1 > 0);
+    assert!(fuzz.tell(0).1 > 0);
 }

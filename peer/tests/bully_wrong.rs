@@ -1,6 +1,9 @@
 //! Bully machines and boundaries that are wrong on purpose: the fuzzer finds each of them, and the claims
 //! alone find those that break them.
 
+mod functions;
+
+use functions::Functions;
 use peer::bully::bytes::{bully_step_by, first_event, TABLE_BYTES};
 use peer::bully::claims::broken_claim;
 use peer::bully::compare::{tell_walk, walk_difference, Walk};
@@ -17,24 +20,8 @@ use Event::*;
 use Place::*;
 
 /// A library whose Bully machine is another.
-struct With<F>(F);
-
-impl<F: Fn(&[u8], &[u8], &mut [u8]) -> u8> Library for With<F> {
-    fn print(&self, list: &[u8], out: &mut [u8]) -> Option<usize> {
-        Own.print(list, out)
-    }
-    fn step(&self, table: &[u8], field: &[u8], out: &mut [u8]) -> u8 {
-        Own.step(table, field, out)
-    }
-    fn fold(&self, list: &[u8]) -> u32 {
-        Own.fold(list)
-    }
-    fn recovery(&self, table: &[u8], node: u8, out: &mut [u8]) -> u8 {
-        Own.recovery(table, node, out)
-    }
-    fn bully_step(&self, table: &[u8], field: &[u8], out: &mut [u8]) -> u8 {
-        (self.0)(table, field, out)
-    }
+fn with<'a>(bully_step: impl Fn(&[u8], &[u8], &mut [u8]) -> u8 + 'a) -> Functions<'a> {
+    Functions { bully_step: Box::new(bully_step), ..Functions::default() }
 }
 
 /// How many failures the fuzzer finds in so many seconds; it ends at enough differences.
@@ -371,14 +358,14 @@ fn wrong_machines_are_found() {
     for (k, machine) in
         AGAINST_THE_CLAIMS.map(|(machine, _)| machine).iter().chain(&OTHERS).enumerate()
     {
-        let library = With(|table: &[u8], field: &[u8], out: &mut [u8]| {
+        let library = with(|table: &[u8], field: &[u8], out: &mut [u8]| {
             bully_step_by(machine, table, field, out)
         });
         assert!(found(library) >= ENOUGH, "{k}");
     }
     assert_eq!(found_in(Own, 2), 0);
     // It ends at enough differences.
-    assert_eq!(found(With(|_: &[u8], _: &[u8], _: &mut [u8]| 9)), ENOUGH);
+    assert_eq!(found(with(|_: &[u8], _: &[u8], _: &mut [u8]| 9)), ENOUGH);
 }
 
 /// On the tables of such a machine alone, with nothing to compare them with.
@@ -396,7 +383,7 @@ fn the_claims_alone_find_some() {
 fn runs_are_shortened() {
     let mut events = vec![Recover(2), Finish(2, 5), Crash(2), Recover(1), Check(1), Recover(2)];
     events.extend([Timeout(1), GoOn(2), GoOn(1), Check(2)]);
-    let library = With(|table: &[u8], field: &[u8], out: &mut [u8]| {
+    let library = with(|table: &[u8], field: &[u8], out: &mut [u8]| {
         bully_step_by(halt_keeps_the_place, table, field, out)
     });
     let walk = Walk { source: Source::Run, start: Table::start(2), events, noise: None };
@@ -429,7 +416,7 @@ fn two_coordinators() -> Table {
 #[test]
 fn wrong_boundaries_are_found() {
     for mistake in 0..=13 {
-        let library = With(move |table: &[u8], field: &[u8], out: &mut [u8]| {
+        let library = with(move |table: &[u8], field: &[u8], out: &mut [u8]| {
             let answer = Own.bully_step(table, field, out);
             let record = |k: usize| table.get(k).copied().unwrap_or(0);
             let refused = (1..TOO_SHORT).contains(&answer);
@@ -475,7 +462,7 @@ fn wrong_boundaries_are_found() {
 /// What stands behind the n records after an accepted event is free.
 #[test]
 fn what_is_no_part_of_a_table_is_free() {
-    let library = With(|table: &[u8], field: &[u8], out: &mut [u8]| {
+    let library = with(|table: &[u8], field: &[u8], out: &mut [u8]| {
         let answer = Own.bully_step(table, field, out);
         if answer == 0 && out[0] < 16 {
             out[TABLE_BYTES - 1] = 7;

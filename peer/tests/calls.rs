@@ -1,9 +1,12 @@
 //! The vectors' calls: how a line is read, what is compared, and the calls of T-04 and T-07 on this program's
 //! own machines.
 
-use peer::calls::{none_free, read_calls, with_counts, Arguments, Function, Takes, FUNCTIONS};
+mod functions;
+
+use functions::Functions;
+use peer::calls::{completed, none_free, read_calls, Arguments, Function, Takes, FUNCTIONS};
 use peer::compare::call_difference;
-use peer::machine::{Body, Message, Table};
+use peer::machine::{Body, Message, Table, TOWER};
 use peer::proved::{table_to_bytes, Library, Own, COUNTS_AT, TABLE_BYTES};
 use peer::traffic_tables::count_waiting;
 use std::path::Path;
@@ -188,11 +191,11 @@ fn free_bytes_are_not_compared() {
     assert!(told("writes out 9 answer 0 01090904").is_some());
 }
 
-/// T-04's tables get counts: what waits of each pair was sent. One that was cut short is cut, and what stood
-/// behind a longer one stands behind the counts.
+/// T-04's tables get counts, what waits of each pair was sent, and the tower's limits. One that was cut short is
+/// filled up, and what stood behind a longer one stands behind the limits.
 #[test]
-fn tables_without_counts_get_them() {
-    let mut table = Table::start(3);
+fn older_tables_get_counts_and_limits() {
+    let mut table = Table::start(3, TOWER);
     let mut ask = |sender: u8, receiver: u8| {
         let body = Body::AreYouCoordinator;
         table.messages.push(Message { sender, receiver, call: 1, body });
@@ -209,30 +212,36 @@ fn tables_without_counts_get_them() {
     count_waiting(&mut table);
     assert!(table.in_range());
     let expected = whole(&table);
-    assert_eq!(with_counts(old), expected);
+    assert_eq!(expected[4434..], [16, 64]);
+    assert_eq!(completed(old), expected);
     let longer = [old, &[7, 0, 8, 0]].concat();
-    assert_eq!(with_counts(&longer), [&expected[..], &[7, 0, 8, 0]].concat());
+    assert_eq!(completed(&longer), [&expected[..], &[7, 0, 8, 0]].concat());
     // Bytes in another form stay in it.
     let mut other = old.to_vec();
     (other[1], other[100], other[1300]) = (4, 9, 10);
-    assert_eq!(with_counts(&other)[..COUNTS_AT], other);
-    assert_eq!(with_counts(&other)[COUNTS_AT..], expected[COUNTS_AT..]);
+    assert_eq!(completed(&other)[..COUNTS_AT], other);
+    assert_eq!(completed(&other)[COUNTS_AT..], expected[COUNTS_AT..]);
     // Cut behind its nodes; then nothing waits.
-    let cut = with_counts(&[&[3][..], &[0; 80], &[5; 30]].concat());
-    assert_eq!(cut, [&[3][..], &[0; 80], &[5; 30]].concat());
-    assert_eq!(with_counts(&[2, 0, 0]), [2]);
-    assert_eq!(with_counts(&[]), [0; 0]);
+    let filled = |cut: &[u8]| {
+        let mut bytes = [0; TABLE_BYTES];
+        bytes[..cut.len()].copy_from_slice(cut);
+        (bytes[4434], bytes[4435]) = (16, 64);
+        bytes
+    };
+    for cut in [&[&[3][..], &[0; 80], &[5; 30]].concat()[..], &[2, 0, 0], &[2], &[]] {
+        assert_eq!(completed(cut), filled(cut));
+    }
     // Messages of no pair are not counted.
     for (sender, receiver) in [(0, 1), (1, 0), (4, 1), (1, 4), (17, 1), (2, 2)] {
-        let mut old = whole(&Table::start(3))[..COUNTS_AT].to_vec();
+        let mut old = whole(&Table::start(3, TOWER))[..COUNTS_AT].to_vec();
         (old[465], old[466], old[1361]) = (sender, receiver, 1);
-        assert_eq!(with_counts(&old)[COUNTS_AT..], [0; TABLE_BYTES - COUNTS_AT]);
+        assert_eq!(completed(&old), filled(&old));
     }
 }
 
-/// As they stand, the tables of T-04's vectors in which a message waits are now out of range.
+/// As they stand, the tables of T-04's vectors are now out of range: their limits are read as 0.
 #[test]
-fn recoveries_without_counts() {
+fn recoveries_without_limits() {
     let mut refused = 0;
     for line in recoveries().lines() {
         let words: Vec<&str> = line.split(' ').collect();
@@ -240,14 +249,7 @@ fn recoveries_without_counts() {
         let (node, room) = (words[2].parse().unwrap(), words[4].parse().unwrap());
         let answer: u8 = words[6].parse().unwrap();
         let now = Own.recovery(&table, node, &mut vec![0; room]);
-        let longer = table.len() > COUNTS_AT;
-        let waits = table.get(COUNTS_AT - 1).is_some_and(|&waiting| waiting > 0);
-        let expected = match answer {
-            1 | 255 => answer,
-            _ if waits || longer => 1,
-            _ => answer,
-        };
-        assert_eq!(now, expected, "{words:?}");
+        assert_eq!(now, if answer == 255 { 255 } else { 1 }, "{words:?}");
         refused += u32::from(now != answer);
     }
     assert!(refused > 100, "{refused}");
@@ -256,31 +258,19 @@ fn recoveries_without_counts() {
 /// A library with one wrong byte in the records is found by the vectors, whichever byte it is.
 #[test]
 fn every_byte_of_the_records_is_compared() {
-    struct Wrong(usize);
-    impl Library for Wrong {
-        fn print(&self, list: &[u8], out: &mut [u8]) -> Option<usize> {
-            Own.print(list, out)
-        }
-        fn step(&self, table: &[u8], field: &[u8], out: &mut [u8]) -> u8 {
-            Own.step(table, field, out)
-        }
-        fn fold(&self, list: &[u8]) -> u32 {
-            Own.fold(list)
-        }
-        fn recovery(&self, table: &[u8], node: u8, out: &mut [u8]) -> u8 {
+    let wrong = |place: usize| {
+        let recovery = move |table: &[u8], node: u8, out: &mut [u8]| {
             let answer = Own.recovery(table, node, out);
             if answer == 0 {
-                out[self.0] ^= 1;
+                out[place] ^= 1;
             }
             answer
-        }
-        fn bully_step(&self, table: &[u8], field: &[u8], out: &mut [u8]) -> u8 {
-            Own.bully_step(table, field, out)
-        }
-    }
+        };
+        Functions { recovery: Box::new(recovery), ..Functions::default() }
+    };
     let cases = read_calls(&recoveries(), &FUNCTIONS).unwrap();
     let accepted = cases.iter().find(|case| case.answer == 0).unwrap();
     for place in 0..232 {
-        assert!(call_difference(&Wrong(place), accepted).is_some(), "{place}");
+        assert!(call_difference(&wrong(place), accepted).is_some(), "{place}");
     }
 }

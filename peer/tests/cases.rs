@@ -11,11 +11,11 @@ use peer::traffic_tables::count_waiting;
 use Event::*;
 
 fn printed(n: u8, events: &[Event]) -> String {
-    String::from_utf8(run_list(&write_list(n, events))).unwrap()
+    String::from_utf8(run_list(&write_list(n, TOWER, events))).unwrap()
 }
 
 fn after(n: u8, events: &[Event]) -> Table {
-    let mut table = Table::start(n);
+    let mut table = Table::start(n, TOWER);
     for event in events {
         assert_eq!(step(&mut table, event), Ok(()), "{event:?}");
     }
@@ -54,7 +54,7 @@ fn k2_k3_k4_recover() {
 
 #[test]
 fn k5_last_counter() {
-    let mut table = Table::start(16);
+    let mut table = Table::start(16, TOWER);
     table.nodes[15].counter = 1_048_574;
     step(&mut table, &Recover(16)).unwrap();
     assert_eq!(table.node(16).group, 16_777_215);
@@ -158,7 +158,7 @@ fn k12_late_accept() {
 
 #[test]
 fn k13_order_of_grounds() {
-    refused(&Table::start(2), Finish(9, 5), 7);
+    refused(&Table::start(2, TOWER), Finish(9, 5), 7);
     assert!(printed(2, &[Finish(9, 5)]).contains("refused 1 7\n"));
 }
 

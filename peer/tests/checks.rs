@@ -1,6 +1,7 @@
 //! T-06 of document 02, "Checks only by a coordinator": ground 18 by hand and its order, what is printed, the
 //! random tables of the fuzzer, and libraries that are wrong on purpose.
 
+mod functions;
 mod wrong_libraries;
 
 use peer::check_corners::lowest_other;
@@ -14,13 +15,13 @@ use peer::proved::{Library, Proved};
 use peer::tables::to_check;
 use peer::traffic_tables::{count_waiting, pairs};
 use peer::tuned;
-use wrong_libraries::{found, Steps, Texts};
+use wrong_libraries::{found, steps, texts};
 use Event::*;
 use Status::*;
 
 /// A table of n nodes that have each recovered once.
 fn recovered(n: u8) -> Table {
-    let mut table = Table::start(n);
+    let mut table = Table::start(n, TOWER);
     for i in 1..=n {
         step(&mut table, &Recover(i)).unwrap();
     }
@@ -113,7 +114,7 @@ fn k10() -> Vec<Event> {
 /// A check of each node before each of K10's events, and after the last.
 #[test]
 fn checks_in_k10() {
-    let mut table = Table::start(2);
+    let mut table = Table::start(2, TOWER);
     // The answers at node 1 and at node 2; 0 is accepted.
     let expected = [
         [9, 9],
@@ -149,7 +150,7 @@ fn checks_in_k10() {
 /// 9 comes before it: a Down node, whose coordinator is none, itself or another.
 #[test]
 fn down_nodes() {
-    refused(&Table::start(2), Check(1), 9);
+    refused(&Table::start(2, TOWER), Check(1), 9);
     for owner in [1, 2] {
         refused(&node_1(2, Down, owner), Check(1), 9);
     }
@@ -252,13 +253,13 @@ fn printed(print: impl Fn(&[u8]) -> Vec<u8>) {
     text += "refused 106 18\n1 3 1 32 1 2 0\n2 0 2 33 100 2 1\n";
     // AreYouCoordinator to 1, AreYouThere to 2, AreYouCoordinator to 2.
     text += "messages 3\nsent 11\ndelivered 8\nlost 0\n";
-    assert_eq!(String::from_utf8(print(&write_list(2, &events))).unwrap(), text);
+    assert_eq!(String::from_utf8(print(&write_list(2, TOWER, &events))).unwrap(), text);
     // One that is refused last, and one behind which the list stops.
     let ended = "1 2 2 33 1 1 0\n2 1 2 33 2 2 1\nmessages 1\nsent 6\ndelivered 5\nlost 0\n";
     let mut events = k10();
     events.truncate(8);
     events.push(Check(1));
-    let mut list = write_list(2, &events);
+    let mut list = write_list(2, TOWER, &events);
     let text = format!("cabinets 2\nrefused 9 18\n{ended}");
     assert_eq!(String::from_utf8(print(&list)).unwrap(), text);
     let at = list.len();
@@ -269,7 +270,7 @@ fn printed(print: impl Fn(&[u8]) -> Vec<u8>) {
     let events = [Check(1), Recover(1), Check(1), Crash(1), Check(1)];
     let text = "cabinets 1\nrefused 1 9\nrefused 5 9\n1 0 1 16 1 1 0\n\
                 messages 0\nsent 0\ndelivered 0\nlost 0\n";
-    assert_eq!(String::from_utf8(print(&write_list(1, &events))).unwrap(), text);
+    assert_eq!(String::from_utf8(print(&write_list(1, TOWER, &events))).unwrap(), text);
 }
 
 /// What is printed into a buffer that is long enough.
@@ -297,8 +298,8 @@ fn idle_nodes_in_runs() {
     let mut met = [0; 2];
     for _ in 0..800 {
         let n = numbers.between(1, 6) as u8;
-        let mut table = Table::start(n);
-        for event in run(n, 400, &mut numbers) {
+        let mut table = Table::start(n, TOWER);
+        for event in run(n, TOWER, 400, &mut numbers) {
             let answer = advance(&mut table, &event);
             for i in 1..=n {
                 let node = table.node(i);
@@ -442,7 +443,7 @@ fn wrong_grounds_are_found() {
             *table = after;
             right
         };
-        assert!(found(Steps(machine)) > 0, "{name}");
+        assert!(found(steps(machine)) > 0, "{name}");
     }
     let timeouts = |table: &mut Table, event: &Event| {
         let mut after = table.clone();
@@ -453,7 +454,7 @@ fn wrong_grounds_are_found() {
         }
         Ok(())
     };
-    assert!(found(Steps(timeouts)) > 0);
+    assert!(found(steps(timeouts)) > 0);
 }
 
 /// List programs that do not skip the event as others are skipped are found by a short list.
@@ -464,7 +465,7 @@ fn wrong_texts_are_found() {
     type Each = fn(&mut String, &mut Table, usize, &Event, bool);
     fn text_by(each: Each, list: &[u8]) -> String {
         let List { n, events, .. } = peer::list::read_list(list).unwrap();
-        let mut table = Table::start(n);
+        let mut table = Table::start(n, TOWER);
         let mut text = format!("cabinets {n}\n");
         let mut met = false;
         for (k, event) in events.iter().enumerate() {
@@ -482,8 +483,8 @@ fn wrong_texts_are_found() {
     }
     let mut events = k10();
     events.extend([Check(1), Check(2)]);
-    let list = write_list(2, &events);
-    let difference = |each: Each| list_difference(&Texts(|list: &[u8]| text_by(each, list)), &list);
+    let list = write_list(2, TOWER, &events);
+    let difference = |each: Each| list_difference(&texts(|list| text_by(each, list)), &list);
     assert_eq!(difference(right), None);
     let stops: Each = |text, table, e, event, met| {
         if !met {

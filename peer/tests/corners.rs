@@ -47,7 +47,7 @@ fn in_tables(expected: &[(&str, u64)]) -> Vec<(String, u64, u64)> {
 
 /// The events with all deliveries behind each, the oldest message first.
 fn with_deliveries(n: u8, events: &[Event]) -> Vec<Event> {
-    let mut table = Table::start(n);
+    let mut table = Table::start(n, TOWER);
     let mut all = Vec::new();
     for &event in events {
         let mut next = Some(event);
@@ -62,7 +62,7 @@ fn with_deliveries(n: u8, events: &[Event]) -> Vec<Event> {
 
 fn counted(n: u8, events: &[Event]) -> Corners {
     let mut corners = Corners::default();
-    let found = run_difference(&Own, n, &with_deliveries(n, events), Some(&mut corners));
+    let found = run_difference(&Own, n, TOWER, &with_deliveries(n, events), Some(&mut corners));
     assert!(found.is_none());
     corners
 }
@@ -108,7 +108,7 @@ fn picks_in_runs() {
 
 /// A table of n nodes that have each recovered once.
 fn recovered(n: u8) -> Table {
-    let mut table = Table::start(n);
+    let mut table = Table::start(n, TOWER);
     for i in 1..=n {
         step(&mut table, &Recover(i)).unwrap();
     }
@@ -216,7 +216,7 @@ fn invited(corners: &Corners) -> Vec<(String, u64, u64)> {
 fn invitations_in_runs() {
     let count = |events: &[Event], expected: &[(&str, u64)]| {
         let mut corners = Corners::default();
-        assert!(run_difference(&Own, NODES, events, Some(&mut corners)).is_none());
+        assert!(run_difference(&Own, NODES, TOWER, events, Some(&mut corners)).is_none());
         assert_eq!(invited(&corners), in_runs(expected));
     };
     let another = ("invited, Normal, another group", 3);
@@ -253,8 +253,8 @@ fn invitations_in_random_runs() {
     let mut corners = Corners::default();
     for _ in 0..600 {
         let n = numbers.between(2, 8) as u8;
-        let events = run(n, 500, &mut numbers);
-        assert!(run_difference(&Own, n, &events, Some(&mut corners)).is_none());
+        let events = run(n, TOWER, 500, &mut numbers);
+        assert!(run_difference(&Own, n, TOWER, &events, Some(&mut corners)).is_none());
     }
     let met = invited(&corners);
     let names: Vec<&str> = met.iter().map(|(name, ..)| name.as_str()).collect();
@@ -480,7 +480,7 @@ const OTHER: Node = Node {
 #[test]
 fn recoveries_in_tables() {
     let met = |change: fn(&mut Node), i: u8, room: usize| {
-        let mut table = Table::start(3);
+        let mut table = Table::start(3, TOWER);
         table.nodes[0] = OTHER;
         change(&mut table.nodes[0]);
         recovered_in_a_table(&table, i, room)
@@ -562,11 +562,11 @@ fn recoveries_in_other_tables() {
         [more.collect::<Vec<_>>(), fields.to_vec()].concat()
     };
     let one = ["accepted", "accepted, n = 1", "accepted, node 1", "accepted, 232 bytes"];
-    assert_eq!(recovered_in_a_table(&Table::start(1), 1, 232), expected(&one));
+    assert_eq!(recovered_in_a_table(&Table::start(1, TOWER), 1, 232), expected(&one));
     let sixteen = ["accepted", "accepted, node 16", "accepted, more bytes"];
-    assert_eq!(recovered_in_a_table(&Table::start(16), 16, 240), expected(&sixteen));
+    assert_eq!(recovered_in_a_table(&Table::start(16, TOWER), 16, 240), expected(&sixteen));
     let two = ["accepted", "accepted, 232 bytes"];
-    assert_eq!(recovered_in_a_table(&Table::start(16), 15, 232), expected(&two));
+    assert_eq!(recovered_in_a_table(&Table::start(16, TOWER), 15, 232), expected(&two));
     let mut table = recovered(2);
     table.nodes[1].coordinator = 1;
     assert_eq!(recovered_in_a_table(&table, 1, 232), ["refused 1, 9 too"]);
@@ -574,7 +574,7 @@ fn recoveries_in_other_tables() {
     let both = ["refused 1, 9 too", "refused 1, 12 too"];
     assert_eq!(recovered_in_a_table(&table, 1, 232), both);
     // No node has a record behind the sixteenth.
-    let many = Table { n: 17, ..Table::start(16) };
+    let many = Table { n: 17, ..Table::start(16, TOWER) };
     assert_eq!(recovered_in_a_table(&many, 17, 232), ["refused 1"]);
     assert_eq!(recovered_in_a_table(&many, 18, 232), ["refused 1, 7 too"]);
 }
@@ -607,7 +607,7 @@ const SET: [fn(&mut Node); 8] = [
 
 /// What is told of these records of node 1, where it was `OTHER`; the step may leave something else too.
 fn told(records: [Node; 8], change: fn(&mut Table)) -> Vec<String> {
-    let mut table = Table::start(3);
+    let mut table = Table::start(3, TOWER);
     table.nodes[0] = OTHER;
     let mut after = table.clone();
     step(&mut after, &Recover(1)).unwrap();
@@ -707,7 +707,7 @@ fn wrong_answers_to_recoveries_are_told() {
     }
     assert_eq!(told(made(&right), |after| after.nodes[1].counter = 1), [""; 0]);
     let told = |status: Status, room: usize, answer: u8, step_answer: u8| {
-        let mut table = Table::start(3);
+        let mut table = Table::start(3, TOWER);
         (table.nodes[0].status, table.nodes[0].group) = (status, 16);
         table.nodes[0].coordinator = 1;
         let (mut bytes, mut step_out) = ([0; TABLE_BYTES], [0; TABLE_BYTES]);
@@ -745,7 +745,7 @@ fn messages_in_runs() {
     let events =
         [Recover(1), Recover(2), Check(2), Deliver(2, 1), Deliver(1, 2), Lose(2, 1), Crash(1)];
     let mut corners = Corners::default();
-    assert!(run_difference(&Own, 2, &events, Some(&mut corners)).is_none());
+    assert!(run_difference(&Own, 2, TOWER, &events, Some(&mut corners)).is_none());
     assert_eq!(corners.impossible(), [""; 0]);
     let expected = [
         ("counts, none raised", 3),
@@ -876,7 +876,7 @@ fn k10_with_checks() -> Vec<Event> {
 fn checks_in_runs() {
     let events = k10_with_checks();
     let mut corners = Corners::default();
-    assert!(run_difference(&Own, 2, &events, Some(&mut corners)).is_none());
+    assert!(run_difference(&Own, 2, TOWER, &events, Some(&mut corners)).is_none());
     assert_eq!(corners.impossible(), [""; 0]);
     let expected = [
         ("check refused 7", 1),
@@ -898,7 +898,7 @@ fn checks_in_runs() {
     assert_eq!(checked(&corners), in_runs(&expected));
     let mut corners = Corners::default();
     let events = [Recover(1), Check(1), Crash(1), Check(1), Check(0), Check(17)];
-    assert!(run_difference(&Own, 1, &events, Some(&mut corners)).is_none());
+    assert!(run_difference(&Own, 1, TOWER, &events, Some(&mut corners)).is_none());
     assert_eq!(corners.impossible(), [""; 0]);
     let expected = [
         ("check refused 7", 2),
@@ -918,8 +918,8 @@ fn checks_in_random_runs() {
     let mut corners = Corners::default();
     for _ in 0..1200 {
         let n = numbers.of(&[1, 2, 3, 4, 8, 16]);
-        let events = run(n, 500, &mut numbers);
-        assert!(run_difference(&Own, n, &events, Some(&mut corners)).is_none());
+        let events = run(n, TOWER, 500, &mut numbers);
+        assert!(run_difference(&Own, n, TOWER, &events, Some(&mut corners)).is_none());
     }
     assert_eq!(corners.impossible(), [""; 0]);
     let met = checked(&corners);
@@ -1153,7 +1153,7 @@ fn printed(
     behind: &[u8],
     text: Option<&str>,
 ) -> (Vec<String>, Vec<String>) {
-    let list = [&write_list(n, events)[..], behind].concat();
+    let list = [&write_list(n, TOWER, events)[..], behind].concat();
     let text = text.map_or(run_list(&list), |text| text.as_bytes().to_vec());
     let mut corners = Corners::default();
     corners.printed(&read_list(&list).unwrap(), &text);
@@ -1193,7 +1193,7 @@ fn wrong_texts_of_checks_are_told() {
     let otherwise = "list, check printed otherwise than by the grounds";
     let another = "list, 18 printed for another event";
     let events = &k10_with_checks()[..14];
-    let list = write_list(2, events);
+    let list = write_list(2, TOWER, events);
     let right = String::from_utf8(run_list(&list)).unwrap();
     assert!(right.contains("refused 13 18\n"));
     let told = |from: &str, to: &str| printed(2, events, &[], Some(&right.replace(from, to))).1;

@@ -37,9 +37,9 @@ fn pick(numbers: &mut Numbers, table: &Table) -> Event {
     }
 }
 
-fn random_run(seed: u64, n: u8, length: usize) -> Vec<Event> {
+fn random_run(seed: u64, n: u8, limits: Limits, length: usize) -> Vec<Event> {
     let mut numbers = Numbers(seed);
-    let mut table = Table::start(n);
+    let mut table = Table::start(n, limits);
     let mut events = Vec::new();
     for _ in 0..length {
         let event = pick(&mut numbers, &table);
@@ -49,40 +49,64 @@ fn random_run(seed: u64, n: u8, length: usize) -> Vec<Event> {
     events
 }
 
+/// T-08: "Demand 3 now speaks of both".
 #[test]
 fn random_runs_hold() {
     for seed in 1..=200u64 {
-        let n = (seed % 16) as u8 + 1;
-        let events = random_run(seed.wrapping_mul(0x9e37_79b9_7f4a_7c15), n, 2000);
-        if let Err(words) = check_run(n, &events) {
-            panic!("seed {seed}: {words}");
+        for limits in [TOWER, STAND] {
+            let n = (seed % u64::from(limits.nodes)) as u8 + 1;
+            let events = random_run(seed.wrapping_mul(0x9e37_79b9_7f4a_7c15), n, limits, 2000);
+            if let Err(words) = check_run(n, limits, &events) {
+                panic!("seed {seed}, {limits:?}: {words}");
+            }
         }
     }
 }
 
-/// The random runs are no idle ones: every activity comes up, and a task reaches a member.
+/// T-08: "It is shown over the steps for any limits not above the tower's, with the rule of the two pairs left
+/// out." A queue of none or one is among them; such a table is in range but for the pair.
+#[test]
+fn random_runs_of_any_limits_hold() {
+    let mut full = 0;
+    for seed in 1..=400u64 {
+        let nodes = (seed % 16) as u8 + 1;
+        let limits = Limits { nodes, messages: (seed % 65) as u8 };
+        let n = (seed / 16 % u64::from(nodes)) as u8 + 1;
+        let events = random_run(seed.wrapping_mul(0x9e37_79b9_7f4a_7c15), n, limits, 1000);
+        let table = check_run(n, limits, &events).unwrap_or_else(|words| panic!("{seed}: {words}"));
+        assert!(table.in_range_of_any_pair());
+        assert_eq!(table.in_range(), [TOWER, STAND].contains(&limits));
+        let mut table = Table::start(n, limits);
+        full += events.iter().filter(|event| advance(&mut table, event) == Err(14)).count();
+    }
+    assert!(full > 300, "{full}");
+}
+
+/// The random runs are no idle ones: every activity comes up, and a task reaches a member, in both.
 #[test]
 fn random_runs_reach_every_activity() {
-    let mut activities = std::collections::BTreeSet::new();
-    let mut task_taken = 0;
-    for seed in 1..=200u64 {
-        let n = (seed % 16) as u8 + 1;
-        let mut table = Table::start(n);
-        for event in random_run(seed.wrapping_mul(0x9e37_79b9_7f4a_7c15), n, 2000) {
-            let _ = advance(&mut table, &event);
-            for i in 1..=n {
-                let node = table.node(i);
-                let name = format!("{:?}", node.activity);
-                activities.insert(name.split(' ').next().unwrap().to_string());
-                let taken = node.status == Status::Normal && node.task >= MIN_TASK;
-                if taken && node.coordinator != i {
-                    task_taken += 1;
+    for limits in [TOWER, STAND] {
+        let mut activities = std::collections::BTreeSet::new();
+        let mut task_taken = 0;
+        for seed in 1..=200u64 {
+            let n = (seed % u64::from(limits.nodes)) as u8 + 1;
+            let mut table = Table::start(n, limits);
+            for event in random_run(seed.wrapping_mul(0x9e37_79b9_7f4a_7c15), n, limits, 2000) {
+                let _ = advance(&mut table, &event);
+                for i in 1..=n {
+                    let node = table.node(i);
+                    let name = format!("{:?}", node.activity);
+                    activities.insert(name.split(' ').next().unwrap().to_string());
+                    let taken = node.status == Status::Normal && node.task >= MIN_TASK;
+                    if taken && node.coordinator != i {
+                        task_taken += 1;
+                    }
                 }
             }
         }
+        assert_eq!(activities.len(), 9, "{activities:?}");
+        assert!(task_taken > 1000, "{task_taken}");
     }
-    assert_eq!(activities.len(), 9, "{activities:?}");
-    assert!(task_taken > 1000, "{task_taken}");
 }
 
 /// Runs a machine over random runs until the check finds something, and gives its words.
@@ -90,8 +114,8 @@ fn found(machine: impl Fn(&mut Table, &Event)) -> Option<String> {
     (1..=200u64).find_map(|seed| {
         let n = (seed % 5) as u8 + 2;
         let mut numbers = Numbers(seed.wrapping_mul(0x9e37_79b9_7f4a_7c15));
-        let mut table = Table::start(n);
-        let mut checker = Checker::new(n);
+        let mut table = Table::start(n, TOWER);
+        let mut checker = Checker::new(n, TOWER);
         (0..2000).find_map(|_| {
             let event = pick(&mut numbers, &table);
             machine(&mut table, &event);
@@ -132,8 +156,8 @@ fn other_task_is_found() {
 #[test]
 fn other_coordinator_is_found() {
     use Event::*;
-    let mut table = Table::start(2);
-    let mut checker = Checker::new(2);
+    let mut table = Table::start(2, TOWER);
+    let mut checker = Checker::new(2, TOWER);
     let mut events = vec![Recover(1), Recover(2), Check(2)];
     for _ in 0..3 {
         events.extend([Deliver(2, 1), Deliver(1, 2)]);
@@ -157,11 +181,47 @@ fn table_out_of_range_is_found() {
     assert_eq!(words.unwrap(), "the table is not in range");
 }
 
+/// Limits that change are found, though the table is in range with them.
+#[test]
+fn changed_limits_are_found() {
+    let words = found(|table, event| {
+        let _ = advance(table, event);
+        if table.n <= STAND.nodes && table.messages.is_empty() {
+            table.limits = STAND;
+        }
+    });
+    assert_eq!(words.unwrap(), "the table has other limits: Limits { nodes: 4, messages: 12 }");
+}
+
+/// A machine that sends as many messages on the stand as in the tower is found by the range.
+#[test]
+fn message_too_many_on_the_stand_is_found() {
+    let mut checker = Checker::new(4, STAND);
+    let mut table = Table::start(4, STAND);
+    let go = |table: &mut Table, event: &Event| {
+        table.limits = TOWER;
+        let answer = advance(table, event);
+        table.limits = STAND;
+        answer.unwrap();
+    };
+    let mut events: Vec<Event> = (1..=4).map(Event::Recover).collect();
+    for i in 1..=4 {
+        events.extend([Event::Check(i), Event::Expire(i), Event::Expire(i), Event::Expire(i)]);
+    }
+    for event in events {
+        go(&mut table, &event);
+        checker.check(&event, &table).unwrap();
+    }
+    assert_eq!(table.messages.len(), 12);
+    go(&mut table, &Event::Check(1));
+    assert_eq!(checker.check(&Event::Check(1), &table).unwrap_err(), "the table is not in range");
+}
+
 /// The tables of a wrong machine that sends group 17 before node 2 has formed it, then forms it.
 #[test]
 fn group_before_its_time_is_found() {
-    let mut checker = Checker::new(2);
-    let mut table = Table::start(2);
+    let mut checker = Checker::new(2, TOWER);
+    let mut table = Table::start(2, TOWER);
     step(&mut table, &Event::Recover(1)).unwrap();
     let body = Body::Accept { group: 17 };
     table.messages.push(Message { sender: 1, receiver: 2, call: 1, body });
@@ -177,8 +237,8 @@ fn group_before_its_time_is_found() {
 #[test]
 fn other_counts_are_found() {
     let words = |change: fn(&mut Traffic)| {
-        let mut table = Table::start(2);
-        let mut checker = Checker::new(2);
+        let mut table = Table::start(2, TOWER);
+        let mut checker = Checker::new(2, TOWER);
         for event in [Event::Recover(1), Event::Check(1)] {
             step(&mut table, &event).unwrap();
             checker.check(&event, &table).unwrap();
@@ -202,7 +262,7 @@ fn other_counts_are_found() {
 /// What is due counts: a call that waits for the one called, and an invitation that is to be replied to.
 #[test]
 fn beyond_the_calls() {
-    let mut table = Table::start(3);
+    let mut table = Table::start(3, TOWER);
     table.nodes[0].last_call = 5;
     table.traffic.sent[0][1] = 5;
     assert_eq!(beyond_calls(&table), None);

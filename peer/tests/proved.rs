@@ -13,15 +13,15 @@ fn bytes_of(table: &Table) -> TableBytes {
 }
 
 #[test]
-fn a_table_has_4434_bytes() {
-    assert_eq!(TABLE_BYTES, 4434);
-    assert_eq!(COUNTS_AT, 1362);
+fn a_table_has_4436_bytes() {
+    assert_eq!(TABLE_BYTES, 4436);
+    assert_eq!((COUNTS_AT, LIMITS_AT), (1362, 4434));
 }
 
 /// One table byte by byte.
 #[test]
 fn every_place_is_where_it_should_be() {
-    let mut table = Table::start(3);
+    let mut table = Table::start(3, Limits { nodes: 0x61, messages: 0x62 });
     table.nodes[1] = Node {
         status: Status::Normal,
         counter: 0x0001_0203,
@@ -76,7 +76,8 @@ fn every_place_is_where_it_should_be() {
     for (place, count) in counts {
         expected[place - 1362..][..4].copy_from_slice(&count);
     }
-    assert_eq!(bytes[1362..], expected);
+    assert_eq!(bytes[1362..4434], expected);
+    assert_eq!(bytes[4434..], [0x61, 0x62]);
     assert_eq!(table_from_bytes(&bytes), table);
 }
 
@@ -99,7 +100,7 @@ fn every_activity_has_its_bytes() {
         (Accepting { caller: 4, call: 0x0506_0708 }, [8, 0, 0, 0, 0, 0, 4, 5, 6, 7, 8]),
     ];
     for (activity, expected) in cases {
-        let mut table = Table::start(1);
+        let mut table = Table::start(1, TOWER);
         table.nodes[0].activity = activity;
         let bytes = bytes_of(&table);
         assert_eq!(bytes[19..30], expected, "{activity:?}");
@@ -109,7 +110,7 @@ fn every_activity_has_its_bytes() {
 
 #[test]
 fn status_and_activity_are_read_by_their_remainders() {
-    let mut bytes = bytes_of(&Table::start(1));
+    let mut bytes = bytes_of(&Table::start(1, TOWER));
     bytes[1] = 7;
     bytes[19] = 255;
     let node = table_from_bytes(&bytes).nodes[0];
@@ -219,7 +220,7 @@ fn lines_that_fit() {
 
 #[test]
 fn n_and_waiting_out_of_range_come_back() {
-    let mut table = Table::start(17);
+    let mut table = Table::start(17, TOWER);
     table.messages =
         vec![Message { sender: 1, receiver: 2, call: 1, body: Body::AreYouCoordinator }; 65];
     let bytes = bytes_of(&table);

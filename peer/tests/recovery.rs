@@ -3,8 +3,10 @@
 //! purpose. The boundary is that of this program's own machine, and of the proved library where it is
 //! linked.
 
+mod functions;
 mod other_forms;
 
+use functions::Functions;
 use other_forms::in_another_form;
 use peer::compare::{recovery_difference, tell_recovery};
 use peer::fuzzing::Fuzz;
@@ -59,14 +61,14 @@ fn k2_first_recovery() {
         (Reorganization, 1, 16, 1, 0, 1),
         (Normal, 1, 16, 1, 0, 1),
     ];
-    records_are(&Table::start(2), 1, expected);
+    records_are(&Table::start(2, TOWER), 1, expected);
 }
 
 /// K3 and K4: "recover 1 again: 9"; "crash 1, recover 1: group 32". Coordinator, members and task are
 /// already so.
 #[test]
 fn k3_k4_second_recovery() {
-    let mut table = Table::start(2);
+    let mut table = Table::start(2, TOWER);
     step(&mut table, &Recover(1)).unwrap();
     refused(&table, 1, 9);
     step(&mut table, &Crash(1)).unwrap();
@@ -87,7 +89,7 @@ fn k3_k4_second_recovery() {
 /// assignment changes its field.
 #[test]
 fn k5_last_counter() {
-    let mut table = Table::start(16);
+    let mut table = Table::start(16, TOWER);
     let members = only(1) | only(9);
     table.nodes[15] = Node {
         counter: 1_048_574,
@@ -117,7 +119,7 @@ fn k5_last_counter() {
 /// With one node, and a group that is already the one that the recovery forms, which no run has.
 #[test]
 fn one_node() {
-    let mut table = Table::start(1);
+    let mut table = Table::start(1, TOWER);
     table.nodes[0] = Node { counter: 1, group: 32, task: 65_535, ..Node::START };
     let expected = [
         (Election, 1, 32, 0, 0, 65_535),
@@ -138,7 +140,7 @@ fn one_node() {
 /// "Checked from the top; the first that applies is given": 1, 7, 9, 12.
 #[test]
 fn grounds_and_their_order() {
-    let mut table = Table::start(3);
+    let mut table = Table::start(3, TOWER);
     step(&mut table, &Recover(2)).unwrap();
     for i in [0, 4, 16, 17, 255] {
         refused(&table, i, 7);
@@ -160,10 +162,10 @@ fn grounds_and_their_order() {
         refused(&table, i, 1);
     }
     for n in [0, 17, 255] {
-        refused(&Table { n, ..Table::start(1) }, 1, 1);
+        refused(&Table { n, ..Table::start(1, TOWER) }, 1, 1);
     }
     // A counter above its end is out of range, and not its end.
-    let mut table = Table::start(2);
+    let mut table = Table::start(2, TOWER);
     table.nodes[0].counter = MAX_COUNTER + 1;
     refused(&table, 1, 1);
     refused(&table, 2, 1);
@@ -172,13 +174,13 @@ fn grounds_and_their_order() {
 /// Messages do not count: 64 wait, and some are for the node.
 #[test]
 fn messages_do_not_count() {
-    let mut table = Table::start(2);
+    let mut table = Table::start(2, TOWER);
     let body = Body::Reply { yes: true };
     let m = Message { sender: 2, receiver: 1, call: MAX_CALL, body };
     for waiting in [0, 1, 63, 64] {
         table.messages = vec![m; waiting];
         count_waiting(&mut table);
-        assert_eq!(recovery(&table, 1), recovery(&Table::start(2), 1));
+        assert_eq!(recovery(&table, 1), recovery(&Table::start(2, TOWER), 1));
     }
     table.messages = vec![m; 65];
     count_waiting(&mut table);
@@ -188,11 +190,11 @@ fn messages_do_not_count() {
 /// Nor do their counts, as long as they are in range.
 #[test]
 fn counts_do_not_count() {
-    let mut table = Table::start(2);
+    let mut table = Table::start(2, TOWER);
     for lost in [1, MAX_COUNT] {
         table.traffic.sent[0][1] = lost;
         table.traffic.lost[0][1] = lost;
-        assert_eq!(recovery(&table, 1), recovery(&Table::start(2), 1));
+        assert_eq!(recovery(&table, 1), recovery(&Table::start(2, TOWER), 1));
     }
     table.traffic.sent[0][1] = MAX_COUNT - 1;
     refused(&table, 1, 1);
@@ -210,7 +212,7 @@ fn recoveries_inside_other_events() {
     let no = Message { sender: 3, receiver: 1, call: 40, body: Body::Reply { yes: false } };
     for (activity, event) in cases {
         for status in [Election, Reorganization, Normal] {
-            let mut table = Table::start(3);
+            let mut table = Table::start(3, TOWER);
             table.nodes[0] = Node {
                 status,
                 counter: 5,
@@ -264,7 +266,7 @@ fn bytes_of(table: &Table) -> TableBytes {
 /// "the first 232 bytes of out are the eight records (29 bytes each, as in a table's bytes)", by hand, and what
 /// stands behind them stays.
 fn bytes_by_hand(library: &impl Library) {
-    let mut table = Table::start(3);
+    let mut table = Table::start(3, TOWER);
     table.nodes[2] = Node {
         counter: 0x0001_0203,
         group: 0x21,
@@ -301,16 +303,16 @@ fn bytes_by_hand(library: &impl Library) {
 /// "255 stands only for a buffer that is too short, which is looked at first, and is left as it was": whatever
 /// the table and the number are. A refusal leaves it too.
 fn buffers_left_as_they_were(library: &impl Library) {
-    let mut up = Table::start(2);
+    let mut up = Table::start(2, TOWER);
     step(&mut up, &Recover(1)).unwrap();
-    let mut last = Table::start(2);
+    let mut last = Table::start(2, TOWER);
     last.nodes[0].counter = MAX_COUNTER;
-    let wrong = Table { n: 17, ..Table::start(1) };
+    let wrong = Table { n: 17, ..Table::start(1, TOWER) };
     let cases = [
-        (Table::start(2), 1, 0),
+        (Table::start(2, TOWER), 1, 0),
         (wrong, 1, 1),
-        (Table::start(2), 0, 7),
-        (Table::start(2), 3, 7),
+        (Table::start(2, TOWER), 0, 7),
+        (Table::start(2, TOWER), 3, 7),
         (up, 1, 9),
         (last, 1, 12),
     ];
@@ -342,7 +344,7 @@ fn tables_in_other_forms(library: &impl Library) {
         if let Ok(records) = records {
             accepted += 1;
             for (k, record) in records.iter().enumerate() {
-                let mut one = Table::start(1);
+                let mut one = Table::start(1, TOWER);
                 one.nodes[0] = *record;
                 expected[29 * k..29 * (k + 1)].copy_from_slice(&bytes_of(&one)[1..30]);
             }
@@ -351,11 +353,11 @@ fn tables_in_other_forms(library: &impl Library) {
     }
     assert!(accepted > 1000, "{accepted}");
     // What an idle node does not have may be anything, and is 0 in the records.
-    let mut bytes = bytes_of(&Table::start(2));
+    let mut bytes = bytes_of(&Table::start(2, TOWER));
     bytes[20..30].fill(0xff);
     let (mut out, mut plain) = ([0; 232], [0; 232]);
     assert_eq!(library.recovery(&bytes, 1, &mut out), 0);
-    assert_eq!(library.recovery(&bytes_of(&Table::start(2)), 1, &mut plain), 0);
+    assert_eq!(library.recovery(&bytes_of(&Table::start(2, TOWER)), 1, &mut plain), 0);
     assert_eq!(out, plain);
     assert_eq!(library.recovery(&[], 1, &mut out), 1);
     assert_eq!(out, plain);
@@ -411,31 +413,15 @@ fn proved_library() {
 }
 
 /// A library whose records are made by something else.
-struct Records<R>(R);
-
-impl<R: Fn(&[u8], u8, &mut [u8]) -> u8> Library for Records<R> {
-    fn print(&self, list: &[u8], out: &mut [u8]) -> Option<usize> {
-        Own.print(list, out)
-    }
-    fn step(&self, table: &[u8], field: &[u8], out: &mut [u8]) -> u8 {
-        Own.step(table, field, out)
-    }
-    fn fold(&self, list: &[u8]) -> u32 {
-        Own.fold(list)
-    }
-    fn recovery(&self, table: &[u8], node: u8, out: &mut [u8]) -> u8 {
-        (self.0)(table, node, out)
-    }
-    fn bully_step(&self, table: &[u8], field: &[u8], out: &mut [u8]) -> u8 {
-        Own.bully_step(table, field, out)
-    }
+fn records<'a>(recovery: impl Fn(&[u8], u8, &mut [u8]) -> u8 + 'a) -> Functions<'a> {
+    Functions { recovery: Box::new(recovery), ..Functions::default() }
 }
 
 /// How many differences the fuzzer finds, at most five.
 fn found(library: impl Library) -> u64 {
     let mut fuzz = Fuzz::new(library, 1);
     fuzz.go_on(Duration::from_secs(60));
-    fuzz.tell().1
+    fuzz.tell(0).1
 }
 
 /// Libraries that are nearly right at the boundary are found.
@@ -483,7 +469,7 @@ fn wrong_boundaries_are_found() {
             let answer = Own.recovery(table, i, out);
             beside(answer, out, &before)
         };
-        assert!(found(Records(recovery)) > 0, "{name}");
+        assert!(found(records(recovery)) > 0, "{name}");
     }
 }
 
@@ -513,7 +499,7 @@ fn wrong_grounds_are_found() {
             None => recovery(table, i),
         };
         let library =
-            Records(|table: &[u8], i: u8, out: &mut [u8]| recovery_by(recovery, table, i, out));
+            records(|table: &[u8], i: u8, out: &mut [u8]| recovery_by(recovery, table, i, out));
         assert!(found(library) > 0, "{name}");
     }
 }
@@ -541,7 +527,7 @@ fn wrong_records_are_found() {
                 Ok(records)
             };
             let library =
-                Records(|table: &[u8], i: u8, out: &mut [u8]| recovery_by(wrong, table, i, out));
+                records(|table: &[u8], i: u8, out: &mut [u8]| recovery_by(wrong, table, i, out));
             assert!(found(library) > 0, "{name} of record {}", k + 1);
         }
     }
@@ -555,7 +541,7 @@ fn differences_are_told() {
         records[6].task = 100;
         Ok(records)
     };
-    let library = Records(|table: &[u8], i: u8, out: &mut [u8]| recovery_by(wrong, table, i, out));
+    let library = records(|table: &[u8], i: u8, out: &mut [u8]| recovery_by(wrong, table, i, out));
     let mut numbers = Numbers::new(4);
     let mut table = in_range(&mut numbers);
     while table.n != 3 || table.messages.is_empty() {
@@ -565,10 +551,12 @@ fn differences_are_told() {
     let words = tell_recovery(&library, &table, 2, 232, 5);
     let lines: Vec<&str> = words.lines().collect();
     assert_eq!(lines[0], "the records of the recovery of 2, into 232 bytes, on a table, n 3:");
-    for (k, i) in [(1, 1), (2, 2), (3, 3)] {
+    let Limits { nodes, messages } = table.limits;
+    assert_eq!(lines[1], format!("limits {nodes} {messages}"));
+    for (k, i) in [(2, 1), (3, 2), (4, 3)] {
         assert_eq!(lines[k], format!("cabinet {i} 0 0 0 0 0 0 0 idle"));
     }
-    assert_eq!(lines[4], "byte 185 of the buffer is 64, expected: 02");
-    assert_eq!(lines[12], "cabinet 2 2 1 17 2 100 0 0 idle");
-    assert_eq!(lines[21], "cabinet 2 2 1 17 2 2 0 0 idle");
+    assert_eq!(lines[5], "byte 185 of the buffer is 64, expected: 02");
+    assert_eq!(lines[13], "cabinet 2 2 1 17 2 100 0 0 idle");
+    assert_eq!(lines[22], "cabinet 2 2 1 17 2 2 0 0 idle");
 }

@@ -2,7 +2,7 @@
 //! counts and texts, the inputs that are refused, and the program where it can't read or write.
 
 use peer::list::write_event;
-use peer::machine::{step, Event, Table};
+use peer::machine::{step, Event, Table, TOWER};
 use peer::sha256::sha256;
 use peer::short::{alphabet, print, print_lists, read_input, Counts, REFUSAL};
 use peer::vectors::{read_hex, read_sums, read_wrong_inputs, table_text};
@@ -57,7 +57,7 @@ fn tag_and_contents(event: &Event) -> (u8, Vec<u8>) {
 }
 
 fn accepted(n: u8, events: &[Event]) -> bool {
-    let mut table = Table::start(n);
+    let mut table = Table::start(n, TOWER);
     events.iter().all(|event| step(&mut table, event).is_ok())
 }
 
@@ -149,7 +149,7 @@ fn no_other_event_is_accepted() {
 fn too_short_for_ground_18() {
     for n in 1..=3 {
         let events = alphabet(n);
-        let mut tables = vec![Table::start(n)];
+        let mut tables = vec![Table::start(n, TOWER)];
         for length in 0..=if n == 2 { 8 } else { 7 } {
             let refused = |table: &Table| {
                 (1..=n).any(|i| step(&mut table.clone(), &Event::Check(i)) == Err(18))

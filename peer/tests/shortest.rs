@@ -1,8 +1,10 @@
 //! The comparison finds machines that are wrong on purpose, and the search shortens what they show.
 
 mod common;
+mod functions;
 
 use common::{invited_twice, LATE, NODES};
+use functions::Functions;
 use peer::compare::{
     list_difference, run_difference, shortest_run, tell_list, tell_run, tell_walk, walk_difference,
 };
@@ -20,11 +22,11 @@ use Event::*;
 
 /// A machine that may be wrong, behind the boundary of the library. What it sends is counted all the same, so
 /// that it is not found by its counts.
-struct Machine<M>(M);
-
-impl<M: Fn(&mut Table, &Event) -> Result<(), u8>> Machine<M> {
-    fn go(&self, table: &mut Table, event: &Event) -> Result<(), u8> {
-        (self.0)(table, event)?;
+fn library_of<'a>(
+    steps: impl Fn(&mut Table, &Event) -> Result<(), u8> + Copy + 'a,
+) -> Functions<'a> {
+    let go = move |table: &mut Table, event: &Event| {
+        steps(table, event)?;
         let waiting = table.waiting();
         for (a, b) in pairs(table.n) {
             let Traffic { sent, delivered, lost } = &mut table.traffic;
@@ -32,18 +34,15 @@ impl<M: Fn(&mut Table, &Event) -> Result<(), u8>> Machine<M> {
             *count_mut(sent, a, b) = gone + count_of(&waiting, a, b);
         }
         Ok(())
-    }
-}
-
-impl<M: Fn(&mut Table, &Event) -> Result<(), u8>> Library for Machine<M> {
-    fn print(&self, list: &[u8], out: &mut [u8]) -> Option<usize> {
+    };
+    let print = move |list: &[u8], out: &mut [u8]| {
         let Ok(read) = read_list(list) else {
             return Own.print(list, out);
         };
-        let mut table = Table::start(read.n);
+        let mut table = Table::start(read.n, read.limits);
         let mut text = format!("cabinets {}\n", read.n);
         for (k, event) in read.events.iter().enumerate() {
-            if let Err(r) = self.go(&mut table, event) {
+            if let Err(r) = go(&mut table, event) {
                 text += &format!("refused {} {r}\n", k + 1);
             }
         }
@@ -54,31 +53,23 @@ impl<M: Fn(&mut Table, &Event) -> Result<(), u8>> Library for Machine<M> {
         let length = fitting(text.as_bytes(), out.len());
         out[..length].copy_from_slice(&text.as_bytes()[..length]);
         (length == text.len()).then_some(length)
-    }
-
-    fn step(&self, table: &[u8], field: &[u8], out: &mut [u8]) -> u8 {
-        let machine = |table: &mut Table, event: &Event| match table.in_range() {
-            true => self.go(table, event),
+    };
+    let step = move |table: &[u8], field: &[u8], out: &mut [u8]| {
+        let in_range = |table: &mut Table, event: &Event| match table.in_range() {
+            true => go(table, event),
             false => Err(1),
         };
-        step_by(machine, table, field, out)
-    }
-
-    fn fold(&self, list: &[u8]) -> u32 {
+        step_by(in_range, table, field, out)
+    };
+    let fold = move |list: &[u8]| {
         let Ok(list) = read_list(list) else {
             return 0;
         };
-        let mut table = Table::start(list.n);
-        list.events.iter().filter(|event| self.go(&mut table, event).is_ok()).count() as u32
-    }
-
-    fn recovery(&self, table: &[u8], node: u8, out: &mut [u8]) -> u8 {
-        Own.recovery(table, node, out)
-    }
-
-    fn bully_step(&self, table: &[u8], field: &[u8], out: &mut [u8]) -> u8 {
-        Own.bully_step(table, field, out)
-    }
+        let mut table = Table::start(list.n, list.limits);
+        list.events.iter().filter(|event| go(&mut table, event).is_ok()).count() as u32
+    };
+    let (print, step, fold) = (Box::new(print), Box::new(step), Box::new(fold));
+    Functions { print, step, fold, ..Functions::default() }
 }
 
 /// "Clearing the counter at a crash: an old group number returns."
@@ -125,8 +116,8 @@ fn first_difference_of(seed: u64, library: &impl Library) -> (u8, Vec<Event>) {
     let mut numbers = Numbers::new(seed);
     for _ in 0..2000 {
         let n = numbers.between(1, 16) as u8;
-        let events = run(n, 1000, &mut numbers);
-        if run_difference(library, n, &events, None).is_some() {
+        let events = run(n, TOWER, 1000, &mut numbers);
+        if run_difference(library, n, TOWER, &events, None).is_some() {
             return (n, events);
         }
     }
@@ -136,8 +127,8 @@ fn first_difference_of(seed: u64, library: &impl Library) -> (u8, Vec<Event>) {
 /// No event of the result can be taken out.
 fn assert_least(library: &impl Library, n: u8, events: &[Event]) {
     let differs = |events: &[Event]| {
-        run_difference(library, n, events, None).is_some()
-            || list_difference(library, &write_list(n, events)).is_some()
+        run_difference(library, n, TOWER, events, None).is_some()
+            || list_difference(library, &write_list(n, TOWER, events)).is_some()
     };
     assert!(differs(events));
     for k in 0..events.len() {
@@ -165,20 +156,20 @@ fn right_machine_shows_no_difference() {
     let mut numbers = Numbers::new(4);
     for _ in 0..50 {
         let n = numbers.between(1, 16) as u8;
-        let events = run(n, 500, &mut numbers);
+        let events = run(n, TOWER, 500, &mut numbers);
         for machine in [step, advance] {
-            let library = Machine(machine);
-            assert!(run_difference(&library, n, &events, None).is_none());
-            assert_eq!(list_difference(&library, &write_list(n, &events)), None);
+            let library = library_of(machine);
+            assert!(run_difference(&library, n, TOWER, &events, None).is_none());
+            assert_eq!(list_difference(&library, &write_list(n, TOWER, &events)), None);
         }
     }
 }
 
 #[test]
 fn cleared_counter_needs_two_events() {
-    let library = Machine(clears_counter);
+    let library = library_of(clears_counter);
     let (n, events) = first_difference(&library);
-    let (n, events) = shortest_run(&library, n, &events);
+    let (n, events) = shortest_run(&library, n, TOWER, &events);
     assert_eq!((n, events), (1, vec![Recover(1), Crash(1)]));
 }
 
@@ -186,25 +177,25 @@ fn cleared_counter_needs_two_events() {
 /// to a longer one, of which no event can be taken out either.
 #[test]
 fn late_reply_needs_six_events() {
-    let library = Machine(takes_any_reply);
+    let library = library_of(takes_any_reply);
     let found = (5..10).map(|seed| {
         let (n, events) = first_difference_of(seed, &library);
         assert!(events.len() > 100);
-        let (n, events) = shortest_run(&library, n, &events);
+        let (n, events) = shortest_run(&library, n, TOWER, &events);
         assert_least(&library, n, &events);
         (n, events)
     });
     let (n, events) = found.min_by_key(|(_, events)| events.len()).unwrap();
     assert!(events.len() <= 8, "{events:?}");
     assert!(matches!(events.last(), Some(Deliver(..))));
-    println!("{}", tell_run(&library, n, &events));
+    println!("{}", tell_run(&library, n, TOWER, &events));
 }
 
 #[test]
 fn full_too_early_needs_a_long_run() {
-    let library = Machine(full_too_early);
+    let library = library_of(full_too_early);
     let (n, events) = first_difference(&library);
-    let (n, events) = shortest_run(&library, n, &events);
+    let (n, events) = shortest_run(&library, n, TOWER, &events);
     assert_least(&library, n, &events);
     // 63 messages must wait, each sent by an event of its own.
     assert!(events.len() > 63, "{}", events.len());
@@ -214,37 +205,23 @@ fn full_too_early_needs_a_long_run() {
 /// A library that reads the list wrongly: a difference in bytes.
 #[test]
 fn bytes_are_shortened() {
-    struct Reads;
-    impl Library for Reads {
-        fn print(&self, list: &[u8], out: &mut [u8]) -> Option<usize> {
-            // Forgets that 0x01 must be first.
-            let at = list.windows(4).rposition(|w| w == [1, 0, 1, 2]).unwrap_or(0);
-            Own.print(&list[at..], out)
-        }
-        fn step(&self, table: &[u8], field: &[u8], out: &mut [u8]) -> u8 {
-            Own.step(table, field, out)
-        }
-        fn fold(&self, list: &[u8]) -> u32 {
-            Own.fold(list)
-        }
-        fn recovery(&self, table: &[u8], node: u8, out: &mut [u8]) -> u8 {
-            Own.recovery(table, node, out)
-        }
-        fn bully_step(&self, table: &[u8], field: &[u8], out: &mut [u8]) -> u8 {
-            Own.bully_step(table, field, out)
-        }
-    }
-    let mut list = write_list(2, &[Recover(1), Recover(2), Check(2)]);
+    // Forgets that 0x01 must be first.
+    let print = |list: &[u8], out: &mut [u8]| {
+        let at = list.windows(4).rposition(|w| w == [1, 0, 1, 2]).unwrap_or(0);
+        Own.print(&list[at..], out)
+    };
+    let reads = Functions { print: Box::new(print), ..Functions::default() };
+    let mut list = write_list(2, TOWER, &[Recover(1), Recover(2), Check(2)]);
     list.extend([1, 0, 1, 2]);
     list.extend([0x11, 0, 1, 2]);
-    let words = tell_list(&list, |list| list_difference(&Reads, list));
+    let words = tell_list(&list, |list| list_difference(&reads, list));
     assert!(words.starts_with("a list of 5 bytes:"), "{words}");
 }
 
 #[test]
 fn tables_are_shortened() {
-    let library = Machine(full_too_early);
-    let mut table = Table::start(3);
+    let library = library_of(full_too_early);
+    let mut table = Table::start(3, TOWER);
     for i in 1..=3 {
         step(&mut table, &Recover(i)).unwrap();
     }
@@ -255,7 +232,7 @@ fn tables_are_shortened() {
     assert!(walk_difference(&library, &table, &events, Some(7), None).is_some());
     let words = tell_walk(&library, &table, &events, Some(7));
     assert_eq!(words.matches("\nevent ").count(), 2, "{words}");
-    let words = tell_walk(&Machine(clears_counter), &table, &events, None);
+    let words = tell_walk(&library_of(clears_counter), &table, &events, None);
     assert!(!words.contains("message "), "{words}");
     assert!(words.contains("cabinet 2 0 0 0 0 0 0 0 idle"), "{words}");
 }
@@ -265,7 +242,7 @@ fn tables_are_shortened() {
 fn fuzzer_finds_nothing_in_the_right_machine() {
     let mut fuzz = Fuzz::new(Own, 1);
     fuzz.go_on(Duration::from_millis(1500));
-    assert_eq!(fuzz.tell().1, 0);
+    assert_eq!(fuzz.tell(0).1, 0);
 }
 
 /// "Emptying members before they are set aside: old members get no invitation."
@@ -338,9 +315,9 @@ fn fuzzer_finds_wrong_turnings_and_impostors() {
         ("cries 14", |_, _| Err(14)),
     ];
     for (name, machine) in machines {
-        let mut fuzz = Fuzz::new(Machine(machine), 1);
+        let mut fuzz = Fuzz::new(library_of(machine), 1);
         fuzz.go_on(Duration::from_secs(60));
-        assert!(fuzz.tell().1 > 0, "{name}");
+        assert!(fuzz.tell(0).1 > 0, "{name}");
     }
 }
 
@@ -456,9 +433,9 @@ fn wrong_picks_show_in_runs() {
         ("asks the highest first", asks_highest_first, 3),
     ];
     for (name, machine, least) in machines {
-        let library = Machine(machine);
+        let library = library_of(machine);
         let (n, events) = first_difference(&library);
-        let (n, events) = shortest_run(&library, n, &events);
+        let (n, events) = shortest_run(&library, n, TOWER, &events);
         assert!(n >= least, "{name}: n {n}, {events:?}");
         assert_least(&library, n, &events);
     }
@@ -526,22 +503,22 @@ fn joins_again(table: &mut Table, event: &Event) -> Result<(), u8> {
 /// too.
 #[test]
 fn document_01_alone_differs_in_the_story() {
-    let library = Machine(joins_again);
+    let library = library_of(joins_again);
     for given_up in [false, true] {
         let mut events = invited_twice(given_up);
-        assert!(run_difference(&library, NODES, &events, None).is_none());
-        assert_eq!(list_difference(&library, &write_list(NODES, &events)), None);
+        assert!(run_difference(&library, NODES, TOWER, &events, None).is_none());
+        assert_eq!(list_difference(&library, &write_list(NODES, TOWER, &events)), None);
         events.push(LATE);
-        let found = run_difference(&library, NODES, &events, None).unwrap();
+        let found = run_difference(&library, NODES, TOWER, &events, None).unwrap();
         assert_eq!(found.events, events.len(), "{}", found.words);
-        assert!(list_difference(&library, &write_list(NODES, &events)).is_some());
+        assert!(list_difference(&library, &write_list(NODES, TOWER, &events)).is_some());
     }
 }
 
 /// The n of the shortest run found that shows a wrong machine; it ends with a delivery.
 fn least_nodes(name: &str, library: &impl Library) -> u8 {
     let (n, events) = first_difference(library);
-    let (n, events) = shortest_run(library, n, &events);
+    let (n, events) = shortest_run(library, n, TOWER, &events);
     assert!(matches!(events.last(), Some(Deliver(..))), "{name}: {events:?}");
     assert_least(library, n, &events);
     n
@@ -559,7 +536,7 @@ fn misread_tests_show_in_runs() {
     ];
     for (name, misread) in misreadings {
         let machine = |table: &mut Table, event: &Event| misreads(table, event, misread);
-        least_nodes(name, &Machine(machine));
+        least_nodes(name, &library_of(machine));
     }
 }
 
@@ -588,7 +565,7 @@ fn misread_answers_show_in_runs() {
     ];
     for (name, beside) in answered {
         let machine = |table: &mut Table, event: &Event| answers(table, event, beside);
-        assert!(least_nodes(name, &Machine(machine)) >= 3, "{name}");
+        assert!(least_nodes(name, &library_of(machine)) >= 3, "{name}");
     }
 }
 
@@ -601,47 +578,34 @@ fn misread_tests_show_in_tables() {
         ("call left", |node, _, group| node.group == group && node.last_call == MAX_CALL),
     ];
     for (name, misread) in misreadings {
-        let library = Machine(|table: &mut Table, event: &Event| misreads(table, event, misread));
+        let library =
+            library_of(|table: &mut Table, event: &Event| misreads(table, event, misread));
         let mut numbers = Numbers::new(6);
         for _ in 0..300 {
             let n = numbers.between(2, 6) as u8;
-            let events = run(n, 1000, &mut numbers);
-            assert!(run_difference(&library, n, &events, None).is_none(), "{name}");
+            let events = run(n, TOWER, 1000, &mut numbers);
+            assert!(run_difference(&library, n, TOWER, &events, None).is_none(), "{name}");
         }
         let mut fuzz = Fuzz::new(library, 1);
         fuzz.go_on(Duration::from_secs(60));
-        assert!(fuzz.tell().1 > 0, "{name}");
+        assert!(fuzz.tell(0).1 > 0, "{name}");
     }
 }
 
 /// "one that prints a member count out of thin air"
 #[test]
 fn fuzzer_finds_wrong_count() {
-    struct Prints;
-    impl Library for Prints {
-        fn print(&self, list: &[u8], out: &mut [u8]) -> Option<usize> {
-            let length = Own.print(list, out)?;
-            // The last node's count stands before `messages`.
-            let end = out[..length].windows(10).rposition(|words| words == b"\nmessages ");
-            if let Some(place) = end {
-                out[place - 1] = b'7';
-            }
-            Some(length)
+    let print = |list: &[u8], out: &mut [u8]| {
+        let length = Own.print(list, out)?;
+        // The last node's count stands before `messages`.
+        let end = out[..length].windows(10).rposition(|words| words == b"\nmessages ");
+        if let Some(place) = end {
+            out[place - 1] = b'7';
         }
-        fn step(&self, table: &[u8], field: &[u8], out: &mut [u8]) -> u8 {
-            Own.step(table, field, out)
-        }
-        fn fold(&self, list: &[u8]) -> u32 {
-            Own.fold(list)
-        }
-        fn recovery(&self, table: &[u8], node: u8, out: &mut [u8]) -> u8 {
-            Own.recovery(table, node, out)
-        }
-        fn bully_step(&self, table: &[u8], field: &[u8], out: &mut [u8]) -> u8 {
-            Own.bully_step(table, field, out)
-        }
-    }
-    let mut fuzz = Fuzz::new(Prints, 1);
+        Some(length)
+    };
+    let prints = Functions { print: Box::new(print), ..Functions::default() };
+    let mut fuzz = Fuzz::new(prints, 1);
     fuzz.go_on(Duration::from_secs(60));
-    assert!(fuzz.tell().1 > 0);
+    assert!(fuzz.tell(0).1 > 0);
 }

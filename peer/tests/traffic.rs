@@ -3,6 +3,7 @@
 //! purpose. The boundary is that of this program's own machine, and of the proved library where it is
 //! linked.
 
+mod functions;
 mod wrong_libraries;
 
 use peer::compare::{list_difference, run_difference, walk_difference};
@@ -16,7 +17,7 @@ use peer::proved::*;
 use peer::tables::in_range;
 use peer::traffic_corners::{need, BROKEN, WAYS};
 use peer::traffic_tables::{break_counts, count_waiting, pairs, raise_to_calls, to_send};
-use wrong_libraries::{found, Steps, Texts};
+use wrong_libraries::{found, steps, texts};
 use Event::*;
 
 fn message(sender: u8, receiver: u8, call: u32, body: Body) -> Message {
@@ -25,7 +26,7 @@ fn message(sender: u8, receiver: u8, call: u32, body: Body) -> Message {
 
 /// A table of n nodes that have each recovered once.
 fn recovered(n: u8) -> Table {
-    let mut table = Table::start(n);
+    let mut table = Table::start(n, TOWER);
     for i in 1..=n {
         step(&mut table, &Recover(i)).unwrap();
     }
@@ -58,7 +59,7 @@ fn refused(table: &Table, event: Event, number: u8) {
 /// K10's first events, and two that lose a message, with the counts after each.
 #[test]
 fn counts_of_a_run() {
-    let mut table = Table::start(2);
+    let mut table = Table::start(2, TOWER);
     let there = |sent: u32, delivered: u32, lost: u32| (2, 1, [sent, delivered, lost]);
     let back = |sent: u32, delivered: u32, lost: u32| (1, 2, [sent, delivered, lost]);
     let rows = [
@@ -89,7 +90,7 @@ fn counts_of_a_run() {
 #[test]
 fn printed_totals() {
     let events = [Recover(1), Check(1), Lose(1, 2), Expire(1), Check(1), Recover(3), Deliver(1, 2)];
-    let list = write_list(3, &events);
+    let list = write_list(3, TOWER, &events);
     let nodes = "1 3 1 16 1 1 0\n2 0 0 0 0 0 0\n3 3 3 18 3 1 0\nmessages 1\nsent 2\ndelivered 0\n";
     let text = format!("cabinets 3\nrefused 5 10\nrefused 7 9\n{nodes}lost 1\n");
     assert_eq!(String::from_utf8(run_list(&list)).unwrap(), text);
@@ -110,13 +111,13 @@ fn totals_of_any_table() {
         let at = text.find("sent ").unwrap();
         text[at..].to_string()
     };
-    let mut table = Table::start(16);
+    let mut table = Table::start(16, TOWER);
     for pair in pairs(16) {
         set(&mut table, pair, [MAX_COUNT, 1, MAX_COUNT - 1]);
     }
     assert!(table.in_range());
     assert_eq!(last(&table), "sent 8053063200\ndelivered 240\nlost 8053062960\n");
-    let mut table = Table::start(1);
+    let mut table = Table::start(1, TOWER);
     set(&mut table, (1, 1), [u32::MAX, u32::MAX, 4_000_000_000]);
     set(&mut table, (16, 16), [0, 1, 294_967_296]);
     assert_eq!(last(&table), "sent 4294967295\ndelivered 4294967296\nlost 4294967296\n");
@@ -355,26 +356,28 @@ fn bytes_of(table: &Table) -> TableBytes {
     bytes
 }
 
-/// A table as it was before T-05, of 1,362 bytes: in range where no message waits; where one does, the zeros
-/// that are read as its counts put it out of range.
-fn tables_of_the_older_form(library: &impl Library) {
+/// A table as it was before T-05, of 1,362 bytes, with zeros for counts: in range where no message waits; where
+/// one does, they put it out of range.
+fn tables_without_counts(library: &impl Library) {
     let field = |event: Event| {
         let mut field = Vec::new();
         write_event(&mut field, &event);
         field
     };
-    let mut table = Table::start(2);
-    let answers = |table: &Table, length: usize| {
-        let given = &bytes_of(table)[..length];
+    let mut table = Table::start(2, TOWER);
+    // The counts are zeros from this byte on.
+    let answers = |table: &Table, from: usize| {
+        let mut given = bytes_of(table);
+        given[from..LIMITS_AT].fill(0);
         let mut out = [0; TABLE_BYTES];
-        let step = library.step(given, &field(Recover(1)), &mut out);
-        (step, library.recovery(given, 1, &mut out))
+        let step = library.step(&given, &field(Recover(1)), &mut out);
+        (step, library.recovery(&given, 1, &mut out))
     };
     assert_eq!(answers(&table, 1362), (0, 0));
     table.messages.push(message(2, 1, 1, Body::AreYouCoordinator));
     count_waiting(&mut table);
     assert_eq!(answers(&table, 1362), (1, 1));
-    assert_eq!(answers(&table, TABLE_BYTES), (0, 0));
+    assert_eq!(answers(&table, LIMITS_AT), (0, 0));
     // Sent to 1 by 2 is the seventeenth count; its last byte stands at 1,429.
     assert_eq!(answers(&table, 1429), (1, 1));
     assert_eq!(answers(&table, 1430), (0, 0));
@@ -397,11 +400,12 @@ fn counts_in_bytes(library: &impl Library) {
     assert_eq!(four(at(0, 2, 3)), MAX_COUNT);
     assert_eq!(four(at(1, 2, 3)), 0);
     assert_eq!(four(at(2, 2, 3)), MAX_COUNT - 1);
-    assert_eq!(out[1362..].iter().filter(|&&byte| byte != 0).count(), 4 + 4 + 1 + 4 + 4);
+    let counts = &out[1362..LIMITS_AT];
+    assert_eq!(counts.iter().filter(|&&byte| byte != 0).count(), 4 + 4 + 1 + 4 + 4);
 }
 
 fn boundary(library: &impl Library) {
-    tables_of_the_older_form(library);
+    tables_without_counts(library);
     counts_in_bytes(library);
 }
 
@@ -464,11 +468,11 @@ fn miscounts_show_in_runs() {
             miscount(event, &before, &mut table.traffic);
             Ok(())
         };
-        let library = Steps(machine);
+        let library = steps(machine);
         let mut numbers = Numbers::new(4);
         let shows = (0..50).any(|_| {
-            let events = peer::drive::run(3, 300, &mut numbers);
-            run_difference(&library, 3, &events, None).is_some()
+            let events = peer::drive::run(3, TOWER, 300, &mut numbers);
+            run_difference(&library, 3, TOWER, &events, None).is_some()
         });
         assert!(shows, "{name}");
     }
@@ -532,7 +536,7 @@ fn wrong_grounds_are_found() {
             *table = after;
             Ok(())
         };
-        assert!(found(Steps(machine)) > 0, "{name}");
+        assert!(found(steps(machine)) > 0, "{name}");
     }
     // No ground 17 at all, in each way of sending.
     for (way, name) in WAYS {
@@ -552,7 +556,7 @@ fn wrong_grounds_are_found() {
             *table = other;
             Ok(())
         };
-        assert!(found(Steps(machine)) > 0, "{name}");
+        assert!(found(steps(machine)) > 0, "{name}");
     }
 }
 
@@ -641,7 +645,7 @@ fn forgotten_rules_are_found() {
             *table = seen;
             Ok(())
         };
-        assert!(found(Steps(machine)) > 0, "{name}");
+        assert!(found(steps(machine)) > 0, "{name}");
     }
 }
 
@@ -660,8 +664,8 @@ fn wrong_totals_are_found() {
     fn lines(waiting: u64, [sent, delivered, lost]: [u64; 3]) -> String {
         format!("messages {waiting}\nsent {sent}\ndelivered {delivered}\nlost {lost}\n")
     }
-    let list = write_list(2, &[Recover(1), Recover(2), Check(2), Deliver(2, 1), Lose(1, 2)]);
-    let difference = |last: Last| list_difference(&Texts(|list: &[u8]| text_by(last, list)), &list);
+    let list = write_list(2, TOWER, &[Recover(1), Recover(2), Check(2), Deliver(2, 1), Lose(1, 2)]);
+    let difference = |last: Last| list_difference(&texts(|list| text_by(last, list)), &list);
     assert_eq!(difference(lines), None);
     let wrong: [Last; 6] = [
         |waiting, _| format!("messages {waiting}\n"),
@@ -692,7 +696,7 @@ fn differences_are_told() {
         table = in_range(&mut numbers);
     }
     let m = table.messages[9];
-    let library = Steps(machine);
+    let library = steps(machine);
     let events = [Lose(m.sender, m.receiver)];
     assert!(walk_difference(&library, &table, &events, None, None).is_some());
     let words = peer::compare::tell_walk(&library, &table, &events, None);

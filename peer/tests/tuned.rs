@@ -7,8 +7,9 @@ use common::{invited_twice, LATE, NODES};
 use peer::compare::printed_difference;
 use peer::damage::damage;
 use peer::drive::{full_run, run, FULL, QUIET, REFUSED};
+use peer::limit_tables::any_limits;
 use peer::list::{write_list, MAX_LIST};
-use peer::machine::Event;
+use peer::machine::{Event, STAND, TOWER};
 use peer::numbers::Numbers;
 use peer::print::run_list;
 use peer::proved::Own;
@@ -33,8 +34,9 @@ fn assert_same(list: &[u8]) {
 fn random_runs_and_damaged_lists() {
     let mut numbers = Numbers::new(11);
     for k in 0..3000 {
-        let n = numbers.between(1, 16) as u8;
-        let list = write_list(n, &run(n, 20 + k % 400, &mut numbers));
+        let limits = any_limits(&mut numbers);
+        let n = numbers.between(1, u32::from(limits.nodes)) as u8;
+        let list = write_list(n, limits, &run(n, limits, 20 + k % 400, &mut numbers));
         assert_same(&list);
         for _ in 0..4 {
             let mut damaged = list.clone();
@@ -47,9 +49,12 @@ fn random_runs_and_damaged_lists() {
 #[test]
 fn full_lists() {
     let mut numbers = Numbers::new(12);
-    for n in 1..=16 {
-        for manner in [&QUIET, &FULL, &REFUSED] {
-            assert_same(&write_list(n, &full_run(n, manner, &mut numbers)));
+    for limits in [TOWER, STAND] {
+        for n in 1..=limits.nodes {
+            for manner in [&QUIET, &FULL, &REFUSED] {
+                let events = full_run(n, limits, manner, &mut numbers);
+                assert_same(&write_list(n, limits, &events));
+            }
         }
     }
 }
@@ -57,7 +62,7 @@ fn full_lists() {
 /// The most events that a list can have, all of them refused: the longest text.
 #[test]
 fn most_events() {
-    let list = write_list(16, &vec![Event::Crash(16); (MAX_LIST - 4) / 4]);
+    let list = write_list(16, TOWER, &vec![Event::Crash(16); (MAX_LIST - 4) / 4]);
     assert_eq!(list.len(), MAX_LIST);
     assert_same(&list);
     assert!(String::from_utf8(printed(&list)).unwrap().contains("\nrefused 16383 9\n"));
@@ -68,7 +73,7 @@ fn most_events() {
 fn every_event_after_a_run() {
     let mut numbers = Numbers::new(13);
     for n in 1..=16 {
-        let list = write_list(n, &run(n, 200, &mut numbers));
+        let list = write_list(n, TOWER, &run(n, TOWER, 200, &mut numbers));
         for tag in 0x10..=0x18 {
             for i in [0, 1, 2, n - 1, n, n + 1, 16, 17, 18, 32, 33, 255] {
                 for j in [0, 1, 2, n - 1, n, n + 1, 16, 17, 18, 32, 33, 255] {
@@ -91,7 +96,8 @@ fn every_event_after_a_run() {
 /// A list cut after each of its bytes, and every tag and length as its second field.
 #[test]
 fn every_cut_and_every_field() {
-    let list = write_list(2, &[Event::Recover(1), Event::Finish(1, 100), Event::Deliver(1, 2)]);
+    let list =
+        write_list(2, TOWER, &[Event::Recover(1), Event::Finish(1, 100), Event::Deliver(1, 2)]);
     for length in 0..=list.len() {
         assert_same(&list[..length]);
     }
@@ -105,7 +111,11 @@ fn every_cut_and_every_field() {
             }
         }
         assert_same(&[&list[..4], &[tag, 1, 1, 1]].concat());
-        assert_same(&[1, 0, 1, tag]);
+        for first in 0..=3 {
+            assert_same(&[first, 0, 1, tag]);
+            assert_same(&[first, 0, 2, 1, tag]);
+            assert_same(&[first, 0, 1, 2, tag, 0, 1, 2]);
+        }
     }
     for length in [MAX_LIST - 1, MAX_LIST, MAX_LIST + 1, 200_000] {
         let mut long = list.clone();
@@ -118,8 +128,8 @@ fn every_cut_and_every_field() {
 fn every_room() {
     let mut numbers = Numbers::new(14);
     let lists = [
-        write_list(2, &[Event::Recover(2); 120]),
-        write_list(16, &run(16, 150, &mut numbers)),
+        write_list(2, TOWER, &[Event::Recover(2); 120]),
+        write_list(16, TOWER, &run(16, TOWER, 150, &mut numbers)),
         vec![],
         vec![1, 0, 1, 17],
     ];
@@ -187,7 +197,7 @@ fn higher_numbers_first() {
         "cabinets 5\n{refused}1 3 4 35 100 1 0\n2 3 4 35 100 1 0\n3 2 5 36 100 1 0\n\
          4 1 5 36 100 2 3\n5 1 5 36 5 2 1\n{totals}"
     );
-    let list = write_list(5, &events);
+    let list = write_list(5, TOWER, &events);
     assert_eq!(String::from_utf8(printed(&list)).unwrap(), text);
     assert_eq!(String::from_utf8(run_list(&list)).unwrap(), text);
 }
@@ -198,7 +208,7 @@ fn higher_numbers_first() {
 fn invited_twice_as_text() {
     use Event::*;
     let text = |events: &[Event]| {
-        let list = write_list(NODES, events);
+        let list = write_list(NODES, TOWER, events);
         assert_same(&list);
         String::from_utf8(printed(&list)).unwrap()
     };

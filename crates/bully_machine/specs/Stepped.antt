@@ -31,7 +31,7 @@ startingTable n = record { n = n; nodes = replicate nodeLimit startingNode }
 -- What `starting` answers for n, and the table that it returns, also where it refuses n.
 pub record Begun (n : ℕ) (r : Start) : Type 0 where
   -- refusal 6 of 01, "n outside 1 to 16", or none; 02 has no number of its own for it
-  pub answer : startNumber (r .answer) ≡ pick (wrongCount n) 6 0
+  pub answer : startNumber (r .answer) ≡ pick (wrongCount nodeLimit n) 6 0
   -- the table in all its places
   pub exact : r .table ≡ startingTable n
   -- so it is the model's

@@ -62,7 +62,7 @@ pub fn starting(n: u8) -> Start
     ensures { λ r. ⌜ Begun n r ⌝ }
 {
     Start {
-        answer: predicates::start_answer(n),
+        answer: predicates::start_answer(16, n),
         table: blank(n),
     }
 }

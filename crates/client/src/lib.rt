@@ -5,17 +5,19 @@ pub use bully::agreed;
 ghost use mathlib.Core.Path.{_≡_};
 ghost use mathlib.Core.List.{[], _∷_};
 ghost use Rattle.model.specs.Counts.{rowsOf};
+ghost use Rattle.model.specs.Range.{TwoPairs};
 ghost use Rattle.model.specs.Traffic.{lostIn};
 ghost use Rattle.client.specs.Fixed.{Twice};
 use model::Event;
+use model::Limits;
 use model::Outcome;
 
-// Two events from the starting table of n nodes, by value: the answer to the second and the table are the model's, and a Normal node's task is the one that the
+// Two events from the starting table of n nodes with these limits, by value: the answer to the second and the table are the model's, and a Normal node's task is the one that the
 // list fixed for its group.
-pub fn stepped(n: u8, a: Event, b: Event) -> Outcome
-    ensures { λ r. ⌜ Twice n a b r ⌝ }
+pub fn stepped(n: u8, limits: Limits, a: Event, b: Event) -> Outcome
+    ensures { λ r. ⌜ Twice n limits a b r ⌝ }
 {
-    let s = machine::starting(n);
+    let s = machine::starting(n, limits);
     let t = s.table;
     let o = machine::step(t, a);
     let u = o.table;
@@ -23,21 +25,21 @@ pub fn stepped(n: u8, a: Event, b: Event) -> Outcome
 }
 
 // The same in place.
-pub fn applied(n: u8, a: Event, b: Event) -> Outcome
-    ensures { λ r. ⌜ Twice n a b r ⌝ }
+pub fn applied(n: u8, limits: Limits, a: Event, b: Event) -> Outcome
+    ensures { λ r. ⌜ Twice n limits a b r ⌝ }
 {
-    let s = machine::starting(n);
+    let s = machine::starting(n, limits);
     let t = s.table;
     let o = session::stepped_in_place(t, a);
     let u = o.table;
     session::stepped_in_place(u, b)
 }
 
-// T-05, "which cable drops messages": how many were lost in three events from the starting table of n nodes, a row for each sender. It is what the events say.
-pub fn lost_rows(n: u8, a: Event, b: Event, c: Event) -> [[u32; 16]; 16]
-    ensures { λ r. ⌜ r ≡ rowsOf (lostIn n (a ∷ b ∷ c ∷ [])) ⌝ }
+// T-05, "which cable drops messages": how many were lost in three events from the starting table of n nodes with these limits, a row for each sender. It is what the events say.
+pub fn lost_rows(n: u8, limits: Limits, a: Event, b: Event, c: Event) -> [[u32; 16]; 16]
+    ensures { λ r. ⌜ r ≡ rowsOf (lostIn TwoPairs n limits (a ∷ b ∷ c ∷ [])) ⌝ }
 {
-    let o = stepped(n, a, b);
+    let o = stepped(n, limits, a, b);
     let t = o.table;
     let last = machine::step(t, c);
     let u = last.table;

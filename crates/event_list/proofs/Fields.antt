@@ -17,7 +17,7 @@ use Rattle.event_list.specs.declared.Field.the-variants as Field
 use Rattle.event_list.specs.declared.Next.the-variants as Next
 use Rattle.event_list.specs.declared.First.the-variants as First
 use Rattle.event_list.specs.Format.{maxBytes, between, twoBytes, tagAt, lengthAt, contentsAt, behind, cutShort, fieldAt, checked, nextAt, firstOf}
-use Rattle.event_list.specs.Parts.{sized, decoded, firstIn}
+use Rattle.event_list.specs.Parts.{sized, decoded, countedIn, firstIn}
 
 -- What cannot lie between two ends does not.
 pub not-between : (a b x : ℕ) → (a ≤ x → x ≤ b → ⊥) → between a b x ≡ false
@@ -112,7 +112,7 @@ module _ (l : List ℕ) where
     first-empty z = first-short (cut-empty l z)
 
     pub first-whole : (t s e : ℕ) → Found l 0 t s e → firstOf l ≡ firstIn t (take (e - s) (drop s l))
-    unfolding firstOf checked firstIn pick
+    unfolding firstOf checked countedIn firstIn pick
     first-whole t s e f = rw (le-ltb maxBytes (length l) h, f .uncut, own-part l 0 t s e f, own-length l 0 t s e f, f .tag)
 
 -- ── bytes behind a field that is there whole ──

@@ -7,15 +7,17 @@ use mathlib.Core.List.{List}
 use lib.ListN.{length, getD}
 use lib.Dec.{eqb, leb, ltb}
 use borrow.Author.Tests.{le-leb, leb-true, leb-false, ltb-false, eqb-true, eqb-false, not-false}
-use Rattle.model.specs.Limits.{nodeLimit}
+use Rattle.model.specs.Range.{TwoPairs, isTowerOrStand, isWithinTower}
+use Rattle.model.specs.Claims.{MayStart}
 use Rattle.model.specs.Pick.{pick, by-test}
+use Rattle.model.specs.declared.Limits.{Limits}
 use Rattle.model.specs.declared.Event.{Event}
 use Rattle.event_list.specs.declared.Stop.{Stop}
 use Rattle.event_list.specs.declared.Next.{Next}
 use Rattle.event_list.specs.declared.Next.the-variants as Next
 use Rattle.event_list.specs.declared.First.{First}
 use Rattle.event_list.specs.declared.First.the-variants as First
-use Rattle.event_list.specs.Format.{maxBytes, between, tagAt, lengthAt, contentsAt, behind, firstTag, eventTag, lengthOf, cutShort, checked, nextAt, nodesOf, firstOf, Ending, complete, stopped, ended, after, onward, readFrom, rest, failed, begun, reading}
+use Rattle.event_list.specs.Format.{maxBytes, between, tagAt, lengthAt, contentsAt, behind, firstTag, eventTag, lengthOf, cutShort, checked, nextAt, limitsOf, nodesOf, firstOf, Ending, complete, stopped, ended, after, onward, readFrom, rest, failed, begun, reading}
 use Rattle.event_list.specs.Claims.{ReadsAll}
 use Rattle.event_list.proofs.Fields.{uncut, next-end}
 
@@ -52,9 +54,9 @@ some-length t h k =
         let z = above 0x17 0x18 t f y in
         absurd (omega arith)
 
-one-length : lengthOf 0x01 ≡ 1
+one-length : (t : ℕ) → firstTag t ≡ true → lengthOf t ≡ 1
 unfolding lengthOf pick
-one-length = refl
+one-length t h = rw h
 
 -- what is known of where the next field starts
 abbrev Past : List ℕ → ℕ → Next → Type 0
@@ -80,11 +82,21 @@ past-at l at =
 -- what is known of a list whose first field is good
 abbrev Good : List ℕ → First → Type 0
 Good l (First.Stopped s) = Unit {0}
-Good l (First.Nodes n) = (behind l 0 ≡ 4) × (4 ≤ length l) × (length l ≤ maxBytes) × (1 ≤ n) × (n ≤ nodeLimit)
+Good l (First.Nodes n lim) = (behind l 0 ≡ 4) × (4 ≤ length l) × (length l ≤ maxBytes) × MayStart TwoPairs n lim
 
-good-nodes : (l : List ℕ) (n : ℕ) → behind l 0 ≡ 4 → 4 ≤ length l → length l ≤ maxBytes → Good l (nodesOf n)
+-- the limits that a tag gives are one of the two pairs
+given-pair : (t : ℕ) → (isWithinTower (limitsOf t) ≡ true) × (isTowerOrStand (limitsOf t) ≡ true)
+unfolding limitsOf
+given-pair t = by-test (λ (lim : Limits). (isWithinTower lim ≡ true) × (isTowerOrStand lim ≡ true)) (λ e. (refl, refl)) (λ e. (refl, refl))
+
+good-nodes : (l : List ℕ) (t n : ℕ) → behind l 0 ≡ 4 → 4 ≤ length l → length l ≤ maxBytes → Good l (nodesOf (limitsOf t) n)
 unfolding nodesOf
-good-nodes l n a b d = by-test (Good l) (λ e. let k = within 1 nodeLimit n e in (a, b, d, k .0, k .1)) (λ e. tt)
+good-nodes l t n a b d =
+    by-test (Good l)
+    (λ e. tt)
+    (λ e.
+    let k = within 1 (limitsOf t .nodes) n (not-false _ e) in
+    (a, b, d, record { within = given-pair t .0; pair = given-pair t .1; low = k .0; high = k .1 }))
 
 good-of : (l : List ℕ) → Good l (firstOf l)
 unfolding firstOf checked
@@ -94,13 +106,12 @@ good-of l =
     (λ m. by-test (Good l) (λ u. tt) (λ u. by-test (Good l) (λ t. tt) (λ t. by-test (Good l) (λ w. tt) (λ w. whole m u t w))))
   where
     whole : ltb maxBytes (length l) ≡ false → cutShort l 0 ≡ false → not (firstTag (tagAt l 0)) ≡ false → not (eqb (lengthAt l 0) (lengthOf (tagAt l 0))) ≡ false →
-        Good l (nodesOf (getD (contentsAt l 0) 0 0))
+        Good l (nodesOf (limitsOf (tagAt l 0)) (getD (contentsAt l 0) 0 0))
     whole m u t w =
-        let k = eqb-true (tagAt l 0) 0x01 (not-false _ t) in
         let e = eqb-true (lengthAt l 0) (lengthOf (tagAt l 0)) (not-false _ w) in
-        let o : lengthAt l 0 ≡ 1 = e ∙ rw k one-length in
+        let o : lengthAt l 0 ≡ 1 = e ∙ one-length (tagAt l 0) (not-false _ t) in
         let h = uncut l 0 u in
-        good-nodes l _ (omega arith) (omega arith) (ltb-false maxBytes (length l) m)
+        good-nodes l (tagAt l 0) _ (omega arith) (omega arith) (ltb-false maxBytes (length l) m)
 
 -- Any two counts of fields that are not below the bytes left read the same.
 pub enough : (j k : ℕ) (l : List ℕ) (at : ℕ) → length l ≤ at + j → length l ≤ at + k → readFrom j l at ≡ readFrom k l at
@@ -150,17 +161,17 @@ module _ (l : List ℕ) {x : First} (i : x ≡ firstOf l) where
   unfolding reading
   reading-failed f = rw (← i, f)
 
-  module _ {n : ℕ} (f : x ≡ First.Nodes n) where
-    good : (behind l 0 ≡ 4) × (4 ≤ length l) × (length l ≤ maxBytes) × (1 ≤ n) × (n ≤ nodeLimit)
-    good = let w : firstOf l ≡ First.Nodes n = sym i ∙ f in rw w at (good-of l)
+  module _ {n : ℕ} {lim : Limits} (f : x ≡ First.Nodes n lim) where
+    good : (behind l 0 ≡ 4) × (4 ≤ length l) × (length l ≤ maxBytes) × MayStart TwoPairs n lim
+    good = let w : firstOf l ≡ First.Nodes n lim = sym i ∙ f in rw w at (good-of l)
 
     -- The first field takes four bytes.
-    pub reading-begun : reading l ≡ begun n (rest l 4)
+    pub reading-begun : reading l ≡ begun n lim (rest l 4)
     unfolding reading
     reading-begun = rw (← i, f, good .0)
 
-    pub first-good : (4 ≤ length l) × (length l ≤ maxBytes) × (1 ≤ n) × (n ≤ nodeLimit)
-    first-good = (good .1, good .2, good .3, good .4)
+    pub first-good : (4 ≤ length l) × (length l ≤ maxBytes) × MayStart TwoPairs n lim
+    first-good = (good .1, good .2, good .3)
 
 -- Each event takes four bytes or more, so there are few: a bound for what is printed.
 few-events : (k : ℕ) (l : List ℕ) (at : ℕ) → at ≤ length l → at + 4 * length (readFrom k l at .events) ≤ length l

@@ -1,11 +1,13 @@
--- What a list of bytes means, after 01's "The list and the printed table" and "Where each refusal is met". Each definition quotes the words it stands for.
+-- What a list of bytes means, after 01's "The list and the printed table" and "Where each refusal is met", and T-08. Each definition quotes the words it stands for.
 use mathlib.Core.Bool.{Bool, not, _&&_, _||_}
 use mathlib.Core.List.{List, [], _∷_}
 use Prim.Native.Nat.{ℕ, zero, suc, _+_, _-_, _*_}
 use lib.ListN.{length, getD, take, drop}
 use lib.Dec.{eqb, leb, ltb}
-use Rattle.model.specs.Limits.{nodeLimit}
+use Rattle.model.specs.Limits.{tower, stand}
 use Rattle.model.specs.Pick.{pick}
+use Rattle.model.specs.State.{wrongCount}
+use Rattle.model.specs.declared.Limits.{Limits}
 use Rattle.model.specs.declared.TaskNo.{TaskNo}
 use Rattle.model.specs.declared.Event.{Event}
 use Rattle.model.specs.declared.Event.the-variants.{Crash, Recover, Check, Timeout, Tick, Expire, Finish, Deliver, Lose}
@@ -54,9 +56,13 @@ contentsAt l at = take (lengthAt l at) (drop (at + 3) l)
 abbrev pub behind : List ℕ → ℕ → ℕ
 behind l at = at + 3 + lengthAt l at
 
--- "First field: 0x01"
+-- "First field: 0x01"; T-08: "Ground 4 lets 0x02 stand first as well, and nowhere else."
 abbrev pub firstTag : ℕ → Bool
-firstTag t = eqb t 0x01
+firstTag t = eqb t 0x01 || eqb t 0x02
+
+-- the limits that a first tag gives. T-08: "A list meant for the stand gives them by a first tag of 0x02 instead of 0x01, with the same byte n." Other tags meet 4 before this is read.
+unfoldable pub limitsOf : ℕ → Limits
+limitsOf t = pick (eqb t 0x01) tower stand
 
 -- "Then events: 0x10 crash" to "0x18 lose"
 abbrev pub eventTag : ℕ → Bool
@@ -65,7 +71,7 @@ eventTag t = between 0x10 0x18 t
 -- the length that goes with a tag: "one byte n", "each one byte i", "i and a two-byte task", "sender and receiver"
 unfoldable pub lengthOf : ℕ → ℕ
 lengthOf t =
-    pick (eqb t 0x01) 1
+    pick (firstTag t) 1
     (pick (between 0x10 0x15 t) 1
     (pick (eqb t 0x16) 3
     (pick (between 0x17 0x18 t) 2
@@ -87,7 +93,7 @@ unfoldable pub checked : {A : Type 0} → (ℕ → Bool) → (ℕ → ℕ) → L
 checked fits long l at stop good =
     -- 3
     pick (cutShort l at) (stop CutShort)
-    -- 4: "unknown tag, 0x01 not first, or another tag first"
+    -- 4: "unknown tag, 0x01 not first, or another tag first", and 0x02 as 0x01
     (pick (not (fits (tagAt l at))) (stop WrongTag)
     -- 5: "length wrong for the tag"
     (pick (not (eqb (lengthAt l at) (long (tagAt l at)))) (stop WrongLength)
@@ -116,15 +122,15 @@ nextAt l at =
     pick (leb (length l) at) Next.Done
     (checked eventTag lengthOf l at Next.Stopped (Next.Got (eventOf (tagAt l at) (contentsAt l at)) (behind l at)))
 
--- ground 6: "n outside 1 to 16"
-unfoldable pub nodesOf : ℕ → First
-nodesOf n = pick (between 1 nodeLimit n) (First.Nodes n) (First.Stopped WrongCount)
+-- ground 6: "n outside 1 to 16"; T-08: "Grounds 1, 6 and 14 read the table's own limits."
+unfoldable pub nodesOf : Limits → ℕ → First
+nodesOf lim n = pick (wrongCount (lim .nodes) n) (First.Stopped WrongCount) (First.Nodes n lim)
 
 -- the ground of the "whole list", 2: "over 65,536 bytes"; then those of a field, and that of the "first field", 6
 unfoldable pub firstOf : List ℕ → First
 firstOf l =
     pick (ltb maxBytes (length l)) (First.Stopped TooLong)
-    (checked firstTag lengthOf l 0 First.Stopped (nodesOf (getD (contentsAt l 0) 0 0)))
+    (checked firstTag lengthOf l 0 First.Stopped (nodesOf (limitsOf (tagAt l 0)) (getD (contentsAt l 0) 0 0)))
 
 -- how a list ends: at its end, or "at the offset b of its field's tag" by a refusal
 pub data Ending : Type 0 where
@@ -159,15 +165,15 @@ readFrom (suc k) l at = onward at (nextAt l at) (readFrom k l)
 unfoldable pub rest : List ℕ → ℕ → Reading
 rest l at = readFrom (length l) l at
 
--- what a whole list says: "the whole list or the first field failed", by this refusal at offset 0; or n, and what is read behind the first field
+-- what a whole list says: "the whole list or the first field failed", by this refusal at offset 0; or n, the limits, and what is read behind the first field
 pub data Listed : Type 0 where
   failed : Stop → Listed
-  begun : ℕ → Reading → Listed
+  begun : ℕ → Limits → Reading → Listed
 
 -- the same by what the whole list and its first field say
 abbrev pub listed : List ℕ → First → Listed
 listed l (First.Stopped s) = failed s
-listed l (First.Nodes n) = begun n (rest l (behind l 0))
+listed l (First.Nodes n lim) = begun n lim (rest l (behind l 0))
 
 -- "A list is a row of fields"
 unfoldable pub reading : List ℕ → Listed

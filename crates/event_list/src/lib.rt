@@ -1,13 +1,14 @@
 // The list reader: fields, the refusals that end a list (01's 2 to 6), and the event decoder.
 // What a list means is in specs/Format.
 use model::Event;
+use model::Limits;
 use model::TaskNo;
 use number_bytes::byte;
 ghost use mathlib.Core.Path.{_≡_};
 ghost use Prim.Native.Nat.{_+_, _≤_, _<_};
 ghost use lib.ListN.{length};
 ghost use Rattle.event_list.specs.Format.{twoBytes, lengthAt, taskOf, stopNumber, nodesOf, firstOf, fieldAt, nextAt};
-ghost use Rattle.event_list.specs.Parts.{sized, decoded, firstIn};
+ghost use Rattle.event_list.specs.Parts.{sized, decoded, countedIn, firstIn};
 
 // Why a list ends before its end. 01's numbers are given by `stopNumber`.
 pub enum Stop {
@@ -25,10 +26,10 @@ pub enum Next {
     Got(Event, usize),
 }
 
-// What the whole list and its first field say: a refusal, or the number of nodes.
+// What the whole list and its first field say: a refusal, or the number of nodes and the table's limits.
 pub enum First {
     Stopped(Stop),
-    Nodes(u8),
+    Nodes(u8, Limits),
 }
 
 // What stands at an offset: nothing, too few bytes for a field, or a field whose contents are list[start..end].
@@ -40,9 +41,6 @@ pub enum Field {
 
 // "over 65,536 bytes"
 const MAX_BYTES: usize = 65536;
-
-// "n from 1 to 16"
-const NODE_LIMIT: u8 = 16;
 
 pub fn stop_number(s: Stop) -> u8
     ensures { λ r. ⌜ r ≡ stopNumber s ⌝ }
@@ -160,28 +158,34 @@ pub fn event_at(list: &[u8], at: usize) -> Next
     }
 }
 
-// "n outside 1 to 16"
-fn nodes_of(n: u8) -> First
-    ensures { λ r. ⌜ r ≡ nodesOf n ⌝ }
+// "n outside 1 to 16", by the limit of nodes given
+fn nodes_of(limits: Limits, n: u8) -> First
+    ensures { λ r. ⌜ r ≡ nodesOf limits n ⌝ }
 {
-    if (1 <= n) & (n <= NODE_LIMIT) {
-        return First::Nodes(n);
+    if predicates::wrong_count(limits.nodes, n) {
+        return First::Stopped(Stop::WrongCount);
     }
-    First::Stopped(Stop::WrongCount)
+    First::Nodes(n, limits)
 }
 
-// The number of nodes of the first field's tag and contents.
+// The number of nodes of a first field's contents.
+fn counted(limits: Limits, contents: &[u8]) -> First
+    ensures { λ r. ⌜ r ≡ countedIn 1 limits (now (contents .entry)) ⌝ }
+{
+    if contents.len() != 1 {
+        return First::Stopped(Stop::WrongLength);
+    }
+    nodes_of(limits, byte(contents, 0))
+}
+
+// What the first field's tag and contents say: 0x01 is the tower's, 0x02 the stand's.
 fn first_in(tag: u8, contents: &[u8]) -> First
     ensures { λ r. ⌜ r ≡ firstIn tag (now (contents .entry)) ⌝ }
 {
     match tag {
-        0x01 => {
-            if contents.len() != 1 {
-                return First::Stopped(Stop::WrongLength);
-            }
-            nodes_of(byte(contents, 0))
-        }
-        0x00 | 0x02..=255 => First::Stopped(Stop::WrongTag),
+        0x01 => counted(predicates::tower(), contents),
+        0x02 => counted(predicates::stand(), contents),
+        0x00 | 0x03..=255 => First::Stopped(Stop::WrongTag),
     }
 }
 

@@ -12,7 +12,7 @@ use Rattle.model.specs.Step.{step, after}
 use Rattle.model.specs.Answers.{resultNumber}
 use Rattle.model.specs.declared.Event.{Event}
 use Rattle.model.specs.declared.Event.the-variants.{Recover}
-use Rattle.event_list.specs.Format.{Reading, Listed, failed, begun, reading, stopNumber, nextAt}
+use Rattle.event_list.specs.Format.{Listed, failed, begun, reading, stopNumber, nextAt}
 use Rattle.event_list.specs.declared.Stop.the-variants.{CutShort}
 use Rattle.event_list.specs.declared.Next.{Next}
 use Rattle.event_list.specs.declared.Next.the-variants.{Done, Stopped, Got}
@@ -97,7 +97,7 @@ acceptedFrom s (e ∷ es) = plusAccepted (acceptedFrom (after s e) es) (resultNu
 
 abbrev pub acceptedListed : Listed → ℕ
 acceptedListed (failed s) = 0
-acceptedListed (begun n r) = acceptedFrom (start n) (r .events)
+acceptedListed (begun n lim r) = acceptedFrom (start n lim) (r .events)
 
 -- of a list
 abbrev pub acceptedIn : List ℕ → ℕ

@@ -92,7 +92,7 @@ fn answered(answer: Answer, t: Table, out: &mut [u8]) -> u8
 }
 
 // One event on a table. table is the table in bytes, in the form of crate table_bytes: any bytes are some table, in range or not. field is the event as a field of
-// a list: tag, two-byte length, contents; bytes behind it are not looked at. out needs the room of a table, 4,434 bytes. The answer:
+// a list: tag, two-byte length, contents; bytes behind it are not looked at. out needs the room of a table, 4,436 bytes. The answer:
 //   0                 accepted: out starts with the table after the event, with 0 in all places that are no part of it
 //   1                 the table is not in range; this is looked at next
 //   3, 4, 5           no event: cut short, or no bytes at all; a tag that is no event's; a length that is wrong for the tag
@@ -189,8 +189,8 @@ pub extern "C" fn nevraspu_fold(list: &[u8]) -> u32
 {
     match event_list::first_of(list) {
         First::Stopped(_) => 0,
-        First::Nodes(n) => {
-            let begun = machine::starting(n);
+        First::Nodes(n, limits) => {
+            let begun = machine::starting(n, limits);
             let t = begun.table;
             fold_from(list, t)
         }

@@ -9,6 +9,8 @@ use lib.Dec.{eqb, leb}
 use lib.ListN.{length, take, getD, length-append}
 use lib.Seq.{length-take-le}
 use borrow.Author.Tests.{ne-eqb, leb-true, eqb-true}
+use Rattle.model.specs.Range.{TwoPairs}
+use Rattle.model.specs.Limits.{tower}
 use Rattle.model.specs.Pick.{pick, pick-true, pick-false}
 use Rattle.model.specs.State.{start, countsOf, inRange, firstOf, view}
 use Rattle.model.specs.declared.Table.{Table}
@@ -51,12 +53,12 @@ fits-are l q =
       leb-true (getD l 1 0) 7 (both-right (eqb (length l) 2 && leb 1 (getD l 0 0) && leb (getD l 0 0) 3) (leb (getD l 1 0) 7) q),
     )
 
-pub lowest-state : (n : ℕ) (t : Table) (ws : List ℕ) → t ≡ startingTable n → view t ≡ start n → seenWaiting n (t .nodes) ws 0 ≡ start n
+pub lowest-state : (n : ℕ) (t : Table) (ws : List ℕ) → t ≡ startingTable n tower → view t ≡ start n tower → seenWaiting n tower (t .nodes) ws 0 ≡ start n tower
 unfolding firstOf countsOf
-lowest-state n t ws e v = ap (λ (u : Table). seenWaiting n (u .nodes) ws 0) e ∙ same-start (startingTable n) ws refl ∙ ap view (sym e) ∙ v
+lowest-state n t ws e v = ap (λ (u : Table). seenWaiting n tower (u .nodes) ws 0) e ∙ same-start (startingTable n tower) ws refl ∙ ap view (sym e) ∙ v
 
 module _ (n k : ℕ) (s : Search) (f : First n k s) where
-  stack-is : stackOf s ≡ frame (start n) 0 ∷ []
+  stack-is : stackOf s ≡ frame (start n tower) 0 ∷ []
   unfolding framesOf
   stack-is = rw (f .height, f .nodes, f .lowest .state, f .lowest .tried)
 
@@ -71,7 +73,7 @@ module _ (n k : ℕ) (s : Search) (f : First n k s) where
         record {
           nodes = w .nodes;
           words = w .words;
-          range = rw (f .nodes) (ap inRange (w .state) ∙ stays-in-range .starts n low (omega (arith, high)));
+          range = rw (f .nodes) (ap inRange (w .state) ∙ stays-in-range .starts TwoPairs n tower (record { within = refl; pair = refl; low = low; high = omega (arith, high) }));
           within = rw (w .tried) (omega arith);
           space = w .space;
           end = rw (w .end) (omega arith);
@@ -92,13 +94,13 @@ module _ (n k : ℕ) (s : Search) (f : First n k s) where
       below = below-is (s .length) refl;
       beneath = tt;
       top = top-is;
-      count = let c = few-lists .few n k low high long in rw (f .given, missing-is, stack-is, all-left k (start n)) (omega (arith, c));
+      count = let c = few-lists .few n k low high long in rw (f .given, missing-is, stack-is, all-left k (start n tower)) (omega (arith, c));
     }
 
     pub first-sound : Sound s
     first-sound = let z : s .height - 1 ≡ 0 = let a = f .height in omega (arith, a) in inr (subst (Going s) (sym z) going-is)
 
-    pub first-text : textLeft s ≡ stackText 0 k (frame (start n) 0 ∷ [])
+    pub first-text : textLeft s ≡ stackText 0 k (frame (start n tower) 0 ∷ [])
     unfolding textLeft
     first-text =
         let z : eqb (s .n) 0 ≡ false = let a = f .nodes in ne-eqb (s .n) 0 (λ q. absurd (omega (arith, a, low, q))) in

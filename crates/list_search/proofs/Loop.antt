@@ -9,6 +9,8 @@ use lib.Dec.{eqb}
 use lib.ListN.{length, take, getD, set, length-set, length-append}
 use lib.Seq.{getD-set-same, getD-set-other}
 use borrow.Author.Tests.{le-leb, lt-leb, ne-eqb}
+use Rattle.model.specs.Range.{TwoPairs}
+use Rattle.model.specs.Limits.{tower}
 use Rattle.model.specs.Pick.{pick-true, pick-false}
 use Rattle.model.specs.Counts.{noCounts}
 use Rattle.model.specs.State.{State, countsOf, countsAside}
@@ -18,6 +20,7 @@ use Rattle.model.specs.declared.Mark.{Mark}
 use Rattle.model.specs.declared.Node.{Node}
 use Rattle.model.specs.declared.Event.{Event}
 use Rattle.model.proofs.Waiting.{waiting-in}
+use Rattle.model.proofs.Fields.{in-range-pair}
 use Rattle.model.proofs.Aside.{waiting-small, waiting-below, in-range-base}
 use Rattle.listing.specs.Ascii.{bytes}
 use Rattle.listing.specs.Decimal.{decimal}
@@ -81,7 +84,7 @@ turnsOf n len ls h t = turnsLeft (len - h) (frameOf n t ∷ framesOf n ls h)
 
 -- the level's table, with the counts of what waits, is ready for a turn
 abbrev pub ReadyLevel : ℕ → Level → Type 0
-ReadyLevel n t = Ready n (t .nodes) (t .words) (t .waiting) (countsOf (queue (t .words) (t .waiting))) noCounts noCounts
+ReadyLevel n t = Ready n tower (t .nodes) (t .words) (t .waiting) (countsOf (queue (t .words) (t .waiting))) noCounts noCounts
 
 pub ready : (n : ℕ) (p : List Event) (t : Level) → SoundLevel n p t → ReadyLevel n t
 ready n p t s = record { words = s .words; nodes = s .nodes; range = s .range }
@@ -139,7 +142,7 @@ module _ {x o : List ℕ} {n len : ℕ} {ls : List Level} {g at : ℕ} where
     e = eventAt n (t .tried)
 
     abbrev s : State
-    s = seenWaiting n (t .nodes) (t .words) (t .waiting)
+    s = seenWaiting n tower (t .nodes) (t .words) (t .waiting)
 
     abbrev fs : List Frame
     fs = framesOf n ls h
@@ -218,7 +221,7 @@ module _ {x o : List ℕ} {n len : ℕ} {ls : List Level} {g at : ℕ} where
           }
 
       -- as one of others: its table, with the pieces v, is put on top, and the one below it is stored
-      module _ (more : suc h < len) (v : Level) (i : v .tried ≡ 0) (a : seenWaiting n (v .nodes) (v .words) (v .waiting) ≡ countsAside u) (rd : ReadyLevel n v)
+      module _ (more : suc h < len) (v : Level) (i : v .tried ≡ 0) (a : seenWaiting n tower (v .nodes) (v .words) (v .waiting) ≡ countsAside u) (rd : ReadyLevel n v)
           (w : Appended (t .line) (t .end) (eventText e ++ bytes ", ") (v .line) (v .end)) where
         abbrev below : List Level
         below = set ls h (onward t)
@@ -238,7 +241,8 @@ module _ {x o : List ℕ} {n len : ℕ} {ls : List Level} {g at : ℕ} where
         -- no count comes to its end: in s each is at most 64, and at most 7 events follow
         counts-aside : listsFrom (len - suc h) u ≡ listsFrom (len - suc h) (countsAside u)
         counts-aside =
-            let b = waiting-small (s .n) (s .nodes) (s .queue) (in-range-base s (k .top .range)) in
+            let g = in-range-base s (k .top .range) in
+            let b = waiting-small (s .rule) (s .n) (s .limits) (s .nodes) (s .queue) (in-range-pair s (k .top .range)) (g .0) (g .1) in
             lists-aside (len - suc h) u (omega (arith, k .long))
             (keeps-room (len - suc h) s e u m (record { range = k .top .range; room = λ j. omega (arith, k .long, b j) }) z)
 
@@ -338,7 +342,7 @@ gave-last s h o g at o′ r x w l = record {
 
 -- a piece behind which more comes: the topmost level is stored, and the search goes on with it
 module _ {x o : List ℕ} {n len : ℕ} {ls : List Level} {g at h : ℕ} {t : Level} (k : Kept x o n len ls h t g at) (q : t .tried < sizeOf n) (u : State) (m : Mark)
-    (z : step (seenWaiting n (t .nodes) (t .words) (t .waiting)) (eventAt n (t .tried)) ≡ accepted u m) (last : suc h ≡ len) where
+    (z : step (seenWaiting n tower (t .nodes) (t .words) (t .waiting)) (eventAt n (t .tried)) ≡ accepted u m) (last : suc h ≡ len) where
   abbrev goes-on : Search
   goes-on = record { n = n; length = len; given = g + 1; height = h + 1; levels = set ls h (onward t) }
 
@@ -413,19 +417,19 @@ module _ {x o : List ℕ} {n len : ℕ} {ls : List Level} {g at h : ℕ} {t : Le
 
   -- e is tried: i is its node's place, and r what is ruled
   module _ (d : t .tried ≡ c → ⊥) {e : Event} (he : t .tried < sizeOf n → e ≡ eventAt n (t .tried)) {i : ℕ} (hi : i ≡ (actor e + 15) % 16) (b : Node) {r : Ruling}
-      (j : Ruled (t .words) n (t .waiting) (getD (t .nodes) i b) e r) where
+      (j : Ruled (t .words) n (tower .messages) (t .waiting) (getD (t .nodes) i b) e r) where
     under : t .tried < sizeOf n
     under = let w = k .top .within in omega (arith, w, hc, d)
 
     abbrev before : State
-    before = seenWaiting n (t .nodes) (t .words) (t .waiting)
+    before = seenWaiting n tower (t .nodes) (t .words) (t .waiting)
 
     rd : ReadyLevel n t
     rd = ready n (path (framesOf n ls h)) t (k .top)
 
     module _ (no : isAccepted (r .verdict .answer) ≡ false) where
       refusal : step before (eventAt n (t .tried)) ≡ refused (answerNumber (r .verdict .answer))
-      refusal = same-step _ _ _ _ (he under) (refused-step _ _ _ _ _ _ _ rd e i hi b r j no)
+      refusal = same-step _ _ _ _ (he under) (refused-step _ tower _ _ _ _ _ _ rd e i hi b r j no)
 
       pub turned-down : Kept x o n len ls h (onward t) g at
       turned-down = refused-kept k under _ refusal
@@ -435,14 +439,14 @@ module _ {x o : List ℕ} {n len : ℕ} {ls : List Level} {g at h : ℕ} {t : Le
 
     module _ (yes : isAccepted (r .verdict .answer) ≡ true) where
       pub room-for : Room (r .verdict .reaction .outgoing) (leftOf (t .waiting) (r .place))
-      room-for = has-room _ _ _ _ _ _ _ rd e i hi b r j yes
+      room-for = has-room _ tower _ _ _ _ _ _ rd e i hi b r j yes
 
       -- 17 is not met
       not-at-end : pairAtEnd (before .sent) (r .verdict .reaction .outgoing) ≡ false
-      not-at-end = end-below _ _ _ _ _ _ _ rd e i hi b r j yes (waiting-below n (before .nodes) (before .queue) (in-range-base before (k .top .range)))
+      not-at-end = end-below _ tower _ _ _ _ _ _ rd e i hi b r j yes (waiting-below (before .rule) n tower (before .nodes) (before .queue) (in-range-pair before (k .top .range)) (in-range-base before (k .top .range) .0) (in-range-base before (k .top .range) .1))
 
       taken : step before (eventAt n (t .tried)) ≡ accepted (effect before e) (reactionTo before e .mark)
-      taken = same-step _ _ _ _ (he under) (step-accepts _ _ _ _ _ _ _ rd e i hi b r j yes not-at-end)
+      taken = same-step _ _ _ _ (he under) (step-accepts _ tower _ _ _ _ _ _ rd e i hi b r j yes not-at-end)
 
       -- as the last of a list
       module _ (l : h + 1 ≡ len) where
@@ -475,13 +479,13 @@ module _ {x o : List ℕ} {n len : ℕ} {ls : List Level} {g at h : ℕ} {t : Le
         more = omega (arith, l, k .below)
 
         -- the state after it, with its counts set aside
-        state-above : seenWaiting n (v .nodes) us w ≡ countsAside (effect before e)
-        state-above = ap countsAside (next-is _ _ _ _ _ _ _ rd e i hi b r j yes not-at-end us w q)
+        state-above : seenWaiting n tower (v .nodes) us w ≡ countsAside (effect before e)
+        state-above = ap countsAside (next-is _ tower _ _ _ _ _ _ rd e i hi b r j yes not-at-end us w q)
 
         ready-above : ReadyLevel n v
         ready-above =
-            let y = ready-again _ _ _ _ _ _ _ rd e i hi b r j yes not-at-end us w q z in
-            record { words = y .words; nodes = y .nodes; range = waiting-in n _ (queue us w) (in-range-base _ (y .range)) }
+            let y = ready-again _ tower _ _ _ _ _ _ rd e i hi b r j yes not-at-end us w q z in
+            record { words = y .words; nodes = y .nodes; range = waiting-in TwoPairs n tower _ (queue us w) refl refl (in-range-base _ (y .range) .1) }
 
         longer : Appended (t .line) (t .end) (eventText (eventAt n (t .tried)) ++ bytes ", ") line end
         longer = rw (he under) at a

@@ -8,6 +8,7 @@ use lib.Dec.{leb}
 use lib.ListN.{length, getD, drop, drop-of-length-le}
 use lib.Seq.{drop-cons}
 use borrow.Author.Tests.{leb-true, leb-false}
+use Rattle.model.specs.Limits.{tower}
 use Rattle.model.specs.Pick.{pick-true}
 use Rattle.model.specs.State.{State, start, countsAside}
 use Rattle.model.specs.Step.{effect, refused, accepted, step}
@@ -157,12 +158,12 @@ pub all-left : (r : ℕ) (s : State) → listsLeft r (frame s 0 ∷ []) ≡ list
 unfolding listsLeft path
 all-left r s = rw (fresh-frame r s, append-nil) (map-same (listsFrom r s))
 
-pub whole-text : (l : List ℕ) → fits l ≡ true → textOf l ≡ stackText 0 (getD l 1 0) (frame (start (getD l 0 0)) 0 ∷ [])
+pub whole-text : (l : List ℕ) → fits l ≡ true → textOf l ≡ stackText 0 (getD l 1 0) (frame (start (getD l 0 0) tower) 0 ∷ [])
 unfolding textOf stackText
 whole-text l q =
-    let ls = listsFrom (getD l 1 0) (start (getD l 0 0)) in
+    let ls = listsFrom (getD l 1 0) (start (getD l 0 0) tower) in
     let z : 0 + length ls ≡ length ls = omega arith in
-    rw (q, pick-true, all-left (getD l 1 0) (start (getD l 0 0)), z)
+    rw (q, pick-true, all-left (getD l 1 0) (start (getD l 0 0) tower), z)
 
 -- ── a turn: what is left, and that fewer turns are ──
 

@@ -6,6 +6,7 @@ use mathlib.Core.Logic.{_⊎_}
 use mathlib.Core.List.{List, [], _∷_, _++_}
 use lib.Dec.{eqb}
 use lib.ListN.{length, take, getD}
+use Rattle.model.specs.Limits.{tower}
 use Rattle.model.specs.Pick.{pick}
 use Rattle.model.specs.State.{start, inRange}
 use Rattle.model.specs.declared.Event.{Event}
@@ -24,10 +25,10 @@ use Rattle.list_search.specs.Line.{beginning}
 abbrev pub noLevel : Level
 noLevel = record { nodes = []; words = []; waiting = 0; tried = 0; line = []; end = 0 }
 
--- The frame of a level, in a search of n nodes. A level has no counts: its state is the one where all that was sent still waits. The lists from a state do not depend on
+-- The frame of a level, in a search of n nodes in the tower. A level has no counts: its state is the one where all that was sent still waits. The lists from a state do not depend on
 -- its counts as long as none comes to its end.
 abbrev pub frameOf : ℕ → Level → Frame
-frameOf n l = frame (seenWaiting n (l .nodes) (l .words) (l .waiting)) (l .tried)
+frameOf n l = frame (seenWaiting n tower (l .nodes) (l .words) (l .waiting)) (l .tried)
 
 -- those of the first h levels, the topmost first
 unfoldable pub framesOf : ℕ → List Level → ℕ → List Frame
@@ -51,7 +52,7 @@ textLeft s = pick (eqb (s .n) 0) refusalText (stackText (s .given) (missing s) (
 pub record SoundLevel (n : ℕ) (p : List Event) (l : Level) : Type 0 where
   pub nodes : length (l .nodes) ≡ 16
   pub words : length (l .words) ≡ 256
-  pub range : inRange (seenWaiting n (l .nodes) (l .words) (l .waiting)) ≡ true
+  pub range : inRange (seenWaiting n tower (l .nodes) (l .words) (l .waiting)) ≡ true
   pub within : l .tried ≤ sizeOf n
   -- the beginning of the line of every list through it; an event, with a comma and a space, has at most 18 bytes, as in `finish 255 65535, `
   pub space : length (l .line) ≡ 128
@@ -83,9 +84,9 @@ Sound s = (s .n ≡ 0) ⊎ Going s (s .height - 1)
 
 -- ── the first search ──
 
--- the level of the starting table of n nodes, on which no event was tried
+-- the level of the starting table of n nodes in the tower, on which no event was tried
 pub record Lowest (n : ℕ) (l : Level) : Type 0 where
-  pub state : seenWaiting n (l .nodes) (l .words) (l .waiting) ≡ start n
+  pub state : seenWaiting n tower (l .nodes) (l .words) (l .waiting) ≡ start n tower
   pub nodes : length (l .nodes) ≡ 16
   pub words : length (l .words) ≡ 256
   pub tried : l .tried ≡ 0

@@ -6,10 +6,14 @@ mod line;
 ghost use mathlib.Core.Path.{_≡_};
 ghost use Prim.Native.Nat.{_-_, _≤_};
 ghost use lib.ListN.{length};
+ghost use Rattle.model.specs.Limits.{tower};
+ghost use Rattle.packed.specs.Packed.{Rulable, Ruled};
 ghost use Rattle.short_lists_text.specs.Text as text;
 ghost use Rattle.list_search.specs.Search.{Lowest, First, Going, Sound, Begun, Gave};
 use line::LINE;
+use model::Event;
 use model::Node;
+use packed::Ruling;
 use packed::WORDS;
 
 // A list of 7 events goes through 8 tables; the last of them is not needed.
@@ -44,6 +48,15 @@ pub struct Piece {
     pub written: usize,
     pub done: bool,
     pub search: Search,
+}
+
+// The judgement of an event by the tower's limit of messages.
+fn rule_in_tower(q: &[u32; WORDS], n: u8, waiting: u8, c: Node, e: Event) -> Ruling
+    requires { ⌜ (length (now q) ≡ 256) × (waiting ≤ 64) × Rulable (now q) n waiting c e ⌝ }
+    ensures { λ r. ⌜ Ruled (now (q .entry)) n (tower .messages) waiting c e r ⌝ }
+{
+    let limits = predicates::tower();
+    packed::rule(q, n, limits.messages, waiting, c, e)
 }
 
 // The next lines of a search in which an event is missing behind the topmost table. That table stands in this function's own locals, and the functions that it
@@ -92,7 +105,7 @@ fn lines_on(s: Search, out: &mut [u8]) -> Piece
         tried += 1;
         let i = packed::seat(e);
         let c = nodes[i];
-        let ruling = packed::rule(&words, n, waiting, c, e);
+        let ruling = rule_in_tower(&words, n, waiting, c, e);
         let verdict = ruling.verdict;
         let answer = verdict.answer;
         if !machine::is_accepted(answer) {
@@ -188,11 +201,11 @@ fn blank_line() -> [u8; LINE]
     [0; LINE]
 }
 
-// The starting table of n nodes, on which no event was tried.
+// The starting table of n nodes in the tower, on which no event was tried.
 fn lowest(n: u8) -> Level
     ensures { λ r. ⌜ Lowest n r ⌝ }
 {
-    let begun = machine::starting(n);
+    let begun = machine::starting(n, predicates::tower());
     let t = begun.table;
     let nodes = t.nodes;
     Level {

@@ -21,7 +21,7 @@ use Rattle.listing.proofs.Printing.{then-next, then-refused}
 
 -- What owning a table tells of its records.
 pub nodes-long : (t : Table) {vs : List Val} → Is (declared.row table.the-type) t vs → length (t .nodes) ≡ 16
-nodes-long t g = sym (length-map (t .nodes) _) ∙ g .1 .1 .1 .0 .1 .0 .1
+nodes-long t g = sym (length-map (t .nodes) _) ∙ g .1 .1 .1 .1 .0 .1 .0 .1
 
 first-long : {A : Type 0} (k : ℕ) (d : A) (l : List A) → length (firstOf k d l) ≡ k
 unfolding firstOf

@@ -5,6 +5,7 @@ use mathlib.Core.Path.{_≡_}
 use mathlib.Core.List.{List, [], _∷_, _++_}
 use Prim.Native.Nat.{ℕ}
 use lib.ListN.{replicate}
+use Rattle.model.specs.Limits.{tower}
 use Rattle.model.specs.Counts.{total}
 use Rattle.model.specs.State.{start}
 use Rattle.listing.specs.Ascii.{bytes}
@@ -41,6 +42,6 @@ pub record RoomCases : Type 0 where
   pub second-enough : printed (bytes "......................") 0 (line ∷ line ∷ []) ≡ shown (Next 22) (line ++ line)
 
 pub record TotalCases : Type 0 where
-  pub none : totalLines (start 16) ≡ bytes "sent 0\n" ∷ bytes "delivered 0\n" ∷ bytes "lost 0\n" ∷ []
+  pub none : totalLines (start 16 tower) ≡ bytes "sent 0\n" ∷ bytes "delivered 0\n" ∷ bytes "lost 0\n" ∷ []
   -- 256 counts of 2^32 - 1: more than 32 bits
   pub largest : totalLine deliveredWord (total (replicate 256 4294967295)) ≡ bytes "delivered 1099511627520\n"

@@ -88,8 +88,8 @@ first-none xs ys n h = by (first xs) refl
     by zero q = (q, sym (first-clear xs ys n q) ∙ h)
     by (suc x) q = absurd (some-not-none (first xs) (omega arith) (sym (first-met xs ys (omega arith)) ∙ h))
 
-module _ (n waiting k : ℕ) (c : Node) (m : Message) (e : Event) where
-  pub by-numbers : (a : Answer) (r : Reaction) → isAccepted a ≡ false → answerNumber a ≡ first (numberGrounds n e) → Judged n waiting k c m e (record { answer = a; reaction = r })
+module _ (n limit waiting k : ℕ) (c : Node) (m : Message) (e : Event) where
+  pub by-numbers : (a : Answer) (r : Reaction) → isAccepted a ≡ false → answerNumber a ≡ first (numberGrounds n e) → Judged n limit waiting k c m e (record { answer = a; reaction = r })
   by-numbers a r q h =
       record {
         answer = h ∙ sym (first-met (numberGrounds n e) _ (omega (arith, refused-some a q, h)));
@@ -97,20 +97,20 @@ module _ (n waiting k : ℕ) (c : Node) (m : Message) (e : Event) where
       }
 
   module _ (clear : first (numberGrounds n e) ≡ 0) where
-    past-numbers : first (judgedGrounds n waiting k c m e) ≡ first (stateGrounds c e (ltb k waiting) ++ endGrounds c (reactsTo n c m e) (leftOf waiting k))
+    past-numbers : first (judgedGrounds n limit waiting k c m e) ≡ first (stateGrounds c e (ltb k waiting) ++ endGrounds c (reactsTo n c m e) (leftOf waiting k) limit)
     past-numbers = first-clear (numberGrounds n e) _ refl clear
 
-    pub by-state : (a : Answer) (r : Reaction) → isAccepted a ≡ false → answerNumber a ≡ first (stateGrounds c e (ltb k waiting)) → Judged n waiting k c m e (record { answer = a; reaction = r })
+    pub by-state : (a : Answer) (r : Reaction) → isAccepted a ≡ false → answerNumber a ≡ first (stateGrounds c e (ltb k waiting)) → Judged n limit waiting k c m e (record { answer = a; reaction = r })
     by-state a r q h =
         record {
           answer = h ∙ sym (past-numbers ∙ first-met (stateGrounds c e (ltb k waiting)) _ (omega (arith, refused-some a q, h)));
           reaction = λ z. absurd (some-not-none (answerNumber a) (refused-some a q) z);
         }
 
-    pub past-state : first (stateGrounds c e (ltb k waiting)) ≡ 0 → first (judgedGrounds n waiting k c m e) ≡ first (endGrounds c (reactsTo n c m e) (leftOf waiting k))
+    pub past-state : first (stateGrounds c e (ltb k waiting)) ≡ 0 → first (judgedGrounds n limit waiting k c m e) ≡ first (endGrounds c (reactsTo n c m e) (leftOf waiting k) limit)
     past-state going = past-numbers ∙ first-clear (stateGrounds c e (ltb k waiting)) _ refl going
 
-    pub by-ends : first (stateGrounds c e (ltb k waiting)) ≡ 0 → (a : Answer) (r : Reaction) (left : ℕ) → r ≡ reactsTo n c m e → left ≡ leftOf waiting k → answerNumber a ≡ first (endGrounds c r left) → Judged n waiting k c m e (record { answer = a; reaction = r })
+    pub by-ends : first (stateGrounds c e (ltb k waiting)) ≡ 0 → (a : Answer) (r : Reaction) (left : ℕ) → r ≡ reactsTo n c m e → left ≡ leftOf waiting k → answerNumber a ≡ first (endGrounds c r left limit) → Judged n limit waiting k c m e (record { answer = a; reaction = r })
     by-ends going a r left hr hl h = record { answer = h ∙ rw (hr, hl) (sym (past-state going)); reaction = λ z. hr }
 
 -- ── a judgement on a table: c and m as read from the arrays ──
@@ -129,7 +129,7 @@ module _ (t : Table) (z : Sized t) (ok : inRange (view t) ≡ true) (e : Event) 
   pub judging : Judging (t .n) (t .waiting) k c m e
   judging = record { node = λ clear. node-fits t z ok e clear c (node-is clear); message = λ clear going. rw hm (message-ok t z ok e k hk reach c going f) }
 
-  module _ (v : Verdict) (j : Judged (t .n) (t .waiting) k c m e v) where
+  module _ (v : Verdict) (j : Judged (t .n) (t .limits .messages) (t .waiting) k c m e v) where
     found : ltb k (t .waiting) ≡ ltb (placeFor (view t .queue) e) (length (view t .queue))
     found = found-is t z ok e k hk reach
 
@@ -140,7 +140,7 @@ module _ (t : Table) (z : Sized t) (ok : inRange (view t) ≡ true) (e : Event) 
         by-second : (clear : first (numberGrounds (t .n) e) ≡ 0) (y : ℕ) → first (stateGrounds c e (ltb k (t .waiting))) ≡ y → Stepped t e (record { answer = a; table = t })
         by-second clear zero y =
             let r = reaction-is t z ok e k hk reach c y f (node-is clear) in
-            ends-refuse t e ok c (node-is clear) _ found clear y (reactsTo (t .n) c m e) (rw hm r) _ (left-counts t z ok e k hk reach _ refl) a q (hn ∙ j .answer ∙ past-state (t .n) (t .waiting) k c m e clear y)
+            ends-refuse t e ok c (node-is clear) _ found clear y (reactsTo (t .n) c m e) (rw hm r) _ (left-counts t z ok e k hk reach _ refl) a q (hn ∙ j .answer ∙ past-state (t .n) (t .limits .messages) (t .waiting) k c m e clear y)
         by-second clear (suc x) y =
             state-refuses t e ok c (node-is clear) _ found clear a q
             (hn ∙ j .answer ∙ first-clear (numberGrounds (t .n) e) _ refl clear ∙ first-met (stateGrounds c e (ltb k (t .waiting))) _ (omega arith))
@@ -150,19 +150,19 @@ module _ (t : Table) (z : Sized t) (ok : inRange (view t) ≡ true) (e : Event) 
         by-first (suc x) y = numbers-refuse t e ok _ refl _ refl a q (hn ∙ j .answer ∙ first-met (numberGrounds (t .n) e) _ (omega arith))
 
     module _ (q : isAccepted (v .answer) ≡ true) where
-      none : first (judgedGrounds (t .n) (t .waiting) k c m e) ≡ 0
+      none : first (judgedGrounds (t .n) (t .limits .messages) (t .waiting) k c m e) ≡ 0
       none = sym (j .answer) ∙ accepted-zero (v .answer) q
 
       clear : first (numberGrounds (t .n) e) ≡ 0
       clear = first-none (numberGrounds (t .n) e) _ refl none .0
 
-      later : (first (stateGrounds c e (ltb k (t .waiting))) ≡ 0) × (first (endGrounds c (reactsTo (t .n) c m e) (leftOf (t .waiting) k)) ≡ 0)
+      later : (first (stateGrounds c e (ltb k (t .waiting))) ≡ 0) × (first (endGrounds c (reactsTo (t .n) c m e) (leftOf (t .waiting) k) (t .limits .messages)) ≡ 0)
       later = first-none (stateGrounds c e (ltb k (t .waiting))) _ refl (first-none (numberGrounds (t .n) e) _ refl none .1)
 
       acts : v .reaction ≡ reactsTo (t .n) c m e
       acts = j .reaction (accepted-zero (v .answer) q)
 
-      ends : first (endGrounds c (v .reaction) (leftOf (t .waiting) k)) ≡ 0
+      ends : first (endGrounds c (v .reaction) (leftOf (t .waiting) k) (t .limits .messages)) ≡ 0
       ends = rw acts (later .1)
 
       -- what storing needs

@@ -13,21 +13,24 @@ use lib.Seq.{getD-set-same}
 use borrow.Author.Tests.{not-false, le-leb, eq-eqb, ne-eqb, eqb-true}
 use Rattle.node_set.specs.NodeSet.{has}
 use Rattle.model.specs.Pick.{pick, by-test}
-use Rattle.model.specs.Limits.{queueLimit, counterEnd, callEnd, trafficEnd}
-use Rattle.model.specs.Counts.{pairPlace, countAt, noCounts}
+use Rattle.model.specs.Limits.{tower, counterEnd, callEnd, trafficEnd}
+use Rattle.model.specs.Counts.{pairPlace, noCounts}
 use Rattle.model.specs.Node.{isDown, isReorganization, isNormal, replies, isActive}
 use Rattle.model.specs.Recovery.{recoveryRecords}
 use Rattle.model.specs.Procedures.{recovers, inviteNext, merges, handNext, finishes, forwardNext, askedAll, askAt, askAfter}
 use Rattle.model.specs.React.{checked, timedOut, ticked, expired, resumed, onAreYouCoordinator, onAreYouThere, onInvitation, onAccept, onReady, onReply, received, react}
-use Rattle.model.specs.Range.{activityInRange, nodeInRange, messageInRange}
+use Rattle.model.specs.Range.{PairRule, TwoPairs, pairRule, isWithinTower, activityInRange, nodeInRange, messageInRange}
 use Rattle.model.specs.State.{State, startingNode, start, nodeAt, noMessage, waits, oldest, withoutOldest, allWaiting, countsAside, every, baseInRange, trafficInRange, inRange, firstOf, view, tableOf}
 use Rattle.model.specs.Grounds.{judged}
 use Rattle.model.specs.Step.{actor, reactionTo, remaining, sent, withSent, withDelivered, withLost, effect, wrongStatus, notCoordinator, forms, isCalling, isSending, pairAtEnd, grounds, Result, refused, accepted, step, kept, aside, after, runFrom}
 use Rattle.model.specs.Answers.{answerNumber, resultNumber}
-use Rattle.model.specs.Claims.{Lacks, Sends, whomNow, whomStill, Below, Picked, InvitationReaches, Holds, recoversAtExpire, recordAfter, CheckReaches, DoesNotLead}
+use Rattle.model.specs.Claims.{Lacks, MayStart, Sends, whomNow, whomStill, Below, Picked, InvitationReaches, Holds, recoversAtExpire, recordAfter, CheckReaches, DoesNotLead}
 use Rattle.model.proofs.Judged.{Clear, by-step, clear-accepts, accepted-apart, accepted-is, refused-same, met}
 use Rattle.model.proofs.Local.{both-right}
-use Rattle.model.proofs.Fields.{in-range-size, own-record}
+use Rattle.model.proofs.Fields.{in-range-pair, in-range-own, in-range-size, own-record}
+use Rattle.model.proofs.Pairs.{by-pair}
+use Rattle.model.proofs.Traffic.{run-limits}
+use Rattle.model.proofs.TowerAndStand.{tower-and-stand}
 use Rattle.model.proofs.InRange.{delivery-never-full, stays-in-range}
 use Rattle.model.proofs.Refusals.{refuses-by-ground}
 use Rattle.model.proofs.Aside.{resultAside, waiting-aside, aside-result, quick, aside-kept, run-aside, start-room, run-below}
@@ -38,9 +41,11 @@ use Rattle.model.proofs.InvitationRules.{acts-not-normal, invitation-rules}
 use Rattle.model.proofs.Recovery.{expire-recovers}
 use Rattle.model.proofs.Checks.{check-rules}
 use Rattle.model.specs.Cases.{invitedOnce}
-use Rattle.model.specs.declared.Status.the-variants.{Election, Normal}
+use Rattle.model.specs.declared.Limits.{Limits}
+use Rattle.model.specs.declared.StartAnswer.the-variants.{Started, WrongLimits, WrongCount}
+use Rattle.model.specs.declared.Status.the-variants.{Election}
 use Rattle.model.specs.declared.Activity.{Activity}
-use Rattle.model.specs.declared.Activity.the-variants.{Idle, Asking, Waiting, Inviting, Collecting, Handing, Contacting, Forwarding, Accepting}
+use Rattle.model.specs.declared.Activity.the-variants.{Idle, Asking, Waiting, Handing}
 use Rattle.model.specs.declared.Node.{Node}
 use Rattle.model.specs.declared.Message.{Message}
 use Rattle.model.specs.declared.Outgoing.{Outgoing}
@@ -56,10 +61,11 @@ use Rattle.model.specs.declared.Answer.the-variants.{Accepted, NotInRange, NotC
 use Rattle.machine.specs.declared.RecoveryAnswer.{RecoveryAnswer}
 use Rattle.machine.specs.Stepped.{Stepped, startingTable, RecoveryAnswered}
 use Rattle.machine.specs.Parts.{takes}
-use Rattle.machine.specs.Mutants.{mergingTable, handingTable, invitedTable, askingTable, collectingTable, invites, Moves, NoMutant, NoWrongTurning, NoLowerFirst, NoJoiningAgain, NoOtherRecovery, NoOtherCounts, NoOtherChecks}
+use Rattle.machine.specs.Mutants.{mergingTable, handingTable, invitedTable, askingTable, collectingTable, invites, Moves, NoOtherLimits, NoMutant, NoWrongTurning, NoLowerFirst, NoJoiningAgain, NoOtherRecovery, NoOtherCounts, NoOtherChecks}
 use Rattle.model.proofs.Lists.{first-length}
 use Rattle.machine.proofs.Laws.{start-is}
 use Rattle.machine.proofs.Runs.{run-nodes, start-node, answer-known, by-number, accepted-alike, code-runs, code-fixes, folded-reached}
+use Rattle.machine.proofs.Beginning.{start-known}
 use Rattle.machine.proofs.Recovering.{model-accepts, code-accepts, recovery-alike}
 use Rattle.machine.proofs.Still.{accepted-differs, reply-taken}
 use Rattle.machine.proofs.Invites.{event-invites}
@@ -67,7 +73,7 @@ use Rattle.machine.proofs.Invites.{event-invites}
 -- ── on concrete tables, by computation ──
 
 record Computed : Type 0 where
-  again : nodeAt (runFrom (view (startingTable 2)) (Recover 1 ∷ Crash 1 ∷ Recover 1 ∷ [])) 1 .group .number ≡ 32
+  again : nodeAt (runFrom (view (startingTable 2 tower)) (Recover 1 ∷ Crash 1 ∷ Recover 1 ∷ [])) 1 .group .number ≡ 32
   members : invites (nodeAt (after (view (tableOf mergingTable)) (Tick 1)) 1 .activity) 2 ≡ true
   task : nodeAt (after (view (tableOf invitedTable)) (Deliver 1 2)) 2 .task .number ≡ 100
   status : nodeAt (after (view (tableOf invitedTable)) (Deliver 1 2)) 2 .status ≡ Election
@@ -75,23 +81,26 @@ record Computed : Type 0 where
   picks : nodeAt (after (view (tableOf collectingTable)) (Finish 3 (record { number = 100 }))) 3 .activity ≡ Handing 1 2
   older : nodeAt (after (view (tableOf (askingTable (replies 2 1 (record { number = 4 }) true ∷ [])))) (Deliver 2 1)) 1 ≡ nodeAt (askingTable []) 1
   other : nodeAt (after (view (tableOf (askingTable (replies 3 1 (record { number = 5 }) true ∷ [])))) (Deliver 3 1)) 1 .activity ≡ Asking 3 2
-  away : resultNumber (step (view (startingTable 2)) (Crash 1)) ≡ 9
+  away : resultNumber (step (view (startingTable 2 tower)) (Crash 1)) ≡ 9
   -- node 2 after node 1's recovery
-  ranged : inRange (after (view (startingTable 2)) (Recover 1)) ≡ true
-  two : after (view (startingTable 2)) (Recover 1) .n ≡ 2
-  second : nodeAt (after (view (startingTable 2)) (Recover 1)) 2 ≡ startingNode
+  ranged : inRange (after (view (startingTable 2 tower)) (Recover 1)) ≡ true
+  two : after (view (startingTable 2 tower)) (Recover 1) .n ≡ 2
+  second : nodeAt (after (view (startingTable 2 tower)) (Recover 1)) 2 ≡ startingNode
 
 -- with the counts aside: after an event, and after events from the starting table of two nodes
-after-one : (n : ℕ) (cs : List Node) (q : List Message) (e : Event) → baseInRange n cs q ≡ true
-    → countsAside (after (allWaiting n cs q) e) ≡ kept (allWaiting n cs q) (resultAside (allWaiting n cs q) e)
-after-one n cs q e r = aside-kept (allWaiting n cs q) (step (allWaiting n cs q) e) ∙ ap (kept (allWaiting n cs q)) (waiting-aside n cs q r e)
+after-one : (n : ℕ) (cs : List Node) (q : List Message) (e : Event) → baseInRange tower n cs q ≡ true
+    → countsAside (after (allWaiting n tower cs q) e) ≡ kept (allWaiting n tower cs q) (resultAside (allWaiting n tower cs q) e)
+after-one n cs q e r = aside-kept (allWaiting n tower cs q) (step (allWaiting n tower cs q) e) ∙ ap (kept (allWaiting n tower cs q)) (waiting-aside TwoPairs n tower cs q refl refl r e)
 
-started : (es : List Event) → length es < trafficEnd → countsAside (runFrom (view (startingTable 2)) es) ≡ quick (countsAside (start 2)) es
+two-start : MayStart TwoPairs 2 tower
+two-start = record { within = refl; pair = refl; low = omega arith; high = omega arith }
+
+started : (es : List Event) → length es < trafficEnd → countsAside (runFrom (view (startingTable 2 tower)) es) ≡ quick (countsAside (start 2 tower)) es
 started es h =
-    ap (λ (s : State). countsAside (runFrom s es)) (start-is 2)
-    ∙ run-aside (start 2) es (stays-in-range .starts 2 (omega arith) (omega arith)) (start-room (length es) h)
+    ap (λ (s : State). countsAside (runFrom s es)) (start-is 2 tower)
+    ∙ run-aside (start 2 tower) es (stays-in-range .starts TwoPairs 2 tower two-start) (start-room (length es) h)
 
-started-one : (e : Event) → countsAside (after (view (startingTable 2)) e) ≡ quick (countsAside (start 2)) (e ∷ [])
+started-one : (e : Event) → countsAside (after (view (startingTable 2 tower)) e) ≡ quick (countsAside (start 2 tower)) (e ∷ [])
 unfolding runFrom
 started-one e = started (e ∷ []) (omega arith)
 
@@ -99,16 +108,16 @@ aside-number : (x : Result) → resultNumber x ≡ resultNumber (aside x)
 aside-number (refused r) = refl
 aside-number (accepted u k) = refl
 
-first-number : (e : Event) → resultNumber (step (view (startingTable 2)) e) ≡ resultNumber (resultAside (countsAside (start 2)) e)
+first-number : (e : Event) → resultNumber (step (view (startingTable 2 tower)) e) ≡ resultNumber (resultAside (countsAside (start 2 tower)) e)
 unfolding runFrom
 first-number e =
-    ap (λ (s : State). resultNumber (step s e)) (start-is 2)
-    ∙ aside-number (step (start 2) e)
-    ∙ ap resultNumber (aside-result (start 2) e (stays-in-range .starts 2 (omega arith) (omega arith)) (run-below 2 [] (omega arith)))
+    ap (λ (s : State). resultNumber (step s e)) (start-is 2 tower)
+    ∙ aside-number (step (start 2 tower) e)
+    ∙ ap resultNumber (aside-result (start 2 tower) e (stays-in-range .starts TwoPairs 2 tower two-start) (run-below 2 tower [] (omega arith)))
 
-first-ranged : (e : Event) → inRange (after (view (startingTable 2)) e) ≡ true
+first-ranged : (e : Event) → inRange (after (view (startingTable 2 tower)) e) ≡ true
 unfolding runFrom
-first-ranged e = ap (λ (s : State). inRange (after s e)) (start-is 2) ∙ stays-in-range .runs 2 (omega arith) (omega arith) (e ∷ [])
+first-ranged e = ap (λ (s : State). inRange (after s e)) (start-is 2 tower) ∙ stays-in-range .runs TwoPairs 2 tower two-start (e ∷ [])
 
 computed : Computed
 unfolding pick onesIn ones leadingZeros bitAnd bitOr inviteNext merges handNext finishes forwardNext askedAll askAt askAfter checked timedOut ticked expired resumed onAreYouCoordinator onAreYouThere onInvitation onAccept onReady onReply received react activityInRange nodeInRange messageInRange waits oldest withoutOldest every reactionTo remaining grounds judged firstOf
@@ -231,8 +240,8 @@ pub no-wrong-turning : NoWrongTurning
 no-wrong-turning =
     record {
       clears-counter = λ t i {r} x h. h (ap (λ (s : State). nodeAt s i .counter) (x .table) ∙ crash-keeps (view t) i);
-      group-returns = λ n h {es} {fs} {t} {u} c d {e} {r} x y f k.
-          k (subst (Lacks (view t)) (sym (code-fixes n h .numbered (folded-reached c d) x y f)) (code-fixes n h .fresh c d x y f));
+      group-returns = λ n lim h {es} {fs} {t} {u} c d {e} {r} x y f k.
+          k (subst (Lacks (view t)) (sym (code-fixes n lim h .numbered (folded-reached c d) x y f)) (code-fixes n lim h .fresh c d x y f));
       returns-one = λ {u} f h. let z : _≡_ {A = ℕ} 16 32 = sym h ∙ ap (λ (s : State). nodeAt s 1 .group .number) (code-runs .from-any _ _ _ f) ∙ computed .again in omega arith;
       empties-one = λ {r} x h. true≢false (sym (computed .members) ∙ sym (ap (λ (s : State). invites (nodeAt s 1 .activity) 2) (x .table)) ∙ h);
       takes-one = λ {r} x h. h (ap (λ (s : State). nodeAt s 2 .task .number) (x .table) ∙ computed .task);
@@ -305,51 +314,56 @@ recovering t i g low high h k = moves t (Recover i) (recovery-accepted (view t) 
 
 -- ── the first event ──
 
-none-remains : (n : ℕ) (e : Event) → remaining (start n) e ≡ []
+none-remains : (n : ℕ) (lim : Limits) (e : Event) → remaining (start n lim) e ≡ []
 unfolding remaining withoutOldest
-none-remains n (Crash i) = refl
-none-remains n (Recover i) = refl
-none-remains n (Check i) = refl
-none-remains n (Timeout i) = refl
-none-remains n (Tick i) = refl
-none-remains n (Expire i) = refl
-none-remains n (Finish i t) = refl
-none-remains n (Deliver a b) = refl
-none-remains n (Lose a b) = refl
+none-remains n lim (Crash i) = refl
+none-remains n lim (Recover i) = refl
+none-remains n lim (Check i) = refl
+none-remains n lim (Timeout i) = refl
+none-remains n lim (Tick i) = refl
+none-remains n lim (Expire i) = refl
+none-remains n lim (Finish i t) = refl
+none-remains n lim (Deliver a b) = refl
+none-remains n lim (Lose a b) = refl
 
-pair-first : (n : ℕ) (e : Event) → pairAtEnd (start n .sent) (reactionTo (start n) e .outgoing) ≡ false
-pair-first n e = none (reactionTo (start n) e .outgoing)
+pair-first : (n : ℕ) (lim : Limits) (e : Event) → pairAtEnd (start n lim .sent) (reactionTo (start n lim) e .outgoing) ≡ false
+pair-first n lim e = none (reactionTo (start n lim) e .outgoing)
   where
     none : (o : Outgoing) → pairAtEnd noCounts o ≡ false
     none Nothing = refl
     none (Send m) = let p = pairPlace (m .sender) (m .receiver) in ne-eqb (getD noCounts p 0) trafficEnd (λ q. omega (arith, q, start-room 0 (omega arith) p))
 
 -- 9 comes before 18, as all nodes are Down
-first-down : (n : ℕ) (e : Event) → wrongStatus (nodeAt (start n) (actor e) .status) e ≡ false → notCoordinator (nodeAt (start n) (actor e)) e ≡ true → ⊥
-first-down n (Crash i) up q = true≢false (sym q)
-first-down n (Recover i) up q = true≢false (sym q)
-first-down n (Check i) up q = true≢false (sym (ap (λ (c : Node). isDown (c .status)) (start-node n (i - 1))) ∙ up)
-first-down n (Timeout i) up q = true≢false (sym q)
-first-down n (Tick i) up q = true≢false (sym q)
-first-down n (Expire i) up q = true≢false (sym q)
-first-down n (Finish i t) up q = true≢false (sym q)
-first-down n (Deliver a b) up q = true≢false (sym q)
-first-down n (Lose a b) up q = true≢false (sym q)
+first-down : (n : ℕ) (lim : Limits) (e : Event) → wrongStatus (nodeAt (start n lim) (actor e) .status) e ≡ false → notCoordinator (nodeAt (start n lim) (actor e)) e ≡ true → ⊥
+first-down n lim (Crash i) up q = true≢false (sym q)
+first-down n lim (Recover i) up q = true≢false (sym q)
+first-down n lim (Check i) up q = true≢false (sym (ap (λ (c : Node). isDown (c .status)) (start-node n (i - 1))) ∙ up)
+first-down n lim (Timeout i) up q = true≢false (sym q)
+first-down n lim (Tick i) up q = true≢false (sym q)
+first-down n lim (Expire i) up q = true≢false (sym q)
+first-down n lim (Finish i t) up q = true≢false (sym q)
+first-down n lim (Deliver a b) up q = true≢false (sym q)
+first-down n lim (Lose a b) up q = true≢false (sym q)
 
-first-small : (n : ℕ) (e : Event) → 12 ≤ resultNumber (step (start n) e) → ⊥
+-- in a table in range some messages may wait
+some-messages : (s : State) → s .rule ≡ TwoPairs → inRange s ≡ true → 1 ≤ s .limits .messages
+some-messages s k r =
+    by-pair (λ (l : Limits). 1 ≤ l .messages) (s .limits) (subst (λ (p : PairRule). pairRule p (s .limits) ≡ true) k (in-range-pair s r)) (omega arith) (omega arith)
+
+first-small : (n : ℕ) (lim : Limits) (e : Event) → 12 ≤ resultNumber (step (start n lim) e) → ⊥
 unfolding step grounds judged
-first-small n e =
+first-small n lim e =
     by-test P (λ _ h. omega arith)
-    (λ _. by-test P (λ _ h. omega arith)
+    (λ ok. by-test P (λ _ h. omega arith)
     (λ _. by-test P (λ _ h. omega arith)
     (λ _. by-test P (λ _ h. omega arith)
     (λ up. by-test P (λ _ h. omega arith)
-    (λ _. by-test P (λ q h. first-down n e up q)
+    (λ _. by-test P (λ q h. first-down n lim e up q)
     (λ _. by-test P (λ _ h. omega arith)
-    (λ _. by-test P (λ q h. absurd (end (forms (reactionTo (start n) e .mark)) (nodeAt (start n) (actor e) .counter) counterEnd q (ap (λ (c : Node). c .counter) (start-node n (actor e - 1))) (omega arith)))
-    (λ _. by-test P (λ q h. absurd (end (isCalling (reactionTo (start n) e .outgoing)) (nodeAt (start n) (actor e) .last .number) callEnd q (ap (λ (c : Node). c .last .number) (start-node n (actor e - 1))) (omega arith)))
-    (λ _. by-test P (λ q h. absurd (end (isSending (reactionTo (start n) e .outgoing)) (length (remaining (start n) e)) queueLimit q (ap length (none-remains n e)) (omega arith)))
-    (λ _. by-test P (λ q h. true≢false (sym q ∙ pair-first n e)) (λ _ h. omega arith)))))))))))
+    (λ _. by-test P (λ q h. absurd (end (forms (reactionTo (start n lim) e .mark)) (nodeAt (start n lim) (actor e) .counter) counterEnd q (ap (λ (c : Node). c .counter) (start-node n (actor e - 1))) (omega arith)))
+    (λ _. by-test P (λ q h. absurd (end (isCalling (reactionTo (start n lim) e .outgoing)) (nodeAt (start n lim) (actor e) .last .number) callEnd q (ap (λ (c : Node). c .last .number) (start-node n (actor e - 1))) (omega arith)))
+    (λ _. by-test P (λ q h. absurd (end (isSending (reactionTo (start n lim) e .outgoing)) (length (remaining (start n lim) e)) (lim .messages) q (ap length (none-remains n lim e)) (some-messages (start n lim) refl (not-false _ ok))))
+    (λ _. by-test P (λ q h. true≢false (sym q ∙ pair-first n lim e)) (λ _ h. omega arith)))))))))))
   where
     P : Result → Type 0
     P q = 12 ≤ resultNumber q → ⊥
@@ -365,10 +379,10 @@ full s a b (accepted u k) i e = omega (arith, e)
 pub no-mutant : NoMutant
 no-mutant =
     record {
-      first-moves = λ n i h low high.
-          recovering (startingTable n) i (ap inRange (start-is n) ∙ stays-in-range .starts n (omega arith) h) low high
-          (ap (λ (s : State). isDown (nodeAt s i .status)) (start-is n) ∙ ap (λ (c : Node). isDown (c .status)) (start-node n (i - 1)))
-          (λ e. let z : _≡_ {A = ℕ} 0 counterEnd = sym (ap (λ (s : State). nodeAt s i .counter) (start-is n) ∙ ap (λ (c : Node). c .counter) (start-node n (i - 1))) ∙ e in omega arith);
+      first-moves = λ n i lim h low high.
+          recovering (startingTable n lim) i (ap inRange (start-is n lim) ∙ stays-in-range .starts TwoPairs n lim h) low high
+          (ap (λ (s : State). isDown (nodeAt s i .status)) (start-is n lim) ∙ ap (λ (c : Node). isDown (c .status)) (start-node n (i - 1)))
+          (λ e. let z : _≡_ {A = ℕ} 0 counterEnd = sym (ap (λ (s : State). nodeAt s i .counter) (start-is n lim) ∙ ap (λ (c : Node). c .counter) (start-node n (i - 1))) ∙ e in omega arith);
       accepted-still = λ t e {r} m x a h g. accepted-differs (view t) e _ _ (accepted-alike .model-accepts x a) m h g;
       crash-moves = crashing;
       recovery-moves = recovering;
@@ -376,15 +390,15 @@ no-mutant =
           recovering (r .table) 2 (ap inRange (x .table) ∙ computed .ranged) (omega arith) (omega (arith, ap (λ (s : State). s .n) (x .table) ∙ computed .two))
           (ap (λ (s : State). isDown (nodeAt s 2 .status)) (x .table) ∙ ap (λ (c : Node). isDown (c .status)) (computed .second))
           (λ e. let z : _≡_ {A = ℕ} 0 counterEnd = sym (ap (λ (s : State). nodeAt s 2 .counter) (x .table) ∙ ap (λ (c : Node). c .counter) (computed .second)) ∙ e in omega arith);
-      late-crash-moves = λ n l h {es} {t} c i low high.
-          crashing t i (code-runs .in-range n l h es t c) low (omega (arith, high, ap (λ (s : State). s .n) (code-runs .from-start n es t c) ∙ run-nodes n es));
-      late-recovery-moves = λ n l h {es} {t} c i low high.
-          recovering t i (code-runs .in-range n l h es t c) low (omega (arith, high, ap (λ (s : State). s .n) (code-runs .from-start n es t c) ∙ run-nodes n es));
+      late-crash-moves = λ n lim h {es} {t} c i low high.
+          crashing t i (code-runs .in-range n lim h es t c) low (omega (arith, high, ap (λ (s : State). s .n) (code-runs .from-start n lim es t c) ∙ run-nodes n lim es));
+      late-recovery-moves = λ n lim h {es} {t} c i low high.
+          recovering t i (code-runs .in-range n lim h es t c) low (omega (arith, high, ap (λ (s : State). s .n) (code-runs .from-start n lim es t c) ∙ run-nodes n lim es));
       accepts-all = λ {r} x h. let z : _≡_ {A = ℕ} 0 9 = sym (ap answerNumber h) ∙ x .answer ∙ computed .away in omega arith;
       delivers-none = λ t a b {r} w x h.
           true≢false (sym (not-false _ (accepted-is (view t) (Deliver a b) _ _ (accepted-alike .model-accepts x h) .clear .waiting)) ∙ w);
       delivery-full = λ t a b {r} x h. full (view t) a b (step (view t) (Deliver a b)) refl (sym (x .answer) ∙ ap answerNumber h);
-      no-cry = λ n e {r} x h. first-small n e (rw (x .answer ∙ ap (λ (s : State). resultNumber (step s e)) (start-is n)) at h);
+      no-cry = λ n lim e {r} x h. first-small n lim e (rw (x .answer ∙ ap (λ (s : State). resultNumber (step s e)) (start-is n lim)) at h);
     }
 
 -- ── higher numbers first ──
@@ -421,8 +435,8 @@ no-lower-first =
       sends-elsewhere = λ t e m {r} x d l q h.
           h (sent-to (reactionTo (view t) e .outgoing) m _ (picked t e x d .sends l) (append-cancel-left (remaining (view t) e) _ _ (sym (in-queue t e x d) ∙ q)));
       hands-lowest = λ {r} x h. handed-apart (sym (computed .picks) ∙ sym (ap (λ (s : State). nodeAt s 3 .activity) (x .table)) ∙ h);
-      lower-in-runs = λ n {es} {t} c i j h l.
-          omega (arith, subst (λ (s : State). Below (whomStill (nodeAt s i .activity)) (whomNow (nodeAt s i .activity))) (sym (code-runs .from-start n es t c)) (call-order .runs n es i) j h, l);
+      lower-in-runs = λ n lim {es} {t} c i j h l.
+          omega (arith, subst (λ (s : State). Below (whomStill (nodeAt s i .activity)) (whomNow (nodeAt s i .activity))) (sym (code-runs .from-start n lim es t c)) (call-order .runs n lim es i) j h, l);
     }
 
 -- ── an invitation that arrives twice ──
@@ -447,7 +461,7 @@ no-joining-again =
           true≢false (sym h ∙ ap (λ (c : Node). isNormal (c .status)) (accepted-record t (Deliver a b) x y) ∙ acts-not-normal (view t) a b k o g);
       leaves-normal = λ {u} f h.
           h (ap (λ (s : State). nodeAt s 1 .status)
-          (code-runs .from-any _ _ _ f ∙ ap (λ (s : State). runFrom s (invitedOnce ++ (Deliver 2 1 ∷ []))) (start-is 3))
+          (code-runs .from-any _ _ _ f ∙ ap (λ (s : State). runFrom s (invitedOnce ++ (Deliver 2 1 ∷ []))) (start-is 3 tower))
           ∙ ap (λ (s : State). nodeAt s 1 .status) (invited-twice .only-messages));
     }
 
@@ -520,7 +534,8 @@ no-loss l (Lose a b) q = absurd (true≢false q)
 -- a table whose counts are not in range is refused
 not-in-range : (s : State) (e : Event) → trafficInRange s ≡ false → step s e ≡ refused 1
 unfolding step grounds judged inRange pick
-not-in-range s e f = rw (f, and-false (baseInRange (s .n) (s .nodes) (s .queue)))
+not-in-range s e f =
+    rw (f, and-false (baseInRange (s .limits) (s .n) (s .nodes) (s .queue)), and-false (isWithinTower (s .limits)), and-false (pairRule (s .rule) (s .limits)))
 
 -- 17 is given only where the pair's count is at its end
 seventeen-at-end : (s : State) (e : Event) → step s e ≡ refused 17 → pairAtEnd (s .sent) (reactionTo s e .outgoing) ≡ true
@@ -594,6 +609,61 @@ no-other-checks =
       asks-otherwise = λ {t} {i} {r} x y h. let q = accepted-alike .model-accepts x y in h (x .table ∙ ap (kept (view t)) q ∙ check-rules .leaves (view t) i _ _ q);
       one-away = λ {t} {i} {r} n y a b x h. h (answer-known (r .answer) Accepted (x .answer ∙ ap resultNumber (check-rules .one (view t) i y n a b)));
       one-changes = λ {t} {i} {r} n x h. h (x .table ∙ one-kept (view t) i n);
-      early = λ n {es} {t} {e} {r} c few x y.
-          check-rules .not-early n es e few (ap (λ (s : State). step s e) (sym (code-runs .from-start n es t c)) ∙ is-eighteen x y);
+      early = λ n lim {es} {t} {e} {r} c few x y.
+          check-rules .not-early n lim es e few (ap (λ (s : State). step s e) (sym (code-runs .from-start n lim es t c)) ∙ is-eighteen x y);
     }
+
+-- ── T-08 ──
+
+-- 14 is given only where as many wait as the limit says
+full-at : (s : State) (e : Event) → step s e ≡ refused 14 → length (remaining s e) ≡ s .limits .messages
+unfolding grounds pick
+full-at s e q = eqb-true (length (remaining s e)) (s .limits .messages) (both-right (isSending (reactionTo s e .outgoing)) _ (met s e 14 refl q))
+
+full-queue : (s : State) (e : Event) → step s e ≡ refused 14 → length (s .queue) ≡ s .limits .messages
+unfolding grounds pick reactionTo remaining
+full-queue s (Crash i) q = full-at s (Crash i) q
+full-queue s (Recover i) q = full-at s (Recover i) q
+full-queue s (Check i) q = full-at s (Check i) q
+full-queue s (Timeout i) q = full-at s (Timeout i) q
+full-queue s (Tick i) q = full-at s (Tick i) q
+full-queue s (Expire i) q = full-at s (Expire i) q
+full-queue s (Finish i t) q = full-at s (Finish i t) q
+full-queue s (Deliver a b) q = absurd (delivery-never-full s a b q)
+full-queue s (Lose a b) q = absurd (true≢false (sym (met s (Lose a b) 14 refl q)))
+
+-- a table that can't be in range is refused with 1
+never-in-range : (s : State) (e : Event) → (inRange s ≡ true → ⊥) → step s e ≡ refused 1
+unfolding step grounds judged pick
+never-in-range s e f = by (inRange s) refl
+  where
+    by : (t : Bool) → inRange s ≡ t → step s e ≡ refused 1
+    by true r = absurd (f r)
+    by false r = rw r
+
+-- no event changes the limits
+limits-kept : {t : Table} {e : Event} {r : Outcome} → Stepped t e r → r .table .limits ≡ t .limits
+unfolding runFrom
+limits-kept {t} {e} x = ap (λ (s : State). s .limits) (x .table) ∙ run-limits (view t) (e ∷ [])
+
+pub no-other-limits : NoOtherLimits
+unfolding pick
+no-other-limits =
+    record {
+      early-full = λ {t} {e} {r} x y h.
+          h (sym (first-length (t .waiting) noMessage (t .messages)) ∙ full-queue (view t) e (by-number (step (view t) e) 14 (omega arith) (sym (ap answerNumber y) ∙ x .answer)));
+      over-full = λ {t} {e} {r} x y h.
+          let o = in-range-own (view (r .table)) (stays-in-range .keeps (view t) e _ _ (accepted-alike .model-accepts x y)) in
+          omega (arith, h, o .1, first-length (r .table .waiting) noMessage (r .table .messages), ap (λ (l : Limits). l .messages) (limits-kept x));
+      other-pair = λ {t} {e} {r} x p h. h (in-one x (tower-and-stand .no-other-step (view t) e refl p));
+      many-nodes = λ {t} {e} {r} x l h. h (in-one x (never-in-range (view t) e (λ q. omega (arith, l, in-range-own (view t) q .0))));
+      many-messages = λ {t} {e} {r} x l h.
+          h (in-one x (never-in-range (view t) e (λ q. omega (arith, l, in-range-own (view t) q .1, first-length (t .waiting) noMessage (t .messages)))));
+      changes-limits = λ x h. h (limits-kept x);
+      starts-other = λ {n} {l} {r} x p h. h (start-known (r .answer) WrongLimits (x .answer ∙ rw p));
+      starts-wrong = λ {n} {l} {r} x p c h. h (start-known (r .answer) WrongCount (x .answer ∙ rw (p, c)));
+      starts-none = λ {n} {l} {r} x s h. h (start-known (r .answer) Started (x .answer ∙ rw (s .pair, le-leb 1 n (s .low), le-leb n (l .nodes) (s .high))));
+    }
+  where
+    in-one : {t : Table} {e : Event} {r : Outcome} → Stepped t e r → step (view t) e ≡ refused 1 → r .answer ≡ NotInRange
+    in-one {t} {e} {r} x q = answer-known (r .answer) NotInRange (x .answer ∙ ap resultNumber q)

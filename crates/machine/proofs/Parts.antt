@@ -176,13 +176,13 @@ refused-stepped t e a q h =
 -- the grounds in three groups, of a table in range
 module _ (t : Table) (e : Event) (ok : inRange (view t) ≡ true) (c : Node) (hc : c ≡ nodeAt (view t) (actor e)) (found : Bool) (hf : found ≡ ltb (placeFor (view t .queue) e) (length (view t .queue))) where
   grounds-are : (r : Reaction) (left : ℕ) → r ≡ reactionTo (view t) e → left ≡ length (remaining (view t) e)
-      → grounds (view t) e ≡ ground 1 false ∷ (numberGrounds (t .n) e ++ (stateGrounds c e found ++ (endGrounds c r left ++ lastGrounds (t .sent) (r .outgoing))))
+      → grounds (view t) e ≡ ground 1 false ∷ (numberGrounds (t .n) e ++ (stateGrounds c e found ++ (endGrounds c r left (t .limits .messages) ++ lastGrounds (t .sent) (r .outgoing))))
   unfolding grounds
   grounds-are r left hr hl = rw (hc, hf, hr, hl, ok, none-place (view t .queue) e)
 
   -- those behind the state's, of the event's own reaction
   abbrev behind : List Ground
-  behind = endGrounds c (reactionTo (view t) e) (length (remaining (view t) e)) ++ lastGrounds (t .sent) (reactionTo (view t) e .outgoing)
+  behind = endGrounds c (reactionTo (view t) e) (length (remaining (view t) e)) (t .limits .messages) ++ lastGrounds (t .sent) (reactionTo (view t) e .outgoing)
 
   first-is : (xs : List Ground) → first (ground 1 false ∷ xs) ≡ first xs
   unfolding first
@@ -204,16 +204,16 @@ module _ (t : Table) (e : Event) (ok : inRange (view t) ≡ true) (c : Node) (hc
     state-refuses a q h = refused-stepped t e a q (h ∙ sym (past-numbers ∙ first-met (stateGrounds c e found) _ (omega (arith, refused-some a q, h))))
 
     module _ (going : first (stateGrounds c e found) ≡ 0) (r : Reaction) (hr : r ≡ reactionTo (view t) e) (left : ℕ) (hl : left ≡ length (remaining (view t) e)) where
-      past-state : first (grounds (view t) e) ≡ first (endGrounds c r left ++ lastGrounds (t .sent) (r .outgoing))
+      past-state : first (grounds (view t) e) ≡ first (endGrounds c r left (t .limits .messages) ++ lastGrounds (t .sent) (r .outgoing))
       past-state = rw (hr, hl) (past-numbers ∙ first-clear (stateGrounds c e found) _ refl going)
 
       -- 12 to 14
-      pub ends-refuse : (a : Answer) → isAccepted a ≡ false → answerNumber a ≡ first (endGrounds c r left) → Stepped t e (record { answer = a; table = t })
-      ends-refuse a q h = refused-stepped t e a q (h ∙ sym (past-state ∙ first-met (endGrounds c r left) _ (omega (arith, refused-some a q, h))))
+      pub ends-refuse : (a : Answer) → isAccepted a ≡ false → answerNumber a ≡ first (endGrounds c r left (t .limits .messages)) → Stepped t e (record { answer = a; table = t })
+      ends-refuse a q h = refused-stepped t e a q (h ∙ sym (past-state ∙ first-met (endGrounds c r left (t .limits .messages)) _ (omega (arith, refused-some a q, h))))
 
-      module _ (ends : first (endGrounds c r left) ≡ 0) where
+      module _ (ends : first (endGrounds c r left (t .limits .messages)) ≡ 0) where
         past-ends : first (grounds (view t) e) ≡ first (lastGrounds (t .sent) (r .outgoing))
-        past-ends = past-state ∙ first-clear (endGrounds c r left) _ refl ends
+        past-ends = past-state ∙ first-clear (endGrounds c r left (t .limits .messages)) _ refl ends
 
         -- 17
         pub last-refuses : pairAtEnd (t .sent) (r .outgoing) ≡ true → (a : Answer) → isAccepted a ≡ false → answerNumber a ≡ 17 → Stepped t e (record { answer = a; table = t })

@@ -19,7 +19,7 @@ use Rattle.model.specs.Grounds.{first}
 use Rattle.model.specs.Step.{actor, reactionTo, remaining, sent, withSent, withDelivered, withLost, effect, wrongNumber, isSending, pairAtEnd}
 use Rattle.model.proofs.Judged.{Clear}
 use Rattle.model.proofs.Local.{both-left, both-right}
-use Rattle.model.proofs.Fields.{count-facts, in-range-size, in-range-each, in-range-node, in-range-oldest}
+use Rattle.model.proofs.Fields.{in-range-within, in-range-own, count-facts, in-range-size, in-range-each, in-range-node, in-range-oldest}
 use Rattle.model.proofs.Counts.{pair-counting}
 use Rattle.model.proofs.Range.{OutgoingIn}
 use Rattle.model.proofs.InRange.{event-in}
@@ -213,25 +213,28 @@ module _ (t : Table) (z : Sized t) (ok : inRange (view t) ≡ true) (e : Event) 
       left-counts = counted (ltb k (t .waiting)) refl ∙ ap length (sym (remaining-place (view t) e ∙ ap (λ (j : ℕ). without j (view t .queue)) (sym hk)))
 
       -- there is a place for what is sent
-      pub room-is : (c : Node) (r : Reaction) → first (endGrounds c r left) ≡ 0 → Room (r .outgoing) left
+      pub room-is : (c : Node) (r : Reaction) → first (endGrounds c r left (t .limits .messages)) ≡ 0 → Room (r .outgoing) left
       unfolding pick
-      room-is c r h = by-outgoing (r .outgoing) (not-met 14 (endGrounds c r left) refl h)
+      room-is c r h = by-outgoing (r .outgoing) (not-met 14 (endGrounds c r left (t .limits .messages)) refl h)
         where
-          by-outgoing : (o : Outgoing) → isSending o && eqb left 64 ≡ false → Room o left
+          by-outgoing : (o : Outgoing) → isSending o && eqb left (t .limits .messages) ≡ false → Room o left
           by-outgoing Nothing q = tt
-          by-outgoing (Send m) q = omega (arith, eqb-false left 64 q, place-few)
+          by-outgoing (Send m) q = omega (arith, eqb-false left (t .limits .messages) q, place-few, limit-few)
             where
-              place-few : left ≤ 64
-              place-few = left-few (t .waiting) k left left-is (small .2)
+              place-few : left ≤ t .limits .messages
+              place-few = left-few (t .limits .messages) (t .waiting) k left left-is (omega (arith, in-range-own (view t) ok .1, first-length (t .waiting) noMessage (t .messages)))
+
+              limit-few : t .limits .messages ≤ 64
+              limit-few = in-range-within (view t) ok .1
 
       -- what is known where none of the grounds but 17 applies
       pub clear-is : (c : Node) → c ≡ nodeAt (view t) (actor e) → first (numberGrounds (t .n) e) ≡ 0 → first (stateGrounds c e (ltb k (t .waiting))) ≡ 0 → (r : Reaction) → r ≡ reactionTo (view t) e
-          → first (endGrounds c r left) ≡ 0 → Clear (view t) e
+          → first (endGrounds c r left (t .limits .messages)) ≡ 0 → Clear (view t) e
       unfolding pick
       clear-is c hc g h r hr i =
           let numbers = numberGrounds (t .n) e in
           let state = stateGrounds c e (ltb k (t .waiting)) in
-          let ends = endGrounds c r left in
+          let ends = endGrounds c r left (t .limits .messages) in
           record {
             in-range = ok;
             number = not-met 7 numbers refl g;

@@ -2,25 +2,27 @@
 use Prim.Native.Nat.{ℕ, zero, suc, _+_, _≤_}
 use native.Mathlib.Omega.{arith}
 use mathlib.Core.Path.{_≡_, refl, sym, _∙_, ap, subst}
-use mathlib.Core.List.{List, [], _∷_, _++_}
+use mathlib.Core.List.{List, [], _++_}
 use mathlib.Core.Bool.{true}
 use lib.Dec.{eqb}
 use lib.ListN.{getD, replicate}
-use Rattle.model.specs.Limits.{nodeLimit}
+use Rattle.model.specs.Range.{TwoPairs}
+use Rattle.model.specs.Limits.{nodeLimit, tower, stand}
 use Rattle.model.specs.Pick.{pick}
 use Rattle.model.specs.Counts.{countAt, total}
 use Rattle.model.specs.State.{State, startingNode, start, nodeAt, inRange, view, waiting}
-use Rattle.model.specs.Step.{actor, reactionTo, effect, Result, refused, accepted, step, kept, after, runFrom, run}
+use Rattle.model.specs.Step.{actor, reactionTo, Result, refused, accepted, step, kept, runFrom, run}
 use Rattle.model.specs.Answers.{answerNumber, resultNumber}
 use Rattle.model.specs.History.{Task, coming, history}
 use Rattle.model.specs.Node.{isActive}
-use Rattle.model.specs.Claims.{Lacks, Fixes, EachGroup}
+use Rattle.model.specs.Claims.{Lacks, Fixes, MayStart, EachGroup}
 use Rattle.model.proofs.Judged.{accepted-is}
-use Rattle.model.proofs.Traffic.{run-n, traffic-agrees}
+use Rattle.model.proofs.Traffic.{run-n, run-limits, traffic-agrees}
 use Rattle.model.proofs.Refusals.{refuses-by-ground}
 use Rattle.model.proofs.Whole.{run-fixes}
 use Rattle.model.proofs.Fixed.{task-from-list}
-use Rattle.model.proofs.InRange.{stays-in-range}
+use Rattle.model.proofs.InRange.{start-small, stays-in-range}
+use Rattle.model.specs.declared.Limits.{Limits}
 use Rattle.model.specs.declared.Status.the-variants.{Normal}
 use Rattle.model.specs.declared.Table.{Table}
 use Rattle.model.specs.declared.Event.{Event}
@@ -30,7 +32,7 @@ use Rattle.model.specs.declared.Answer.{Answer}
 use Rattle.model.specs.declared.Answer.the-variants.{Accepted, NotInRange, WrongNumber, WrongTask, WrongStatus, WrongActivity, NotCoordinator, NoMessage, CounterAtEnd, CallsAtEnd, QueueFull, SentAtEnd}
 use Rattle.machine.specs.Stepped.{Stepped}
 use Rattle.machine.specs.Folded.{Folded, none, more}
-use Rattle.machine.specs.Claims.{AcceptedAlike, SteppedAlike, isForming, Chain, Reached, CodeRuns, CodeFixes, CodeTraffic}
+use Rattle.machine.specs.Claims.{AcceptedAlike, SteppedAlike, isForming, Chain, Reached, CodeRuns, CodeFixes, CodeTraffic, CodeHolds, CodeTowerAndStand}
 
 -- ── the tables of a chain are those of the model's run ──
 
@@ -46,8 +48,8 @@ folded-append none g = g
 folded-append (more s f) g = more s (folded-append f g)
 
 -- a run keeps the number of nodes
-pub run-nodes : (n : ℕ) (es : List Event) → run n es .n ≡ n
-run-nodes n es = run-n (start n) es
+pub run-nodes : (n : ℕ) (lim : Limits) (es : List Event) → run n lim es .n ≡ n
+run-nodes n lim es = run-n (start n lim) es
 
 -- every node of a starting table
 pub start-node : (n k : ℕ) → getD (replicate n startingNode) k startingNode ≡ startingNode
@@ -127,37 +129,37 @@ accepted-alike =
 
 -- of any chain that is one of steps
 module _ (chain : Chain) (folds : (t : Table) (es : List Event) (u : Table) → chain t es u → Folded t es u) where
-  runs : {n : ℕ} {es : List Event} {t : Table} → Reached chain n es t → view t ≡ run n es
+  runs : {n : ℕ} {lim : Limits} {es : List Event} {t : Table} → Reached chain n lim es t → view t ≡ run n lim es
   runs {es = es} c = folded-runs (folds _ _ _ (c .led)) ∙ ap (λ (v : State). runFrom v es) (c .begun .table)
 
-  runs-on : {n : ℕ} {es fs : List Event} {t u : Table} → Reached chain n es t → chain t fs u → view u ≡ run n (es ++ fs)
+  runs-on : {n : ℕ} {lim : Limits} {es fs : List Event} {t u : Table} → Reached chain n lim es t → chain t fs u → view u ≡ run n lim (es ++ fs)
   runs-on {es = es} {fs = fs} c d = folded-runs (folded-append (folds _ _ _ (c .led)) (folds _ _ _ d)) ∙ ap (λ (v : State). runFrom v (es ++ fs)) (c .begun .table)
 
   pub chain-runs : CodeRuns chain
   chain-runs =
       record {
         from-any = λ t es u c. folded-runs (folds t es u c);
-        from-start = λ n es t c. runs c;
-        in-range = λ n l h es t c. ap inRange (runs c) ∙ stays-in-range .runs n l h es;
+        from-start = λ n lim es t c. runs c;
+        in-range = λ n lim s es t c. ap inRange (runs c) ∙ stays-in-range .runs TwoPairs n lim s es;
       }
 
   -- the model's step, where the code accepts e on a table that es led to
-  steps : (n : ℕ) (es : List Event) {u : Table} {e : Event} {r : Outcome} → view u ≡ run n es → Stepped u e r → r .answer ≡ Accepted → step (run n es) e ≡ accepted (view (r .table)) (reactionTo (view u) e .mark)
-  steps n es {e = e} z x a = ap (λ (s : State). step s e) (sym z) ∙ accepted-alike .model-accepts x a
+  steps : (n : ℕ) (lim : Limits) (es : List Event) {u : Table} {e : Event} {r : Outcome} → view u ≡ run n lim es → Stepped u e r → r .answer ≡ Accepted → step (run n lim es) e ≡ accepted (view (r .table)) (reactionTo (view u) e .mark)
+  steps n lim es {e = e} z x a = ap (λ (s : State). step s e) (sym z) ∙ accepted-alike .model-accepts x a
 
   -- two Normal nodes with the same group have the same task
-  same : (n : ℕ) → n ≤ nodeLimit → (es : List Event) (i j : ℕ) → 1 ≤ i → i ≤ n → 1 ≤ j → j ≤ n
-      → nodeAt (run n es) i .status ≡ Normal → nodeAt (run n es) j .status ≡ Normal
-      → nodeAt (run n es) i .group .number ≡ nodeAt (run n es) j .group .number
-      → nodeAt (run n es) i .task .number ≡ nodeAt (run n es) j .task .number
-  same n h es i j i₁ i₂ j₁ j₂ p q s =
-      let a = run-fixes n h .fixed-task es [] i i₁ i₂ p in
-      let b = run-fixes n h .fixed-task es [] j j₁ j₂ q in
-      let z : Task (nodeAt (run n es) i .task .number) ≡ Task (nodeAt (run n es) j .task .number) = sym a ∙ rw s b in
+  same : (n : ℕ) (lim : Limits) → n ≤ nodeLimit → (es : List Event) (i j : ℕ) → 1 ≤ i → i ≤ n → 1 ≤ j → j ≤ n
+      → nodeAt (run n lim es) i .status ≡ Normal → nodeAt (run n lim es) j .status ≡ Normal
+      → nodeAt (run n lim es) i .group .number ≡ nodeAt (run n lim es) j .group .number
+      → nodeAt (run n lim es) i .task .number ≡ nodeAt (run n lim es) j .task .number
+  same n lim h es i j i₁ i₂ j₁ j₂ p q s =
+      let a = run-fixes TwoPairs n lim h .fixed-task es [] i i₁ i₂ p in
+      let b = run-fixes TwoPairs n lim h .fixed-task es [] j j₁ j₂ q in
+      let z : Task (nodeAt (run n lim es) i .task .number) ≡ Task (nodeAt (run n lim es) j .task .number) = sym a ∙ rw s b in
       cc
 
-  pub chain-fixes : (n : ℕ) → n ≤ nodeLimit → CodeFixes chain n
-  chain-fixes n h =
+  pub chain-fixes : (n : ℕ) (lim : Limits) → n ≤ nodeLimit → CodeFixes chain n lim
+  chain-fixes n lim h =
       record {
         same-coordinator = λ {es} {t} c.
             subst
@@ -165,53 +167,73 @@ module _ (chain : Chain) (folds : (t : Table) (es : List Event) (u : Table) → 
             → isActive (nodeAt s i .status) ≡ true → isActive (nodeAt s j .status) ≡ true
             → nodeAt s i .group .number ≡ nodeAt s j .group .number
             → nodeAt s i .coordinator ≡ nodeAt s j .coordinator)
-            (sym (runs c)) (run-fixes n h .same-coordinator es);
+            (sym (runs c)) (run-fixes TwoPairs n lim h .same-coordinator es);
         fixed-task = λ {es} {t} c fs.
             subst
             (λ (s : State). (i : ℕ) → 1 ≤ i → i ≤ n → nodeAt s i .status ≡ Normal
-            → history n (es ++ fs) .entry (nodeAt s i .group .number) ≡ Task (nodeAt s i .task .number))
-            (sym (runs c)) (run-fixes n h .fixed-task es fs);
+            → history n lim (es ++ fs) .entry (nodeAt s i .group .number) ≡ Task (nodeAt s i .task .number))
+            (sym (runs c)) (run-fixes TwoPairs n lim h .fixed-task es fs);
         same-task = λ {es} {t} c.
             subst
             (λ (s : State). (i j : ℕ) → 1 ≤ i → i ≤ n → 1 ≤ j → j ≤ n
             → nodeAt s i .status ≡ Normal → nodeAt s j .status ≡ Normal
             → nodeAt s i .group .number ≡ nodeAt s j .group .number
             → nodeAt s i .task .number ≡ nodeAt s j .task .number)
-            (sym (runs c)) (same n h es);
-        numbered = λ {es} {u} {e} {r} c x a f. run-fixes n h .numbered es e _ _ (steps n es (runs c) x a) f;
+            (sym (runs c)) (same n lim h es);
+        numbered = λ {es} {u} {e} {r} c x a f. run-fixes TwoPairs n lim h .numbered es e _ _ (steps n lim es (runs c) x a) f;
         fresh = λ {es} {fs} {t} {u} {e} {r} c d x a f.
-            subst (λ (s : State). Lacks s (coming (history n (es ++ fs)) (actor e))) (sym (runs c)) (run-fixes n h .fresh es fs e _ _ (steps n (es ++ fs) (runs-on c d) x a) f);
+            subst (λ (s : State). Lacks s (coming (history n lim (es ++ fs)) (actor e))) (sym (runs c)) (run-fixes TwoPairs n lim h .fresh es fs e _ _ (steps n lim (es ++ fs) (runs-on c d) x a) f);
         borrowed = λ {es} {u} {e} {r} c x a f j l k q.
-            run-fixes n h .borrowed es e _ _ (steps n es (runs c) x a) f j l k (subst (λ (s : State). Lacks s (nodeAt (view (r .table)) j .group .number)) (runs c) q);
+            run-fixes TwoPairs n lim h .borrowed es e _ _ (steps n lim es (runs c) x a) f j l k (subst (λ (s : State). Lacks s (nodeAt (view (r .table)) j .group .number)) (runs c) q);
         borrowed-messages = λ {es} {u} {e} {r} c x a.
-            subst (λ (s : State). EachGroup (λ g. Lacks s g → (isForming u e ≡ true) × (g ≡ coming (history n es) (actor e))) (view (r .table) .queue)) (sym (runs c))
-            (run-fixes n h .borrowed-messages es e _ _ (steps n es (runs c) x a));
-        formed-once = λ {es} {u} {e} {r} c x a f. run-fixes n h .formed-once es e _ _ (steps n es (runs c) x a) f;
-        given-once = λ {es} {u} {i} {x} {r} c s a. run-fixes n h .given-once es i x _ _ (steps n es (runs c) s a);
-        own-group = λ {es} {u} {i} {x} {r} c s a. ap (λ (v : State). nodeAt v i .group .number) (runs c) ∙ run-fixes n h .own-group es i x _ _ (steps n es (runs c) s a);
-        lasts = run-fixes n h .lasts;
+            subst (λ (s : State). EachGroup (λ g. Lacks s g → (isForming u e ≡ true) × (g ≡ coming (history n lim es) (actor e))) (view (r .table) .queue)) (sym (runs c))
+            (run-fixes TwoPairs n lim h .borrowed-messages es e _ _ (steps n lim es (runs c) x a));
+        formed-once = λ {es} {u} {e} {r} c x a f. run-fixes TwoPairs n lim h .formed-once es e _ _ (steps n lim es (runs c) x a) f;
+        given-once = λ {es} {u} {i} {x} {r} c s a. run-fixes TwoPairs n lim h .given-once es i x _ _ (steps n lim es (runs c) s a);
+        own-group = λ {es} {u} {i} {x} {r} c s a. ap (λ (v : State). nodeAt v i .group .number) (runs c) ∙ run-fixes TwoPairs n lim h .own-group es i x _ _ (steps n lim es (runs c) s a);
+        lasts = run-fixes TwoPairs n lim h .lasts;
         from-list = λ {es} {t} c.
             subst
             (λ (s : State). (i : ℕ) → 1 ≤ i → i ≤ n → nodeAt s i .status ≡ Normal
-            → Fixes n es (nodeAt s i .group .number) (nodeAt s i .task .number))
-            (sym (runs c)) (task-from-list n h .task es);
+            → Fixes TwoPairs n lim es (nodeAt s i .group .number) (nodeAt s i .task .number))
+            (sym (runs c)) (task-from-list TwoPairs n lim h .task es);
       }
 
-  pub chain-traffic : (n : ℕ) → 1 ≤ n → n ≤ nodeLimit → CodeTraffic chain n
-  chain-traffic n l h =
+  pub chain-traffic : (n : ℕ) (lim : Limits) → MayStart TwoPairs n lim → CodeTraffic chain n lim
+  chain-traffic n lim s =
       record {
-        sent-counted = λ {es} {t} c a b p q i j. ap (λ (s : State). countAt (s .sent) a b) (runs c) ∙ traffic-agrees n l h .sent-counted es a b p q i j;
-        delivered-counted = λ {es} {t} c a b p q i j. ap (λ (s : State). countAt (s .delivered) a b) (runs c) ∙ traffic-agrees n l h .delivered-counted es a b p q i j;
-        lost-counted = λ {es} {t} c a b p q i j. ap (λ (s : State). countAt (s .lost) a b) (runs c) ∙ traffic-agrees n l h .lost-counted es a b p q i j;
-        sent-total = λ {es} {t} c. ap (λ (s : State). total (s .sent)) (runs c) ∙ traffic-agrees n l h .sent-total es;
-        delivered-total = λ {es} {t} c. ap (λ (s : State). total (s .delivered)) (runs c) ∙ traffic-agrees n l h .delivered-total es;
-        lost-total = λ {es} {t} c. ap (λ (s : State). total (s .lost)) (runs c) ∙ traffic-agrees n l h .lost-total es;
+        sent-counted = λ {es} {t} c a b p q i j. ap (λ (s : State). countAt (s .sent) a b) (runs c) ∙ traffic-agrees TwoPairs n lim s .sent-counted es a b p q i j;
+        delivered-counted = λ {es} {t} c a b p q i j. ap (λ (s : State). countAt (s .delivered) a b) (runs c) ∙ traffic-agrees TwoPairs n lim s .delivered-counted es a b p q i j;
+        lost-counted = λ {es} {t} c a b p q i j. ap (λ (s : State). countAt (s .lost) a b) (runs c) ∙ traffic-agrees TwoPairs n lim s .lost-counted es a b p q i j;
+        sent-total = λ {es} {t} c. ap (λ (s : State). total (s .sent)) (runs c) ∙ traffic-agrees TwoPairs n lim s .sent-total es;
+        delivered-total = λ {es} {t} c. ap (λ (s : State). total (s .delivered)) (runs c) ∙ traffic-agrees TwoPairs n lim s .delivered-total es;
+        lost-total = λ {es} {t} c. ap (λ (s : State). total (s .lost)) (runs c) ∙ traffic-agrees TwoPairs n lim s .lost-total es;
         adds-up = λ {es} {t} c a b p q i j.
             subst (λ (s : State). countAt (s .sent) a b ≡ countAt (s .delivered) a b + countAt (s .lost) a b + waiting (s .queue) a b) (sym (runs c))
-            (traffic-agrees n l h .adds-up es a b p q i j);
+            (traffic-agrees TwoPairs n lim s .adds-up es a b p q i j);
         never-seventeen = λ {es} {u} {e} {r} c x a.
-            traffic-agrees n l h .never-seventeen es e
+            traffic-agrees TwoPairs n lim s .never-seventeen es e
             (ap (λ (s : State). step s e) (sym (runs c)) ∙ by-number (step (view u) e) 17 (omega arith) (sym (ap answerNumber a) ∙ x .answer));
+      }
+
+  -- 02, T-08
+  pub chain-holds : (n : ℕ) (lim : Limits) → MayStart TwoPairs n lim → CodeHolds chain n lim
+  chain-holds n lim s =
+      record {
+        fixes = chain-fixes n lim (start-small n lim s);
+        traffic = chain-traffic n lim s;
+        in-range = λ {es} {t} c. chain-runs .in-range n lim s es t c;
+        never-one = λ {es} {u} {e} {r} c x a.
+            stays-in-range .never-one TwoPairs n lim s es e
+            (ap (λ (s : State). step s e) (sym (runs c)) ∙ by-number (step (view u) e) 1 (omega arith) (sym (ap answerNumber a) ∙ x .answer));
+        same-limits = λ {es} {t} c. ap (λ (s : State). s .limits) (runs c) ∙ run-limits (start n lim) es;
+      }
+
+  pub chain-both : CodeTowerAndStand chain
+  chain-both =
+      record {
+        for-tower = λ n low high. chain-holds n tower (record { within = refl; pair = refl; low = low; high = high });
+        for-stand = λ n low high. chain-holds n stand (record { within = refl; pair = refl; low = low; high = high });
       }
 
 -- of the step by value
@@ -219,14 +241,17 @@ folded : (t : Table) (es : List Event) (u : Table) → Folded t es u → Folded 
 folded t es u f = f
 
 -- events led on from a table that events led to
-pub folded-reached : {n : ℕ} {es fs : List Event} {t u : Table} → Reached Folded n es t → Folded t fs u → Reached Folded n (es ++ fs) u
+pub folded-reached : {n : ℕ} {lim : Limits} {es fs : List Event} {t u : Table} → Reached Folded n lim es t → Folded t fs u → Reached Folded n lim (es ++ fs) u
 folded-reached c d = record { first = c .first; begun = c .begun; led = folded-append (c .led) d }
 
 pub code-runs : CodeRuns Folded
 code-runs = chain-runs Folded folded
 
-pub code-fixes : (n : ℕ) → n ≤ nodeLimit → CodeFixes Folded n
+pub code-fixes : (n : ℕ) (lim : Limits) → n ≤ nodeLimit → CodeFixes Folded n lim
 code-fixes = chain-fixes Folded folded
 
-pub code-traffic : (n : ℕ) → 1 ≤ n → n ≤ nodeLimit → CodeTraffic Folded n
+pub code-traffic : (n : ℕ) (lim : Limits) → MayStart TwoPairs n lim → CodeTraffic Folded n lim
 code-traffic = chain-traffic Folded folded
+
+pub code-both : CodeTowerAndStand Folded
+code-both = chain-both Folded folded

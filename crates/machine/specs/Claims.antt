@@ -1,19 +1,21 @@
--- What is claimed of the tables that the code returns: they are those of the model's run, and demand 3, whole, and T-05 hold of them; and of the records of a recovery. The proofs
--- are in proofs/Runs and proofs/Recovering.
+-- What is claimed of the tables that the code returns: they are those of the model's run, and demand 3, whole, and T-05 hold of them, in the tower and in the stand; of a starting
+-- table; and of the records of a recovery. The proofs are in proofs/Runs, proofs/Beginning and proofs/Recovering.
 use Prim.Native.Nat.{ℕ, _+_, _≤_}
 use mathlib.Core.Bool.{Bool, true, false}
 use mathlib.Core.Path.{_≡_}
 use mathlib.Core.List.{List, _++_}
 use lib.ListN.{replicate}
-use Rattle.model.specs.Limits.{nodeLimit}
+use Rattle.model.specs.Limits.{nodeLimit, tower, stand}
 use Rattle.model.specs.Counts.{countAt, total}
 use Rattle.model.specs.Recovery.{recoveryRecords}
+use Rattle.model.specs.Range.{TwoPairs}
 use Rattle.model.specs.State.{State, startingNode, start, nodeAt, waiting, inRange, view}
 use Rattle.model.specs.Step.{actor, reactionTo, forms, accepted, step, runFrom, run}
 use Rattle.model.specs.History.{NotFormed, NoTask, Task, newest, coming, history}
 use Rattle.model.specs.Traffic.{tally, sentIn, deliveredIn, lostIn, sendsAny, deliversAny, losesAny}
 use Rattle.model.specs.Node.{isActive}
-use Rattle.model.specs.Claims.{Lacks, Fixes, EachGroup, recordAfter}
+use Rattle.model.specs.Claims.{Lacks, Fixes, MayStart, EachGroup, recordAfter}
+use Rattle.model.specs.declared.Limits.{Limits}
 use Rattle.model.specs.declared.Status.the-variants.{Normal}
 use Rattle.model.specs.declared.TaskNo.{TaskNo}
 use Rattle.model.specs.declared.Mark.{Mark}
@@ -21,10 +23,11 @@ use Rattle.model.specs.declared.Event.{Event}
 use Rattle.model.specs.declared.Event.the-variants.{Recover, Finish}
 use Rattle.model.specs.declared.Table.{Table}
 use Rattle.model.specs.declared.Outcome.{Outcome}
-use Rattle.model.specs.declared.Answer.the-variants.{Accepted, SentAtEnd}
+use Rattle.model.specs.declared.Answer.the-variants.{Accepted, NotInRange, SentAtEnd}
+use Rattle.model.specs.declared.StartAnswer.the-variants.{Started}
 use Rattle.machine.specs.declared.Start.{Start}
 use Rattle.machine.specs.declared.RecoveryAnswer.{RecoveryAnswer}
-use Rattle.machine.specs.Stepped.{Stepped, Begun, RecoveryAnswered}
+use Rattle.machine.specs.Stepped.{Stepped, begunNumber, Begun, RecoveryAnswered}
 
 -- Of any outcome that meets `Stepped`, what `step` and `apply` promise: the code answers Accepted exactly where the model accepts.
 pub record AcceptedAlike : Type 0 where
@@ -48,10 +51,10 @@ isForming t e = forms (reactionTo (view t) e .mark)
 abbrev pub Chain : Type 1
 Chain = Table → List Event → Table → Type 0
 
--- the code led from what `starting(n)` returned, by the events es, to the table t
-pub record Reached (chain : Chain) (n : ℕ) (es : List Event) (t : Table) : Type 0 where
+-- the code led from what `starting` returned for n and the limits l, by the events es, to the table t
+pub record Reached (chain : Chain) (n : ℕ) (l : Limits) (es : List Event) (t : Table) : Type 0 where
   pub first : Start
-  pub begun : Begun n first
+  pub begun : Begun n l first
   pub led : chain (first .table) es t
 
 -- the tables that the code returned, one after another, are those of the model's run
@@ -59,72 +62,108 @@ pub record CodeRuns (chain : Chain) : Type 0 where
   -- from any table
   pub from-any : (t : Table) (es : List Event) (u : Table) → chain t es u → view u ≡ runFrom (view t) es
   -- from the starting one
-  pub from-start : (n : ℕ) (es : List Event) (t : Table) → Reached chain n es t → view t ≡ run n es
-  -- and so they are in range
-  pub in-range : (n : ℕ) → 1 ≤ n → n ≤ nodeLimit → (es : List Event) (t : Table) → Reached chain n es t → inRange (view t) ≡ true
+  pub from-start : (n : ℕ) (l : Limits) (es : List Event) (t : Table) → Reached chain n l es t → view t ≡ run n l es
+  -- and so they are in range, from a starting table of the tower or of the stand (T-08)
+  pub in-range : (n : ℕ) (l : Limits) → MayStart TwoPairs n l → (es : List Event) (t : Table) → Reached chain n l es t → inRange (view t) ≡ true
 
 -- Demand 3 of the tables that the code returned: each field but the last is that of `RunFixes` (model/specs/Claims), of them, and the last is that of
 -- `TaskFromList`. t is any table that events led to; u is the one on which e is answered with r, and accepted; in `fresh`, fs led from t to u.
-pub record CodeFixes (chain : Chain) (n : ℕ) : Type 0 where
+pub record CodeFixes (chain : Chain) (n : ℕ) (l : Limits) : Type 0 where
   -- two nodes in Reorganization or Normal with the same group have the same coordinator
-  pub same-coordinator : {es : List Event} {t : Table} → Reached chain n es t → (i j : ℕ) → 1 ≤ i → i ≤ n → 1 ≤ j → j ≤ n
+  pub same-coordinator : {es : List Event} {t : Table} → Reached chain n l es t → (i j : ℕ) → 1 ≤ i → i ≤ n → 1 ≤ j → j ≤ n
       → isActive (nodeAt (view t) i .status) ≡ true → isActive (nodeAt (view t) j .status) ≡ true
       → nodeAt (view t) i .group .number ≡ nodeAt (view t) j .group .number
       → nodeAt (view t) i .coordinator ≡ nodeAt (view t) j .coordinator
   -- "The book's task is the one the list fixed": a Normal node's task, in any table of the chain, is the task that the whole list's history has for its group
-  pub fixed-task : {es : List Event} {t : Table} → Reached chain n es t → (fs : List Event) (i : ℕ) → 1 ≤ i → i ≤ n → nodeAt (view t) i .status ≡ Normal
-      → history n (es ++ fs) .entry (nodeAt (view t) i .group .number) ≡ Task (nodeAt (view t) i .task .number)
+  pub fixed-task : {es : List Event} {t : Table} → Reached chain n l es t → (fs : List Event) (i : ℕ) → 1 ≤ i → i ≤ n → nodeAt (view t) i .status ≡ Normal
+      → history n l (es ++ fs) .entry (nodeAt (view t) i .group .number) ≡ Task (nodeAt (view t) i .task .number)
   -- so two Normal nodes with the same group have the same task
-  pub same-task : {es : List Event} {t : Table} → Reached chain n es t → (i j : ℕ) → 1 ≤ i → i ≤ n → 1 ≤ j → j ≤ n
+  pub same-task : {es : List Event} {t : Table} → Reached chain n l es t → (i j : ℕ) → 1 ≤ i → i ≤ n → 1 ≤ j → j ≤ n
       → nodeAt (view t) i .status ≡ Normal → nodeAt (view t) j .status ≡ Normal
       → nodeAt (view t) i .group .number ≡ nodeAt (view t) j .group .number
       → nodeAt (view t) i .task .number ≡ nodeAt (view t) j .task .number
   -- "A new group gets the book's number"
-  pub numbered : {es : List Event} {u : Table} {e : Event} {r : Outcome} → Reached chain n es u → Stepped u e r → r .answer ≡ Accepted → isForming u e ≡ true
-      → nodeAt (view (r .table)) (actor e) .group .number ≡ coming (history n es) (actor e)
+  pub numbered : {es : List Event} {u : Table} {e : Event} {r : Outcome} → Reached chain n l es u → Stepped u e r → r .answer ≡ Accepted → isForming u e ≡ true
+      → nodeAt (view (r .table)) (actor e) .group .number ≡ coming (history n l es) (actor e)
   -- "and no table from the starting one to the one just before that event holds it"
-  pub fresh : {es fs : List Event} {t u : Table} {e : Event} {r : Outcome} → Reached chain n es t → chain t fs u → Stepped u e r → r .answer ≡ Accepted → isForming u e ≡ true
-      → Lacks (view t) (coming (history n (es ++ fs)) (actor e))
+  pub fresh : {es fs : List Event} {t u : Table} {e : Event} {r : Outcome} → Reached chain n l es t → chain t fs u → Stepped u e r → r .answer ≡ Accepted → isForming u e ≡ true
+      → Lacks (view t) (coming (history n l (es ++ fs)) (actor e))
   -- and no other group is new: where no group is formed, the table before held each node's group, in a node or a message
-  pub borrowed : {es : List Event} {u : Table} {e : Event} {r : Outcome} → Reached chain n es u → Stepped u e r → r .answer ≡ Accepted → isForming u e ≡ false
+  pub borrowed : {es : List Event} {u : Table} {e : Event} {r : Outcome} → Reached chain n l es u → Stepped u e r → r .answer ≡ Accepted → isForming u e ≡ false
       → (j : ℕ) → 1 ≤ j → j ≤ n → Lacks (view u) (nodeAt (view (r .table)) j .group .number) → ⊥
   -- and where a message carries a group that the table before did not hold, it is the one that the event forms
-  pub borrowed-messages : {es : List Event} {u : Table} {e : Event} {r : Outcome} → Reached chain n es u → Stepped u e r → r .answer ≡ Accepted
-      → EachGroup (λ g. Lacks (view u) g → (isForming u e ≡ true) × (g ≡ coming (history n es) (actor e))) (view (r .table) .queue)
+  pub borrowed-messages : {es : List Event} {u : Table} {e : Event} {r : Outcome} → Reached chain n l es u → Stepped u e r → r .answer ≡ Accepted
+      → EachGroup (λ g. Lacks (view u) g → (isForming u e ≡ true) × (g ≡ coming (history n l es) (actor e))) (view (r .table) .queue)
   -- "no group ever gets a second task": a group that is formed was not formed before, and a group that gets its task by a finish has none
-  pub formed-once : {es : List Event} {u : Table} {e : Event} {r : Outcome} → Reached chain n es u → Stepped u e r → r .answer ≡ Accepted → isForming u e ≡ true
-      → history n es .entry (coming (history n es) (actor e)) ≡ NotFormed
-  pub given-once : {es : List Event} {u : Table} {i : ℕ} {x : TaskNo} {r : Outcome} → Reached chain n es u → Stepped u (Finish i x) r → r .answer ≡ Accepted
-      → history n es .entry (newest (history n es) i) ≡ NoTask
+  pub formed-once : {es : List Event} {u : Table} {e : Event} {r : Outcome} → Reached chain n l es u → Stepped u e r → r .answer ≡ Accepted → isForming u e ≡ true
+      → history n l es .entry (coming (history n l es) (actor e)) ≡ NotFormed
+  pub given-once : {es : List Event} {u : Table} {i : ℕ} {x : TaskNo} {r : Outcome} → Reached chain n l es u → Stepped u (Finish i x) r → r .answer ≡ Accepted
+      → history n l es .entry (newest (history n l es) i) ≡ NoTask
   -- "the group that i formed last" is the one that the table has for i
-  pub own-group : {es : List Event} {u : Table} {i : ℕ} {x : TaskNo} {r : Outcome} → Reached chain n es u → Stepped u (Finish i x) r → r .answer ≡ Accepted
-      → nodeAt (view u) i .group .number ≡ newest (history n es) i
+  pub own-group : {es : List Event} {u : Table} {i : ℕ} {x : TaskNo} {r : Outcome} → Reached chain n l es u → Stepped u (Finish i x) r → r .answer ≡ Accepted
+      → nodeAt (view u) i .group .number ≡ newest (history n l es) i
   -- and a task once given stays, whatever events come next
-  pub lasts : (es fs : List Event) (g x : ℕ) → history n es .entry g ≡ Task x → history n (es ++ fs) .entry g ≡ Task x
+  pub lasts : (es fs : List Event) (g x : ℕ) → history n l es .entry g ≡ Task x → history n l (es ++ fs) .entry g ≡ Task x
   -- without the history: a Normal node's task is the solo task of a recovery in the list that formed its group, or else the task of an accepted finish in the
   -- list for that group. That there is one such event only is said of the list alone, by `TaskFromList`.
-  pub from-list : {es : List Event} {t : Table} → Reached chain n es t → (i : ℕ) → 1 ≤ i → i ≤ n → nodeAt (view t) i .status ≡ Normal
-      → Fixes n es (nodeAt (view t) i .group .number) (nodeAt (view t) i .task .number)
+  pub from-list : {es : List Event} {t : Table} → Reached chain n l es t → (i : ℕ) → 1 ≤ i → i ≤ n → nodeAt (view t) i .status ≡ Normal
+      → Fixes TwoPairs n l es (nodeAt (view t) i .group .number) (nodeAt (view t) i .task .number)
 
 -- ── 02, T-05: traffic totals ──
 
 -- T-05 of the tables that the code returned: each field is that of `TrafficAgrees` (model/specs/Claims), of them. t is any table that events led to; u is the one on
 -- which e is answered with r.
-pub record CodeTraffic (chain : Chain) (n : ℕ) : Type 0 where
+pub record CodeTraffic (chain : Chain) (n : ℕ) (l : Limits) : Type 0 where
   -- "The records equal the counts taken from the accepted events of the run."
-  pub sent-counted : {es : List Event} {t : Table} → Reached chain n es t → (a b : ℕ) → 1 ≤ a → a ≤ nodeLimit → 1 ≤ b → b ≤ nodeLimit → countAt (t .sent) a b ≡ sentIn n es a b
-  pub delivered-counted : {es : List Event} {t : Table} → Reached chain n es t → (a b : ℕ) → 1 ≤ a → a ≤ nodeLimit → 1 ≤ b → b ≤ nodeLimit
-      → countAt (t .delivered) a b ≡ deliveredIn n es a b
-  pub lost-counted : {es : List Event} {t : Table} → Reached chain n es t → (a b : ℕ) → 1 ≤ a → a ≤ nodeLimit → 1 ≤ b → b ≤ nodeLimit → countAt (t .lost) a b ≡ lostIn n es a b
+  pub sent-counted : {es : List Event} {t : Table} → Reached chain n l es t → (a b : ℕ) → 1 ≤ a → a ≤ nodeLimit → 1 ≤ b → b ≤ nodeLimit → countAt (t .sent) a b ≡ sentIn TwoPairs n l es a b
+  pub delivered-counted : {es : List Event} {t : Table} → Reached chain n l es t → (a b : ℕ) → 1 ≤ a → a ≤ nodeLimit → 1 ≤ b → b ≤ nodeLimit
+      → countAt (t .delivered) a b ≡ deliveredIn TwoPairs n l es a b
+  pub lost-counted : {es : List Event} {t : Table} → Reached chain n l es t → (a b : ℕ) → 1 ≤ a → a ≤ nodeLimit → 1 ≤ b → b ≤ nodeLimit → countAt (t .lost) a b ≡ lostIn TwoPairs n l es a b
   -- so the totals are those of the list
-  pub sent-total : {es : List Event} {t : Table} → Reached chain n es t → total (t .sent) ≡ tally sendsAny (start n) es
-  pub delivered-total : {es : List Event} {t : Table} → Reached chain n es t → total (t .delivered) ≡ tally deliversAny (start n) es
-  pub lost-total : {es : List Event} {t : Table} → Reached chain n es t → total (t .lost) ≡ tally losesAny (start n) es
+  pub sent-total : {es : List Event} {t : Table} → Reached chain n l es t → total (t .sent) ≡ tally sendsAny (start n l) es
+  pub delivered-total : {es : List Event} {t : Table} → Reached chain n l es t → total (t .delivered) ≡ tally deliversAny (start n l) es
+  pub lost-total : {es : List Event} {t : Table} → Reached chain n l es t → total (t .lost) ≡ tally losesAny (start n l) es
   -- "Sent is delivered plus lost plus those waiting, for each pair."
-  pub adds-up : {es : List Event} {t : Table} → Reached chain n es t → (a b : ℕ) → 1 ≤ a → a ≤ n → 1 ≤ b → b ≤ n
+  pub adds-up : {es : List Event} {t : Table} → Reached chain n l es t → (a b : ℕ) → 1 ≤ a → a ≤ n → 1 ≤ b → b ≤ n
       → countAt (t .sent) a b ≡ countAt (t .delivered) a b + countAt (t .lost) a b + waiting (view t .queue) a b
   -- "From the starting table no event ever meets the new ground"
-  pub never-seventeen : {es : List Event} {u : Table} {e : Event} {r : Outcome} → Reached chain n es u → Stepped u e r → r .answer ≡ SentAtEnd → ⊥
+  pub never-seventeen : {es : List Event} {u : Table} {e : Event} {r : Outcome} → Reached chain n l es u → Stepped u e r → r .answer ≡ SentAtEnd → ⊥
+
+-- ── 02, T-08: for which tables this is claimed ──
+
+-- of the tables that the code returned, from the starting one of n nodes with the limits l
+pub record CodeHolds (chain : Chain) (n : ℕ) (l : Limits) : Type 0 where
+  pub fixes : CodeFixes chain n l
+  pub traffic : CodeTraffic chain n l
+  -- they are in range, no event on them is answered with 1, and they have those limits
+  pub in-range : {es : List Event} {t : Table} → Reached chain n l es t → inRange (view t) ≡ true
+  pub never-one : {es : List Event} {u : Table} {e : Event} {r : Outcome} → Reached chain n l es u → Stepped u e r → r .answer ≡ NotInRange → ⊥
+  pub same-limits : {es : List Event} {t : Table} → Reached chain n l es t → t .limits ≡ l
+
+-- "Demand 3 now speaks of both", as `TowerAndStand` (model/specs/Claims) has it of the definitions
+pub record CodeTowerAndStand (chain : Chain) : Type 0 where
+  pub for-tower : (n : ℕ) → 1 ≤ n → n ≤ 16 → CodeHolds chain n (record { nodes = 16; messages = 64 })
+  pub for-stand : (n : ℕ) → 1 ≤ n → n ≤ 4 → CodeHolds chain n (record { nodes = 4; messages = 12 })
+
+-- Of any answer that meets `Begun`, what `starting` promises: the table is started exactly where it is in range.
+pub record StartedAlike : Type 0 where
+  pub in-range : {n : ℕ} {l : Limits} {r : Start} → Begun n l r → r .answer ≡ Started → inRange (view (r .table)) ≡ true
+  pub started : {n : ℕ} {l : Limits} {r : Start} → Begun n l r → inRange (view (r .table)) ≡ true → r .answer ≡ Started
+
+-- single starting data: each limit of nodes, and 1 before 6
+pub record StartCases : Type 0 where
+  pub tower-none : begunNumber 0 tower ≡ 6
+  pub tower-last : begunNumber 16 tower ≡ 0
+  pub tower-high : begunNumber 17 tower ≡ 6
+  pub stand-none : begunNumber 0 stand ≡ 6
+  pub stand-last : begunNumber 4 stand ≡ 0
+  pub stand-high : begunNumber 5 stand ≡ 6
+  pub tower-five : begunNumber 5 tower ≡ 0
+  pub swapped : begunNumber 3 (record { nodes = 12; messages = 4 }) ≡ 1
+  pub swapped-none : begunNumber 0 (record { nodes = 12; messages = 4 }) ≡ 1
+  pub tower-nodes : begunNumber 2 (record { nodes = 16; messages = 12 }) ≡ 1
+  pub stand-nodes : begunNumber 2 (record { nodes = 4; messages = 64 }) ≡ 1
+  pub none : begunNumber 0 (record { nodes = 0; messages = 0 }) ≡ 1
 
 -- ── 02, T-04: recovery as the paper prints it ──
 

@@ -1,4 +1,4 @@
--- "Try these impostors", "Wrong turnings in this protocol" and 02's T-02 to T-06: what no machine does that meets `Stepped`, or `RecoveryAnswered` (mutant: 01's impostor). A machine is here
+-- "Try these impostors", "Wrong turnings in this protocol" and 02's T-02 to T-06 and T-08: what no machine does that meets `Stepped`, or `RecoveryAnswered`, or `Begun` (mutant: 01's impostor). A machine is here
 -- whatever answers an event e on a table t with an outcome r, as a function f from tables and events does with f t e; nothing is asked of how it comes to r, so it may also
 -- remember. Each field takes as little of the mutant's behaviour as shuts it out: one event, and one thing that is wrong then. The proofs are in proofs/Mutants.
 use Prim.Native.Nat.{ℕ, _+_, _≤_, _<_}
@@ -8,15 +8,16 @@ use mathlib.Core.List.{List, [], _∷_, _++_, map}
 use lib.Dec.{eqb, ltb}
 use lib.ListN.{length, replicate}
 use Rattle.node_set.specs.NodeSet.{has}
-use Rattle.model.specs.Limits.{nodeLimit, queueLimit, counterEnd, callEnd, trafficEnd}
+use Rattle.model.specs.Limits.{nodeLimit, tower, counterEnd, callEnd, trafficEnd}
 use Rattle.model.specs.Counts.{countAt, oneMore}
 use Rattle.model.specs.Node.{isDown, isNormal, hasOpenCall, groupOf, replies, isActive}
-use Rattle.model.specs.Range.{isNode}
-use Rattle.model.specs.State.{State, nodeAt, waits, oldest, allWaiting, trafficInRange, inRange, view, tableOf}
+use Rattle.model.specs.Range.{TwoPairs, isTowerOrStand, isNode}
+use Rattle.model.specs.State.{State, wrongCount, nodeAt, waits, oldest, allWaiting, trafficInRange, inRange, view, tableOf}
 use Rattle.model.specs.Step.{actor, reactionTo, remaining, grounds}
 use Rattle.model.specs.Answers.{answerNumber}
-use Rattle.model.specs.Claims.{Lacks, FirstApplies, whomNow, whomStill, whomAside, InvitationReaches, Owns, Holds, withPlainReply, MaySend, recoversAtExpire, recordAfter, firstOther, withCheck, CheckReaches, DoesNotLead}
+use Rattle.model.specs.Claims.{Lacks, MayStart, FirstApplies, whomNow, whomStill, whomAside, InvitationReaches, Owns, Holds, withPlainReply, MaySend, recoversAtExpire, recordAfter, firstOther, withCheck, CheckReaches, DoesNotLead}
 use Rattle.model.specs.Cases.{setOf, none, node, invitedOnce}
+use Rattle.model.specs.declared.Limits.{Limits}
 use Rattle.model.specs.declared.Mark.the-variants.{Merges}
 use Rattle.model.specs.declared.Status.the-variants.{Election, Reorganization, Normal}
 use Rattle.model.specs.declared.Activity.{Activity}
@@ -28,8 +29,10 @@ use Rattle.model.specs.declared.Event.{Event}
 use Rattle.model.specs.declared.Event.the-variants.{Crash, Recover, Check, Timeout, Tick, Expire, Finish, Deliver, Lose}
 use Rattle.model.specs.declared.Outcome.{Outcome}
 use Rattle.model.specs.declared.Answer.the-variants.{Accepted, NotInRange, NotCoordinator, QueueFull, SentAtEnd}
+use Rattle.model.specs.declared.StartAnswer.the-variants.{Started, WrongLimits, WrongCount}
+use Rattle.machine.specs.declared.Start.{Start}
 use Rattle.machine.specs.declared.RecoveryAnswer.{RecoveryAnswer}
-use Rattle.machine.specs.Stepped.{Stepped, startingTable, RecoveryAnswered}
+use Rattle.machine.specs.Stepped.{Stepped, startingTable, Begun, RecoveryAnswered}
 use Rattle.machine.specs.Folded.{Folded}
 use Rattle.machine.specs.Parts.{takes}
 use Rattle.machine.specs.Claims.{isForming, Reached}
@@ -39,14 +42,14 @@ use Rattle.machine.specs.Claims.{isForming, Reached}
 -- node 1 leads node 2, has found node 3, and merges at the next tick
 abbrev pub mergingTable : State
 mergingTable =
-    allWaiting 3
+    allWaiting 3 tower
     (node Normal 2 32 1 100 (setOf (2 ∷ [])) 5 (Waiting 1 (setOf (3 ∷ []))) ∷ node Normal 1 32 1 100 none 2 Idle ∷ node Normal 1 18 3 3 none 0 Idle ∷ [])
     []
 
 -- node 3 hands Ready to node 2, and node 1 is still to get it
 abbrev pub handingTable : State
 handingTable =
-    allWaiting 3
+    allWaiting 3 tower
     (node Reorganization 1 50 3 1 none 2 Idle
     ∷ node Reorganization 1 50 3 2 none 2 Idle
     ∷ node Reorganization 3 50 3 100 (setOf (1 ∷ 2 ∷ [])) 5 (Handing (setOf (1 ∷ [])) 2)
@@ -68,14 +71,14 @@ taskedInvitation = record {
 -- node 2 leads its group 33, with node 1 in its members; node 1 has left it for its own group 32, and invites node 2
 abbrev pub invitedTable : State
 invitedTable =
-    allWaiting 2
+    allWaiting 2 tower
     (node Normal 2 32 1 1 none 3 Idle ∷ node Normal 2 33 2 100 (setOf (1 ∷ [])) 2 Idle ∷ [])
     (taskedInvitation ∷ [])
 
 -- node 1 asks node 2 by its call 5, and the messages q wait
 abbrev pub askingTable : List Message → State
 askingTable q =
-    allWaiting 3
+    allWaiting 3 tower
     (node Normal 1 16 1 1 none 5 (Asking 2 none) ∷ node Normal 1 17 2 2 none 0 Idle ∷ node Normal 1 18 3 3 none 0 Idle ∷ [])
     q
 
@@ -114,7 +117,7 @@ pub record Moves (t : Table) (e : Event) : Type 0 where
 
 pub record NoMutant : Type 0 where
   -- "a machine that turns every event away", "one that returns the same table always": not at the first event, where it is a recovery
-  pub first-moves : (n i : ℕ) → n ≤ nodeLimit → 1 ≤ i → i ≤ n → Moves (startingTable n) (Recover i)
+  pub first-moves : (n i : ℕ) (l : Limits) → MayStart TwoPairs n l → 1 ≤ i → i ≤ n → Moves (startingTable n l) (Recover i)
   -- "one that answers 'accepted' and moves nothing": not at any event on any table, but where 01 says, and T-06 leaves it so, that nothing changes
   pub accepted-still : (t : Table) (e : Event) {r : Outcome} → mayRest (view t) e ≡ false → Stepped t e r → r .answer ≡ Accepted
       → view (r .table) .nodes ≡ view t .nodes → view (r .table) .queue ≡ view t .queue → ⊥
@@ -124,15 +127,15 @@ pub record NoMutant : Type 0 where
   pub recovery-moves : (t : Table) (i : ℕ) → inRange (view t) ≡ true → 1 ≤ i → i ≤ t .n → isDown (nodeAt (view t) i .status) ≡ true
       → (nodeAt (view t) i .counter ≡ counterEnd → ⊥) → Moves t (Recover i)
   -- so at the second event, and so after any events
-  pub second-moves : {r : Outcome} → Stepped (startingTable 2) (Recover 1) r → Moves (r .table) (Recover 2)
-  pub late-crash-moves : (n : ℕ) → 1 ≤ n → n ≤ nodeLimit → {es : List Event} {t : Table} → Reached Folded n es t
+  pub second-moves : {r : Outcome} → Stepped (startingTable 2 tower) (Recover 1) r → Moves (r .table) (Recover 2)
+  pub late-crash-moves : (n : ℕ) (l : Limits) → MayStart TwoPairs n l → {es : List Event} {t : Table} → Reached Folded n l es t
       → (i : ℕ) → 1 ≤ i → i ≤ n → isDown (nodeAt (view t) i .status) ≡ false → Moves t (Crash i)
-  pub late-recovery-moves : (n : ℕ) → 1 ≤ n → n ≤ nodeLimit → {es : List Event} {t : Table} → Reached Folded n es t
+  pub late-recovery-moves : (n : ℕ) (l : Limits) → MayStart TwoPairs n l → {es : List Event} {t : Table} → Reached Folded n l es t
       → (i : ℕ) → 1 ≤ i → i ≤ n → isDown (nodeAt (view t) i .status) ≡ true → (nodeAt (view t) i .counter ≡ counterEnd → ⊥) → Moves t (Recover i)
   -- nor one that accepts every event: a node that is Down does not crash
-  pub accepts-all : {r : Outcome} → Stepped (startingTable 2) (Crash 1) r → r .answer ≡ Accepted → ⊥
-  -- "one that cries 12, 13 or 14 at the first event": at any first event, for any n
-  pub no-cry : (n : ℕ) (e : Event) {r : Outcome} → Stepped (startingTable n) e r → 12 ≤ answerNumber (r .answer) → ⊥
+  pub accepts-all : {r : Outcome} → Stepped (startingTable 2 tower) (Crash 1) r → r .answer ≡ Accepted → ⊥
+  -- "one that cries 12, 13 or 14 at the first event": at any first event, for any n and limits
+  pub no-cry : (n : ℕ) (l : Limits) (e : Event) {r : Outcome} → Stepped (startingTable n l) e r → 12 ≤ answerNumber (r .answer) → ⊥
   -- nor one that delivers a message that does not wait, or that finds the queue full for the reply to a delivery ("a delivered one is already out")
   pub delivers-none : (t : Table) (a b : ℕ) {r : Outcome} → waits a b (view t .queue) ≡ false → Stepped t (Deliver a b) r → r .answer ≡ Accepted → ⊥
   pub delivery-full : (t : Table) (a b : ℕ) {r : Outcome} → Stepped t (Deliver a b) r → r .answer ≡ QueueFull → ⊥
@@ -143,11 +146,11 @@ pub record NoWrongTurning : Type 0 where
   -- "Clearing the counter at a crash": in no table
   pub clears-counter : (t : Table) (i : ℕ) {r : Outcome} → Stepped t (Crash i) r → (nodeAt (view (r .table)) i .counter ≡ nodeAt (view t) i .counter → ⊥) → ⊥
   -- ": an old group number returns": in no run; of the group that e's node forms, accepted on the table u, no table t before holds the number
-  pub group-returns : (n : ℕ) → n ≤ nodeLimit → {es fs : List Event} {t u : Table} → Reached Folded n es t → Folded t fs u
+  pub group-returns : (n : ℕ) (l : Limits) → n ≤ nodeLimit → {es fs : List Event} {t u : Table} → Reached Folded n l es t → Folded t fs u
       → {e : Event} {r : Outcome} → Stepped u e r → r .answer ≡ Accepted → isForming u e ≡ true
       → (Lacks (view t) (nodeAt (view (r .table)) (actor e) .group .number) → ⊥) → ⊥
   -- for one: group 16, which node 1 had first
-  pub returns-one : {u : Table} → Folded (startingTable 2) (Recover 1 ∷ Crash 1 ∷ Recover 1 ∷ []) u → nodeAt (view u) 1 .group .number ≡ 16 → ⊥
+  pub returns-one : {u : Table} → Folded (startingTable 2 tower) (Recover 1 ∷ Crash 1 ∷ Recover 1 ∷ []) u → nodeAt (view u) 1 .group .number ≡ 16 → ⊥
   -- "Emptying members before they are set aside: old members get no invitation": where a node merges, at any accepted event in any table, each old member j is
   -- among those it invites
   pub empties-members : (t : Table) (e : Event) (j : ℕ) → reactionTo (view t) e .mark ≡ Merges → 1 ≤ j → has (nodeAt (view t) (actor e) .members) j ≡ true
@@ -199,7 +202,7 @@ pub record NoWrongTurning : Type 0 where
 -- node 3 collects, with the members 1 and 2
 abbrev pub collectingTable : State
 collectingTable =
-    allWaiting 3
+    allWaiting 3 tower
     (node Reorganization 1 50 3 1 none 2 Idle ∷ node Reorganization 1 50 3 2 none 2 Idle ∷ node Election 3 50 3 3 (setOf (1 ∷ 2 ∷ [])) 5 Collecting ∷ [])
     []
 
@@ -221,7 +224,7 @@ pub record NoLowerFirst : Type 0 where
   -- for one: node 3 does not hand Ready to 1 first
   pub hands-lowest : {r : Outcome} → Stepped (tableOf collectingTable) (Finish 3 (record { number = 100 })) r → nodeAt (view (r .table)) 3 .activity ≡ Handing (setOf (2 ∷ [])) 1 → ⊥
   -- in no table that the code reached from the starting one does a node call one while that one or a higher one of the same set is still to be called
-  pub lower-in-runs : (n : ℕ) {es : List Event} {t : Table} → Reached Folded n es t → (i j : ℕ)
+  pub lower-in-runs : (n : ℕ) (l : Limits) {es : List Event} {t : Table} → Reached Folded n l es t → (i j : ℕ)
       → has (whomStill (nodeAt (view t) i .activity)) j ≡ true → whomNow (nodeAt (view t) i .activity) ≤ j → ⊥
 
 -- ── 02, T-03: an invitation that arrives twice ──
@@ -242,7 +245,7 @@ pub record NoJoiningAgain : Type 0 where
   pub stays-normal : (t : Table) (a b : ℕ) → oldest a b (view t .queue) .kind ≡ 3 → (Owns (view t) a b → ⊥) → (Holds (view t) a b → ⊥)
       → {r : Outcome} → Stepped t (Deliver a b) r → r .answer ≡ Accepted → isNormal (nodeAt (view (r .table)) b .status) ≡ true → ⊥
   -- for one: 02's story. The invitation that came late had "put it back into Reorganization"; now node 1 is Normal after it.
-  pub leaves-normal : {u : Table} → Folded (startingTable 3) (invitedOnce ++ (Deliver 2 1 ∷ [])) u → (nodeAt (view u) 1 .status ≡ Normal → ⊥) → ⊥
+  pub leaves-normal : {u : Table} → Folded (startingTable 3 tower) (invitedOnce ++ (Deliver 2 1 ∷ [])) u → (nodeAt (view u) 1 .status ≡ Normal → ⊥) → ⊥
 
 -- ── 02, T-04: recovery as the paper prints it ──
 
@@ -338,7 +341,7 @@ pub record NoOtherChecks : Type 0 where
       → Stepped t (Check i) r → r .answer ≡ NotCoordinator → ⊥
   -- one that turns the check of a coordinator away, where 13, 14 and 17 do not apply
   pub turns-away : {t : Table} {i : ℕ} {r : Outcome} → 1 < t .n → CheckReaches (view t) i → nodeAt (view t) i .status ≡ Normal → nodeAt (view t) i .coordinator ≡ i
-      → nodeAt (view t) i .last .number < callEnd → t .waiting < queueLimit → MaySend (view t) i (firstOther i) → Stepped t (Check i) r → (r .answer ≡ Accepted → ⊥) → ⊥
+      → nodeAt (view t) i .last .number < callEnd → t .waiting < t .limits .messages → MaySend (view t) i (firstOther i) → Stepped t (Check i) r → (r .answer ≡ Accepted → ⊥) → ⊥
   -- one that lets a check pass and asks another cabinet, or not at all, or changes anything else
   pub asks-otherwise : {t : Table} {i : ℕ} {r : Outcome} → Stepped t (Check i) r → r .answer ≡ Accepted → (view (r .table) ≡ withCheck (view t) i → ⊥) → ⊥
   -- one that with n = 1 turns away the check of a coordinator, or does something at any check
@@ -346,4 +349,23 @@ pub record NoOtherChecks : Type 0 where
       → Stepped t (Check i) r → (r .answer ≡ Accepted → ⊥) → ⊥
   pub one-changes : {t : Table} {i : ℕ} {r : Outcome} → t .n ≡ 1 → Stepped t (Check i) r → (view (r .table) ≡ view t → ⊥) → ⊥
   -- one that gives 18 to one of the first seven events from the starting table
-  pub early : (n : ℕ) {es : List Event} {t : Table} {e : Event} {r : Outcome} → Reached Folded n es t → length es ≤ 6 → Stepped t e r → r .answer ≡ NotCoordinator → ⊥
+  pub early : (n : ℕ) (l : Limits) {es : List Event} {t : Table} {e : Event} {r : Outcome} → Reached Folded n l es t → length es ≤ 6 → Stepped t e r → r .answer ≡ NotCoordinator → ⊥
+
+-- ── 02, T-08: a practice stand ──
+
+-- "Grounds 1, 6 and 14 read the table's own limits.": no machine that meets `Stepped`, or `Begun`, is
+pub record NoOtherLimits : Type 0 where
+  -- one that finds the queue full where fewer wait than the table's own limit says
+  pub early-full : {t : Table} {e : Event} {r : Outcome} → Stepped t e r → r .answer ≡ QueueFull → (t .waiting ≡ t .limits .messages → ⊥) → ⊥
+  -- one that accepts an event though more wait after it than that limit
+  pub over-full : {t : Table} {e : Event} {r : Outcome} → Stepped t e r → r .answer ≡ Accepted → t .limits .messages < r .table .waiting → ⊥
+  -- one that takes a table with another pair of limits, with more nodes than its own limit or with more messages; each is refused with 1
+  pub other-pair : {t : Table} {e : Event} {r : Outcome} → Stepped t e r → isTowerOrStand (t .limits) ≡ false → (r .answer ≡ NotInRange → ⊥) → ⊥
+  pub many-nodes : {t : Table} {e : Event} {r : Outcome} → Stepped t e r → t .limits .nodes < t .n → (r .answer ≡ NotInRange → ⊥) → ⊥
+  pub many-messages : {t : Table} {e : Event} {r : Outcome} → Stepped t e r → t .limits .messages < t .waiting → (r .answer ≡ NotInRange → ⊥) → ⊥
+  -- one that changes the limits
+  pub changes-limits : {t : Table} {e : Event} {r : Outcome} → Stepped t e r → (r .table .limits ≡ t .limits → ⊥) → ⊥
+  -- one that starts a table of another pair, or of more nodes than the pair allows, or turns away one that may start
+  pub starts-other : {n : ℕ} {l : Limits} {r : Start} → Begun n l r → isTowerOrStand l ≡ false → (r .answer ≡ WrongLimits → ⊥) → ⊥
+  pub starts-wrong : {n : ℕ} {l : Limits} {r : Start} → Begun n l r → isTowerOrStand l ≡ true → wrongCount (l .nodes) n ≡ true → (r .answer ≡ WrongCount → ⊥) → ⊥
+  pub starts-none : {n : ℕ} {l : Limits} {r : Start} → Begun n l r → MayStart TwoPairs n l → (r .answer ≡ Started → ⊥) → ⊥

@@ -4,16 +4,18 @@ use mathlib.Core.Path.{_≡_}
 use mathlib.Core.Logic.{_⊎_}
 use mathlib.Core.Bool.{Bool, true, false, not, _&&_}
 use mathlib.Core.List.{List, [], _∷_, _++_}
-use lib.Dec.{eqb, ltb}
+use lib.Dec.{eqb, leb, ltb}
 use lib.ListN.{length, take, drop, set, getD}
 use Rattle.model.specs.Pick.{pick}
-use Rattle.model.specs.Limits.{nodeLimit, queueLimit, counterEnd, callEnd, trafficEnd}
+use Rattle.model.specs.Limits.{nodeLimit, counterEnd, callEnd, trafficEnd}
 use Rattle.model.specs.Procedures.{stays}
 use Rattle.model.specs.React.{react}
-use Rattle.model.specs.State.{State, goes}
+use Rattle.model.specs.Range.{isTowerOrStand}
+use Rattle.model.specs.State.{State, wrongCount, goes}
 use Rattle.model.specs.Answers.{answerNumber}
 use Rattle.model.specs.Grounds.{Ground, ground, first}
 use Rattle.model.specs.Step.{actor, wrongNumber, wrongTask, wrongStatus, wrongActivity, notCoordinator, forms, isCalling, isSending, pairAtEnd, sent}
+use Rattle.model.specs.declared.Limits.{Limits}
 use Rattle.model.specs.declared.Node.{Node}
 use Rattle.model.specs.declared.Message.{Message}
 use Rattle.model.specs.declared.Outgoing.{Outgoing}
@@ -126,7 +128,9 @@ Small l = (p : ℕ) → getD l p 0 ≤ trafficEnd
 -- the state after the event e with the reaction r: r's record stored at place `at`, the message at place k out, what is sent in, and both counted
 abbrev pub stored : State → Event → ℕ → ℕ → Reaction → State
 stored s e k at r = record {
+  rule = s .rule;
   n = s .n;
+  limits = s .limits;
   nodes = set (s .nodes) at (r .node);
   queue = without k (s .queue) ++ sent (r .outgoing);
   sent = raised (s .sent) (sentPlace (r .outgoing)) (sentBy (r .outgoing));
@@ -143,6 +147,12 @@ abbrev pub Room : Outgoing → ℕ → Type 0
 Room Nothing left = Unit {0}
 Room (Send m) left = left < 64
 
+-- ── the range ──
+
+-- of n and the number of waiting messages, by limits that are one of the two pairs (T-08)
+abbrev pub withinLimits : Limits → ℕ → ℕ → Bool
+withinLimits l n waiting = isTowerOrStand l && not (wrongCount (l .nodes) n) && leb waiting (l .messages)
+
 -- ── the grounds but 1, in four groups ──
 
 -- by the event's numbers
@@ -158,12 +168,12 @@ stateGrounds c e found =
     ∷ ground 11 (takes e && not found)
     ∷ []
 
--- by the ends of the ranges, 17 apart; left: how many messages wait once the event's own is out
-abbrev pub endGrounds : Node → Reaction → ℕ → List Ground
-endGrounds c r left =
+-- by the ends of the ranges, 17 apart; left: how many messages wait once the event's own is out, and limit: how many may
+abbrev pub endGrounds : Node → Reaction → ℕ → ℕ → List Ground
+endGrounds c r left limit =
     ground 12 (forms (r .mark) && eqb (c .counter) counterEnd)
     ∷ ground 13 (isCalling (r .outgoing) && eqb (c .last .number) callEnd)
-    ∷ ground 14 (isSending (r .outgoing) && eqb left queueLimit)
+    ∷ ground 14 (isSending (r .outgoing) && eqb left limit)
     ∷ []
 
 -- 17, behind all others, by the counts of what was sent
@@ -235,23 +245,23 @@ FitsMessage m (Finish i t) = Unit {0}
 FitsMessage m (Deliver a b) = (1 ≤ m .sender) × (m .sender ≤ nodeLimit)
 FitsMessage m (Lose a b) = Unit {0}
 
--- ── the judgement of an event, by the node's record c, the message m at place k, and how many wait ──
+-- ── the judgement of an event, by the node's record c, the message m at place k, how many wait and how many may ──
 
 -- how many wait once the event's own message is out
 abbrev pub leftOf : ℕ → ℕ → ℕ
 leftOf waiting k = pick (ltb k waiting) (waiting - 1) waiting
 
 -- those that `judge` goes by: all but 1 and 17
-abbrev pub judgedGrounds : ℕ → ℕ → ℕ → Node → Message → Event → List Ground
-judgedGrounds n waiting k c m e = numberGrounds n e ++ (stateGrounds c e (ltb k waiting) ++ endGrounds c (reactsTo n c m e) (leftOf waiting k))
+abbrev pub judgedGrounds : ℕ → ℕ → ℕ → ℕ → Node → Message → Event → List Ground
+judgedGrounds n limit waiting k c m e = numberGrounds n e ++ (stateGrounds c e (ltb k waiting) ++ endGrounds c (reactsTo n c m e) (leftOf waiting k) limit)
 
 -- what the judgement needs where the grounds before it are clear
 pub record Judging (n waiting k : ℕ) (c : Node) (m : Message) (e : Event) : Type 0 where
   pub node : first (numberGrounds n e) ≡ 0 → Fits (actor e) c
   pub message : first (numberGrounds n e) ≡ 0 → first (stateGrounds c e (ltb k waiting)) ≡ 0 → FitsMessage m e
 
-pub record Judged (n waiting k : ℕ) (c : Node) (m : Message) (e : Event) (v : Verdict) : Type 0 where
+pub record Judged (n limit waiting k : ℕ) (c : Node) (m : Message) (e : Event) (v : Verdict) : Type 0 where
   -- the number of the first of them that applies, or 0
-  pub answer : answerNumber (v .answer) ≡ first (judgedGrounds n waiting k c m e)
+  pub answer : answerNumber (v .answer) ≡ first (judgedGrounds n limit waiting k c m e)
   -- what the node does, where none applies
   pub reaction : answerNumber (v .answer) ≡ 0 → v .reaction ≡ reactsTo n c m e

@@ -189,9 +189,9 @@ pub fn state_answer(c: Node, e: Event, found: bool) -> Answer
     Answer::Accepted
 }
 
-// Grounds 12 to 14; left: how many messages wait once the event's own is out.
-pub fn end_answer(c: Node, r: Reaction, left: u8) -> Answer
-    ensures { λ a. ⌜ answerNumber a ≡ first (parts.endGrounds c r left) ⌝ }
+// Grounds 12 to 14; left: how many messages wait once the event's own is out, and limit: how many may.
+pub fn end_answer(c: Node, r: Reaction, left: u8, limit: u8) -> Answer
+    ensures { λ a. ⌜ answerNumber a ≡ first (parts.endGrounds c r left limit) ⌝ }
 {
     let mark = r.mark;
     let outgoing = r.outgoing;
@@ -201,7 +201,7 @@ pub fn end_answer(c: Node, r: Reaction, left: u8) -> Answer
     if node_step::is_calling(outgoing) & (c.last.number == 16777215) {
         return Answer::CallsAtEnd;
     }
-    if node_step::is_sending(outgoing) & (left == 64) {
+    if node_step::is_sending(outgoing) & (left == limit) {
         return Answer::QueueFull;
     }
     Answer::Accepted
@@ -376,10 +376,10 @@ pub fn lost_by(e: Event) -> u32
     }
 }
 
-// The judgement of an event by all grounds but 1 and 17: c is its node's record, m the message at place k of the waiting ones.
-pub fn judge(n: u8, waiting: u8, k: usize, c: Node, m: Message, e: Event) -> Verdict
+// The judgement of an event by all grounds but 1 and 17: c is its node's record, m the message at place k of the waiting ones, and limit how many may wait.
+pub fn judge(n: u8, limit: u8, waiting: u8, k: usize, c: Node, m: Message, e: Event) -> Verdict
     requires { ⌜ parts.Judging n waiting k c m e ⌝ }
-    ensures { λ v. ⌜ parts.Judged n waiting k c m e v ⌝ }
+    ensures { λ v. ⌜ parts.Judged n limit waiting k c m e v ⌝ }
 {
     let found = k < waiting as usize;
     let numbers = number_answer(n, e);
@@ -397,7 +397,7 @@ pub fn judge(n: u8, waiting: u8, k: usize, c: Node, m: Message, e: Event) -> Ver
         };
     }
     let r = reacts_to(n, c, m, e);
-    let ends = end_answer(c, r, left_of(waiting, found));
+    let ends = end_answer(c, r, left_of(waiting, found), limit);
     Verdict {
         answer: ends,
         reaction: r,

@@ -7,7 +7,8 @@ ghost use mathlib.Core.Path.{_≡_};
 ghost use mathlib.Core.Bool.{true};
 ghost use Prim.Native.Nat.{ℕ, _≤_, _<_};
 ghost use Rattle.model.specs.State.{startingNode, view, inRange};
-ghost use Rattle.machine.specs.Stepped.{Stepped, startingTable, Begun, RecoveryAnswered};
+ghost use Rattle.model.specs.Answers.{startNumber};
+ghost use Rattle.machine.specs.Stepped.{Stepped, startingTable, begunNumber, Begun, RecoveryAnswered};
 pub use grounds::actor;
 pub use grounds::answer_number;
 pub use grounds::delivered_by;
@@ -24,6 +25,7 @@ use model::Answer;
 use model::CallNo;
 use model::Event;
 use model::GroupNo;
+use model::Limits;
 use model::Message;
 use model::Node;
 use model::Outcome;
@@ -68,9 +70,9 @@ pub fn starting_node() -> Node
     }
 }
 
-// The starting table of n nodes, whatever n is.
-fn blank(n: u8) -> Table
-    ensures { λ r. ⌜ r ≡ startingTable n ⌝ }
+// The starting table of n nodes with these limits, whatever they are.
+fn blank(n: u8, limits: Limits) -> Table
+    ensures { λ r. ⌜ r ≡ startingTable n limits ⌝ }
 {
     let c = starting_node();
     let m = Message {
@@ -84,6 +86,7 @@ fn blank(n: u8) -> Table
     };
     Table {
         n: n,
+        limits: limits,
         nodes: [c; 16],
         messages: [m; 64],
         waiting: 0,
@@ -93,13 +96,23 @@ fn blank(n: u8) -> Table
     }
 }
 
-// The starting table of n nodes, and beside it refusal 6 where there is no such number of nodes.
-pub fn starting(n: u8) -> Start
-    ensures { λ r. ⌜ Begun n r ⌝ }
+// Refusal 1 where the limits are none of T-08's two pairs, so that the table is not in range, and refusal 6 where they don't allow n nodes.
+fn begun_answer(n: u8, limits: Limits) -> StartAnswer
+    ensures { λ r. ⌜ startNumber r ≡ begunNumber n limits ⌝ }
+{
+    if !predicates::is_tower_or_stand(limits) {
+        return StartAnswer::WrongLimits;
+    }
+    predicates::start_answer(limits.nodes, n)
+}
+
+// The starting table of n nodes with these limits, and beside it refusal 1 or 6, or none.
+pub fn starting(n: u8, limits: Limits) -> Start
+    ensures { λ r. ⌜ Begun n limits r ⌝ }
 {
     Start {
-        answer: predicates::start_answer(n),
-        table: blank(n),
+        answer: begun_answer(n, limits),
+        table: blank(n, limits),
     }
 }
 
@@ -109,13 +122,14 @@ pub fn advance(t: Table, e: Event) -> Outcome
     ensures { λ r. ⌜ Stepped t e r ⌝ }
 {
     let n = t.n;
+    let limit = t.limits.messages;
     let waiting = t.waiting;
     let messages = t.messages;
     let k = queue::place_for(messages, waiting, e);
     let m = t.messages[k % 64];
     let at = (grounds::actor(e) as usize + 15) % 16;
     let c = t.nodes[at];
-    let v = grounds::judge(n, waiting, k, c, m, e);
+    let v = grounds::judge(n, limit, waiting, k, c, m, e);
     let r = v.reaction;
     let outgoing = r.outgoing;
     let first = v.answer;

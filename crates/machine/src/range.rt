@@ -5,6 +5,8 @@ ghost use lib.ListN.{take};
 ghost use Rattle.model.specs.Range.{nodeInRange, messageInRange};
 ghost use Rattle.model.specs.State.{every, view};
 ghost use Rattle.model.specs.State as spec;
+ghost use Rattle.machine.specs.Parts as parts;
+use model::Limits;
 use model::Message;
 use model::Node;
 use model::Table;
@@ -42,18 +44,22 @@ fn messages_in_range(n: u8, messages: [Message; 64], waiting: u8) -> bool
     true
 }
 
+// By the limits first: those of the tower or the stand, then n and the waiting messages by the table's own. So n is at most 16, and at most 64 wait.
+fn within_limits(limits: Limits, n: u8, waiting: u8) -> bool
+    ensures { λ r. ⌜ r ≡ parts.withinLimits limits n waiting ⌝ }
+{
+    predicates::is_tower_or_stand(limits)
+        & !predicates::wrong_count(limits.nodes, n)
+        & (waiting <= limits.messages)
+}
+
 pub fn in_range(t: Table) -> bool
     ensures { λ r. ⌜ r ≡ spec.inRange (view t) ⌝ }
 {
     let n = t.n;
     let waiting = t.waiting;
-    if n < 1 {
-        return false;
-    }
-    if 16 < n {
-        return false;
-    }
-    if 64 < waiting {
+    let limits = t.limits;
+    if !within_limits(limits, n, waiting) {
         return false;
     }
     let nodes = t.nodes;

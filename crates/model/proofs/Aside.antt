@@ -6,19 +6,21 @@ use mathlib.Core.Path.{_≡_, refl, sym, _∙_, ap}
 use mathlib.Core.List.{List, [], _∷_, _++_}
 use lib.ListN.{length, getD, set, replicate}
 use borrow.Author.Tests.{ne-eqb}
-use Rattle.model.specs.Pick.{pick, pick-false, by-test}
+use Rattle.model.specs.Range.{PairRule, pairRule, isWithinTower}
+use Rattle.model.specs.Pick.{pick, pick-false}
 use Rattle.model.specs.Limits.{trafficEnd}
 use Rattle.model.specs.Counts.{pairPlace, noCounts}
-use Rattle.model.specs.State.{State, start, countsOf, allWaiting, countsAside, baseInRange, trafficInRange, inRange}
+use Rattle.model.specs.State.{inRange, State, start, countsOf, allWaitingBy, countsAside, baseInRange, trafficInRange}
 use Rattle.model.specs.Grounds.{Ground, ground, judged}
-use Rattle.model.specs.Step.{actor, reactionTo, remaining, sent, withSent, effect, pairAtEnd, grounds, Result, refused, accepted, step, kept, aside, after, runFrom, run}
-use Rattle.model.specs.History.{History, noted, historyFrom}
+use Rattle.model.specs.Step.{step, grounds, runFrom, actor, reactionTo, remaining, sent, withSent, effect, pairAtEnd, Result, refused, accepted, kept, changed, aside, after, run}
+use Rattle.model.specs.History.{historyFrom, History, noted}
 use Rattle.model.specs.Claims.{BelowEnd, CountsDecideNothing}
 use Rattle.model.proofs.Judged.{by-step}
-use Rattle.model.proofs.Local.{both-left}
-use Rattle.model.proofs.Fields.{in-range-size}
+use Rattle.model.proofs.Local.{both-left, both-right}
+use Rattle.model.proofs.Fields.{in-range-pair, in-range-size}
 use Rattle.model.proofs.InRange.{run-in}
 use Rattle.model.proofs.Waiting.{waiting-in}
+use Rattle.model.specs.declared.Limits.{Limits}
 use Rattle.model.specs.declared.Node.{Node}
 use Rattle.model.specs.declared.Message.{Message}
 use Rattle.model.specs.declared.Outgoing.{Outgoing}
@@ -79,18 +81,19 @@ between s e = sooner (later (grounds s e))
 abbrev pub resultAside : State → Event → Result
 resultAside s e =
     judged refused
-    (accepted (allWaiting (s .n) (set (s .nodes) (actor e - 1) (reactionTo s e .node)) (remaining s e ++ sent (reactionTo s e .outgoing))) (reactionTo s e .mark))
+    (accepted (allWaitingBy (s .rule) (s .n) (s .limits) (set (s .nodes) (actor e - 1) (reactionTo s e .node)) (remaining s e ++ sent (reactionTo s e .outgoing))) (reactionTo s e .mark))
     (between s e)
 
-aside-pick : (t : Bool) (r : ℕ) (x : Result) → aside (pick t (refused r) x) ≡ pick t (refused r) (aside x)
+changed-pick : (f : State → State) (t : Bool) (r : ℕ) (x : Result) → changed f (pick t (refused r) x) ≡ pick t (refused r) (changed f x)
 unfolding pick
-aside-pick true r x = refl
-aside-pick false r x = refl
+changed-pick f true r x = refl
+changed-pick f false r x = refl
 
-aside-judged : (u : State) (k : Mark) (gs : List Ground) → aside (judged refused (accepted u k) gs) ≡ judged refused (accepted (countsAside u) k) gs
+-- what is judged does not depend on what would be left
+pub changed-judged : (f : State → State) (u : State) (k : Mark) (gs : List Ground) → changed f (judged refused (accepted u k) gs) ≡ judged refused (accepted (f u) k) gs
 unfolding judged
-aside-judged u k [] = refl
-aside-judged u k (g ∷ gs) = aside-pick (g .applies) (g .number) (judged refused (accepted u k) gs) ∙ ap (pick (g .applies) (refused (g .number))) (aside-judged u k gs)
+changed-judged f u k [] = refl
+changed-judged f u k (g ∷ gs) = changed-pick f (g .applies) (g .number) (judged refused (accepted u k) gs) ∙ ap (pick (g .applies) (refused (g .number))) (changed-judged f u k gs)
 
 judged-last : (x : Result) (r : ℕ) (gs : List Ground) → judged refused x (gs ++ (ground r false ∷ [])) ≡ judged refused x gs
 unfolding judged
@@ -108,7 +111,7 @@ by-between s e r b =
 
 pub result-aside : (s : State) (e : Event) → inRange s ≡ true → BelowEnd (s .sent) → aside (step s e) ≡ resultAside s e
 unfolding effect
-result-aside s e r b = ap aside (by-between s e r b) ∙ aside-judged (effect s e) (reactionTo s e .mark) (between s e)
+result-aside s e r b = ap aside (by-between s e r b) ∙ changed-judged countsAside (effect s e) (reactionTo s e .mark) (between s e)
 
 same-aside : (s : State) (e : Event) → resultAside s e ≡ resultAside (countsAside s) e
 unfolding reactionTo remaining grounds
@@ -123,25 +126,27 @@ same-aside s (Deliver a b) = refl
 same-aside s (Lose a b) = refl
 
 -- ── a table in which all that was sent still waits ──
-module _ (n : ℕ) (cs : List Node) (q : List Message) (r : baseInRange n cs q ≡ true) where
+module _ (rule : PairRule) (n : ℕ) (lim : Limits) (cs : List Node) (q : List Message) (p : pairRule rule lim ≡ true) (w : isWithinTower lim ≡ true) (r : baseInRange lim n cs q ≡ true) where
   pub waiting-small : (k : ℕ) → getD (countsOf q) k 0 ≤ 64
-  waiting-small k = omega (arith, counts-bounded q k, in-range-size (allWaiting n cs q) (waiting-in n cs q r) .3)
+  waiting-small k = omega (arith, counts-bounded q k, in-range-size (allWaitingBy rule n lim cs q) (waiting-in rule n lim cs q p w r) .3)
 
   pub waiting-below : BelowEnd (countsOf q)
   waiting-below k = omega (arith, waiting-small k)
 
-  pub waiting-aside : (e : Event) → aside (step (allWaiting n cs q) e) ≡ resultAside (allWaiting n cs q) e
-  waiting-aside e = result-aside (allWaiting n cs q) e (waiting-in n cs q r) waiting-below
+  pub waiting-aside : (e : Event) → aside (step (allWaitingBy rule n lim cs q) e) ≡ resultAside (allWaitingBy rule n lim cs q) e
+  waiting-aside e = result-aside (allWaitingBy rule n lim cs q) e (waiting-in rule n lim cs q p w r) waiting-below
 
-pub in-range-base : (s : State) → inRange s ≡ true → baseInRange (s .n) (s .nodes) (s .queue) ≡ true
+pub in-range-base : (s : State) → inRange s ≡ true → (isWithinTower (s .limits) ≡ true) × (baseInRange (s .limits) (s .n) (s .nodes) (s .queue) ≡ true)
 unfolding inRange
-in-range-base s r = both-left _ (trafficInRange s) r
+in-range-base s r =
+    let x = both-right (pairRule (s .rule) (s .limits)) _ r in
+    (both-left (isWithinTower (s .limits)) _ x, both-left _ (trafficInRange s) (both-right (isWithinTower (s .limits)) _ x))
 
 pub aside-result : (s : State) (e : Event) → inRange s ≡ true → BelowEnd (s .sent) → aside (step s e) ≡ resultAside (countsAside s) e
 aside-result s e r b = result-aside s e r b ∙ same-aside s e
 
 pub counts-decide-nothing : CountsDecideNothing
-counts-decide-nothing s e r b = aside-result s e r b ∙ sym (waiting-aside (s .n) (s .nodes) (s .queue) (in-range-base s r) e)
+counts-decide-nothing s e r b = aside-result s e r b ∙ sym (waiting-aside (s .rule) (s .n) (s .limits) (s .nodes) (s .queue) (in-range-pair s r) (in-range-base s r .0) (in-range-base s r .1) e)
 
 -- ── runs ──
 
@@ -150,9 +155,12 @@ abbrev pub quick : State → List Event → State
 quick s [] = s
 quick s (e ∷ es) = quick (kept s (resultAside s e)) es
 
+pub changed-kept : (f : State → State) (s : State) (x : Result) → f (kept s x) ≡ kept (f s) (changed f x)
+changed-kept f s (refused r) = refl
+changed-kept f s (accepted u k) = refl
+
 pub aside-kept : (s : State) (x : Result) → countsAside (kept s x) ≡ kept (countsAside s) (aside x)
-aside-kept s (refused r) = refl
-aside-kept s (accepted u k) = refl
+aside-kept s x = changed-kept countsAside s x
 
 -- after an event there is room for one fewer
 pub room-after : (j : ℕ) (s : State) (e : Event) → Room (suc j) (s .sent) → Room j (after s e .sent)
@@ -190,9 +198,9 @@ abbrev pub quickHistory : State → History → List Event → History
 quickHistory s h [] = h
 quickHistory s h (e ∷ es) = quickHistory (kept s (resultAside s e)) (noted h e (resultAside s e)) es
 
-aside-noted : (h : History) (e : Event) (x : Result) → noted h e x ≡ noted h e (aside x)
-aside-noted h e (refused r) = refl
-aside-noted h e (accepted u k) = refl
+pub changed-noted : (f : State → State) (h : History) (e : Event) (x : Result) → noted h e x ≡ noted h e (changed f x)
+changed-noted f h e (refused r) = refl
+changed-noted f h e (accepted u k) = refl
 
 pub history-aside : (s : State) (h : History) (es : List Event) → inRange s ≡ true → Room (length es) (s .sent) → historyFrom s h es ≡ quickHistory (countsAside s) h es
 unfolding historyFrom runFrom
@@ -201,7 +209,7 @@ history-aside s h (e ∷ es) r k =
     let t = aside-result s e r (room-below _ (s .sent) k) in
     history-aside (after s e) (noted h e (step s e)) es (run-in s (e ∷ []) r) (room-after (length es) s e (λ j. omega (arith, k j)))
     ∙ ap (λ (u : State). quickHistory u (noted h e (step s e)) es) (aside-kept s (step s e) ∙ ap (kept (countsAside s)) t)
-    ∙ ap (λ (g : History). quickHistory (kept (countsAside s) (resultAside (countsAside s) e)) g es) (aside-noted h e (step s e) ∙ ap (noted h e) t)
+    ∙ ap (λ (g : History). quickHistory (kept (countsAside s) (resultAside (countsAside s) e)) g es) (changed-noted countsAside h e (step s e) ∙ ap (noted h e) t)
 
 -- from the starting table
 pub start-room : (j : ℕ) → j < trafficEnd → Room j noCounts
@@ -213,5 +221,5 @@ room-run j s [] h k = omega (arith, h k)
 room-run j s (e ∷ es) h k = room-run j (after s e) es (room-after (length es + j) s e (λ i. omega (arith, h i))) k
 
 -- a run of fewer events leaves every count below its end
-pub run-below : (n : ℕ) (es : List Event) → length es < trafficEnd → BelowEnd (run n es .sent)
-run-below n es h = room-below 0 (run n es .sent) (room-run 0 (start n) es (start-room (length es + 0) (omega arith)))
+pub run-below : (n : ℕ) (lim : Limits) (es : List Event) → length es < trafficEnd → BelowEnd (run n lim es .sent)
+run-below n lim es h = room-below 0 (run n lim es .sent) (room-run 0 (start n lim) es (start-room (length es + 0) (omega arith)))

@@ -15,7 +15,7 @@ use Rattle.model.specs.Node.{isDown, isNormal, isIdle, isCollecting}
 use Rattle.model.specs.Procedures.{next, inviteNext, merges, handNext, finishes, forwardNext, askedAll, askAt, askAfter}
 use Rattle.model.specs.React.{checked, timedOut, ticked, expired, resumed, onAreYouCoordinator, onAreYouThere, onInvitation, onAccept, onReady, onReply, received, react}
 use Rattle.model.specs.State.{State, startingNode, start, nodeAt}
-use Rattle.model.specs.Step.{actor, reactionTo, effect, Result, kept, after, runFrom}
+use Rattle.model.specs.Step.{runFrom, actor, reactionTo, effect, Result, kept, after}
 use Rattle.model.specs.Claims.{SendsHighest, SendsUpward, whomNow, whomStill, whomAside, Below, Picked, Undisturbed, CallOrder}
 use Rattle.model.proofs.Judged.{Clear, by-step, Allows, by-reaction}
 use Rattle.model.proofs.Numbers.{actor-in}
@@ -432,5 +432,5 @@ call-order =
       steps = step-picks;
       each = λ s e u j l. step-keeps s e u j l .0;
       each-aside = λ s e u j l. step-keeps s e u j l .1;
-      runs = λ n es i. run-ordered (start n) es (started n) (i - 1);
+      runs = λ n lim es i. run-ordered (start n lim) es (started n) (i - 1);
     }

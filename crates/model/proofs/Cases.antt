@@ -1,121 +1,185 @@
 -- The named cases, the wrong turnings, the further cases, those of T-03, T-04 and T-06 and the ends of what is in range, computed over the definitions.
 use Prim.Native.Nat.{ℕ, _+_, _≤_, _<_}
 use native.Mathlib.Omega.{arith}
-use mathlib.Core.Bool.{Bool, true, false, _&&_}
-use mathlib.Core.Path.{_≡_, refl, sym, _∙_, ap, subst}
+use native.Mathlib.Nat.{le-trans}
+use mathlib.Core.Bool.{Bool, true, false, _&&_, true≢false}
+use mathlib.Core.Path.{_≡_, refl, sym, _∙_, ap}
 use mathlib.Core.List.{List, [], _∷_, _++_, map}
+use lib.Dec.{leb}
 use lib.ListN.{length, replicate}
+use borrow.Author.Tests.{leb-true}
 use lib.Count.{onesIn, ones, leadingZeros}
 use lib.Bits.{bitAnd, bitOr}
+use Rattle.model.specs.Claims.{MayStart}
 use Rattle.model.specs.Pick.{pick, pick-true}
+use Rattle.model.specs.Limits.{tower, stand}
 use Rattle.model.specs.Counts.{total}
 use Rattle.model.specs.Node.{isDown, isIdle, asks, calls, replies}
 use Rattle.model.specs.Recovery.{recoveryRecords}
 use Rattle.model.specs.Procedures.{inviteNext, merges, handNext, finishes, forwardNext, askedAll, askAt, askAfter}
 use Rattle.model.specs.React.{checked, timedOut, ticked, expired, resumed, onAreYouCoordinator, onAreYouThere, onInvitation, onAccept, onReady, onReply, received, react}
-use Rattle.model.specs.Range.{activityInRange, nodeInRange, messageInRange, isNode, countInRange}
-use Rattle.model.specs.State.{State, startingNode, start, nodeAt, allWaiting, countsAside, baseInRange, waits, oldest, withoutOldest, howMany, countsOf, every, upTo, countsInRange, trafficInRange, inRange}
-use Rattle.model.specs.Grounds.{Ground, judged}
-use Rattle.model.specs.Step.{reactionTo, remaining, effect, wrongNumber, wrongTask, wrongStatus, wrongActivity, notCoordinator, noneWaits, grounds, Result, refused, accepted, step, kept, aside, after, runFrom, run}
-use Rattle.model.specs.History.{History, blank, updated, noted, historyFrom, history}
-use Rattle.model.specs.Cases.{NamedCases, WrongTurnings, FurtherCases, printedFields, among, queued, pair, filled, anyCall, collecting, k10, foundThree, setOf, none, node, three, joinsFormer, inFormerGroup, newMerges, afterMerge, bothInvite, invitedByBoth, joinsNew, inNewGroup, invitedOnce, InvitedTwice, HeldGroupCases, RecoveryCases, acceptedInvitation, onlyOne, CheckCases, RangeCases}
+use Rattle.model.specs.Range.{TwoPairs, LeftOut, pairRule, isWithinTower, isTowerOrStand, activityInRange, nodeInRange, messageInRange, isNode}
+use Rattle.model.specs.State.{inRange, State, startingNode, startBy, start, nodeAt, allWaiting, countsAside, baseInRange, waits, oldest, withoutOldest, countsOf, every, trafficInRange}
+use Rattle.model.specs.Grounds.{judged}
+use Rattle.model.specs.Step.{step, grounds, runFrom, reactionTo, remaining, effect, wrongNumber, wrongTask, wrongStatus, wrongActivity, notCoordinator, noneWaits, Result, refused, accepted, kept, aside, after, run}
+use Rattle.model.specs.History.{History, blank, updated, history}
+use Rattle.model.specs.Cases.{NamedCases, StandCases, allAsk, WrongTurnings, FurtherCases, printedFields, among, queued, pair, filled, anyCall, collecting, k10, foundThree, setOf, none, node, three, joinsFormer, inFormerGroup, newMerges, afterMerge, bothInvite, invitedByBoth, joinsNew, inNewGroup, InvitedTwice, HeldGroupCases, RecoveryCases, acceptedInvitation, onlyOne, CheckCases, RangeCases}
 use Rattle.model.proofs.Locality.{step-is-local}
-use Rattle.model.proofs.InRange.{start-in, run-in, stays-in-range}
+use Rattle.model.proofs.InRange.{start-in, stays-in-range}
+use Rattle.model.proofs.Pairs.{pair-within, pair-four}
 use Rattle.model.proofs.Waiting.{waiting-in}
 use Rattle.model.proofs.Aside.{resultAside, waiting-small, waiting-aside, aside-result, quick, aside-kept, run-aside, quick-append, counting, run-counting, quickHistory, history-aside, start-room, run-below}
 use Rattle.model.proofs.Checks.{check-rules}
+use Rattle.model.specs.declared.Limits.{Limits}
 use Rattle.model.specs.declared.Status.the-variants.{Election, Reorganization, Normal}
 use Rattle.model.specs.declared.Activity.the-variants.{Idle, Collecting}
 use Rattle.model.specs.declared.Node.{Node}
 use Rattle.model.specs.declared.Message.{Message}
-use Rattle.model.specs.declared.Mark.the-variants.{Plain}
 use Rattle.model.specs.declared.Event.{Event}
 use Rattle.model.specs.declared.Event.the-variants.{Crash, Recover, Check, Timeout, Tick, Expire, Finish, Deliver}
 
 -- ── a case is computed with the counts set aside, so that neither their range nor 17 is computed at each event ──
 
--- from a table in which all that was sent still waits
-one-step : (n : ℕ) (cs : List Node) (q : List Message) (e : Event) → baseInRange n cs q ≡ true → aside (step (allWaiting n cs q) e) ≡ resultAside (allWaiting n cs q) e
-one-step n cs q e r = waiting-aside n cs q r e
+-- limits of one of the two pairs
+record Allowed (lim : Limits) : Type 0 where
+  pub pair : isTowerOrStand lim ≡ true
+  pub within : isWithinTower lim ≡ true
+
+in-tower : Allowed tower
+in-tower = record { pair = refl; within = refl }
+
+in-stand : Allowed stand
+in-stand = record { pair = refl; within = refl }
 
 refused-aside : (x : Result) (r : ℕ) → aside x ≡ refused r → x ≡ refused r
 refused-aside (refused k) r h = h
 refused-aside (accepted u k) r h = absurd (let z : _≡_ {A = ℕ} 1 0 = cc in omega arith)
 
-one-refused : (n : ℕ) (cs : List Node) (q : List Message) (e : Event) (r : ℕ) → baseInRange n cs q ≡ true → resultAside (allWaiting n cs q) e ≡ refused r
-    → step (allWaiting n cs q) e ≡ refused r
-one-refused n cs q e r b h = refused-aside _ r (one-step n cs q e b ∙ h)
+-- from a table with such limits in which all that was sent still waits
+module _ (lim : Limits) (o : Allowed lim) where
+  one-step-in : (n : ℕ) (cs : List Node) (q : List Message) (e : Event) → baseInRange lim n cs q ≡ true → aside (step (allWaiting n lim cs q) e) ≡ resultAside (allWaiting n lim cs q) e
+  one-step-in n cs q e r = waiting-aside TwoPairs n lim cs q (o .pair) (o .within) r e
 
-one-after : (n : ℕ) (cs : List Node) (q : List Message) (e : Event) → baseInRange n cs q ≡ true
-    → countsAside (after (allWaiting n cs q) e) ≡ kept (allWaiting n cs q) (resultAside (allWaiting n cs q) e)
-one-after n cs q e r = aside-kept (allWaiting n cs q) (step (allWaiting n cs q) e) ∙ ap (kept (allWaiting n cs q)) (one-step n cs q e r)
+  one-refused-in : (n : ℕ) (cs : List Node) (q : List Message) (e : Event) (r : ℕ) → baseInRange lim n cs q ≡ true → resultAside (allWaiting n lim cs q) e ≡ refused r
+      → step (allWaiting n lim cs q) e ≡ refused r
+  one-refused-in n cs q e r b h = refused-aside _ r (one-step-in n cs q e b ∙ h)
 
-some-steps : (n : ℕ) (cs : List Node) (q : List Message) (es : List Event) → baseInRange n cs q ≡ true → length es < 33554366
-    → countsAside (runFrom (allWaiting n cs q) es) ≡ quick (allWaiting n cs q) es
-some-steps n cs q es r h = run-aside (allWaiting n cs q) es (waiting-in n cs q r) (λ k. omega (arith, h, waiting-small n cs q r k))
+  one-after-in : (n : ℕ) (cs : List Node) (q : List Message) (e : Event) → baseInRange lim n cs q ≡ true
+      → countsAside (after (allWaiting n lim cs q) e) ≡ kept (allWaiting n lim cs q) (resultAside (allWaiting n lim cs q) e)
+  one-after-in n cs q e r = aside-kept (allWaiting n lim cs q) (step (allWaiting n lim cs q) e) ∙ ap (kept (allWaiting n lim cs q)) (one-step-in n cs q e r)
 
--- one that is not in range meets 1
-not-in-range : (n : ℕ) (cs : List Node) (q : List Message) (e : Event) → baseInRange n cs q ≡ false → step (allWaiting n cs q) e ≡ refused 1
+  -- one that is not in range meets 1
+  not-in-range-in : (n : ℕ) (cs : List Node) (q : List Message) (e : Event) → baseInRange lim n cs q ≡ false → step (allWaiting n lim cs q) e ≡ refused 1
+  unfolding step grounds judged inRange
+  not-in-range-in n cs q e r = rw (o .pair, o .within, r, pick-true) refl
+
+  -- whether such a table is in range does not depend on its counts
+  waiting-range : (n : ℕ) (cs : List Node) (q : List Message) → inRange (allWaiting n lim cs q) ≡ baseInRange lim n cs q
+  unfolding inRange
+  waiting-range n cs q = by (baseInRange lim n cs q) refl
+    where
+      by : (t : Bool) → baseInRange lim n cs q ≡ t
+          → (isTowerOrStand lim && (isWithinTower lim && (baseInRange lim n cs q && trafficInRange (allWaiting n lim cs q)))) ≡ baseInRange lim n cs q
+      by true e = waiting-in TwoPairs n lim cs q (o .pair) (o .within) e ∙ sym e
+      by false e = rw (o .pair, o .within, e)
+
+-- in the tower
+one-step : (n : ℕ) (cs : List Node) (q : List Message) (e : Event) → baseInRange tower n cs q ≡ true → aside (step (allWaiting n tower cs q) e) ≡ resultAside (allWaiting n tower cs q) e
+one-step n cs q e r = one-step-in tower in-tower n cs q e r
+
+one-refused : (n : ℕ) (cs : List Node) (q : List Message) (e : Event) (r : ℕ) → baseInRange tower n cs q ≡ true → resultAside (allWaiting n tower cs q) e ≡ refused r
+    → step (allWaiting n tower cs q) e ≡ refused r
+one-refused n cs q e r b h = one-refused-in tower in-tower n cs q e r b h
+
+one-after : (n : ℕ) (cs : List Node) (q : List Message) (e : Event) → baseInRange tower n cs q ≡ true
+    → countsAside (after (allWaiting n tower cs q) e) ≡ kept (allWaiting n tower cs q) (resultAside (allWaiting n tower cs q) e)
+one-after n cs q e r = one-after-in tower in-tower n cs q e r
+
+some-steps : (n : ℕ) (cs : List Node) (q : List Message) (es : List Event) → baseInRange tower n cs q ≡ true → length es < 33554366
+    → countsAside (runFrom (allWaiting n tower cs q) es) ≡ quick (allWaiting n tower cs q) es
+some-steps n cs q es r h =
+    run-aside (allWaiting n tower cs q) es (waiting-in TwoPairs n tower cs q refl refl r) (λ k. omega (arith, h, waiting-small TwoPairs n tower cs q refl refl r k))
+
+not-in-range : (n : ℕ) (cs : List Node) (q : List Message) (e : Event) → baseInRange tower n cs q ≡ false → step (allWaiting n tower cs q) e ≡ refused 1
+not-in-range n cs q e r = not-in-range-in tower in-tower n cs q e r
+
+-- a table that is not in range by its numbers of nodes or messages, or by its limits, meets 1
+out-of-range : (s : State) (e : Event) → (pairRule (s .rule) (s .limits) && (isWithinTower (s .limits) && baseInRange (s .limits) (s .n) (s .nodes) (s .queue))) ≡ false → step s e ≡ refused 1
 unfolding step grounds judged inRange
-not-in-range n cs q e r = rw (r, pick-true) refl
-
--- nor is the starting table of no nodes in range
-no-nodes : (e : Event) → step (start 0) e ≡ refused 1
-unfolding step grounds judged inRange pick
-no-nodes e = refl
-
--- whether such a table is in range does not depend on its counts
-waiting-range : (n : ℕ) (cs : List Node) (q : List Message) → inRange (allWaiting n cs q) ≡ baseInRange n cs q
-unfolding inRange
-waiting-range n cs q = by (baseInRange n cs q) refl
+out-of-range s e r = rw (not-all (pairRule (s .rule) (s .limits)) (isWithinTower (s .limits)) _ (trafficInRange s) r, pick-true) refl
   where
-    by : (t : Bool) → baseInRange n cs q ≡ t → (baseInRange n cs q && trafficInRange (allWaiting n cs q)) ≡ baseInRange n cs q
-    by true e = waiting-in n cs q e ∙ sym e
-    by false e = rw e
+    not-all : (a b c d : Bool) → (a && (b && c)) ≡ false → (a && (b && (c && d))) ≡ false
+    not-all false b c d h = refl
+    not-all true false c d h = refl
+    not-all true true false d h = refl
+    not-all true true true d h = absurd (true≢false h)
 
 pub among-same : (f g : ℕ → Bool) → ((x : ℕ) → f x ≡ g x) → (l : List ℕ) → among f l ≡ among g l
 among-same f g h [] = refl
 among-same f g h (x ∷ l) = ap (λ (t : Bool). pick t (x ∷ among f l) (among f l)) (h x) ∙ ap (λ (k : List ℕ). pick (g x) (x ∷ k) k) (among-same f g h l)
 
 -- those of the numbers for which such a table is in range
-among-tables : (n : ℕ → ℕ) (cs : ℕ → List Node) (q : ℕ → List Message) (l : List ℕ)
-    → among (λ x. inRange (allWaiting (n x) (cs x) (q x))) l ≡ among (λ x. baseInRange (n x) (cs x) (q x)) l
-among-tables n cs q l = among-same (λ x. inRange (allWaiting (n x) (cs x) (q x))) (λ x. baseInRange (n x) (cs x) (q x)) (λ x. waiting-range (n x) (cs x) (q x)) l
+among-tables : (lim : Limits) → Allowed lim → (n : ℕ → ℕ) (cs : ℕ → List Node) (q : ℕ → List Message) (l : List ℕ)
+    → among (λ x. inRange (allWaiting (n x) lim (cs x) (q x))) l ≡ among (λ x. baseInRange lim (n x) (cs x) (q x)) l
+among-tables lim o n cs q l =
+    among-same (λ x. inRange (allWaiting (n x) lim (cs x) (q x))) (λ x. baseInRange lim (n x) (cs x) (q x)) (λ x. waiting-range lim o (n x) (cs x) (q x)) l
 
 -- from a starting table
-started : (n : ℕ) (es : List Event) → 1 ≤ n → n ≤ 16 → length es < 33554430 → countsAside (run n es) ≡ quick (countsAside (start n)) es
-started n es l h k = run-aside (start n) es (start-in n l h) (start-room (length es) k)
+module _ (lim : Limits) (o : Allowed lim) (n : ℕ) (low : 1 ≤ n) (high : n ≤ lim .nodes) where
+  starts : MayStart TwoPairs n lim
+  starts = record { within = o .within; pair = o .pair; low = low; high = high }
 
-two : (es : List Event) → length es < 33554430 → countsAside (run 2 es) ≡ quick (countsAside (start 2)) es
-two es k = started 2 es (omega arith) (omega arith) k
+  started-in : (es : List Event) → length es < 33554430 → countsAside (run n lim es) ≡ quick (countsAside (start n lim)) es
+  started-in es k = run-aside (start n lim) es (start-in TwoPairs n lim starts) (start-room (length es) k)
 
-pub two-counting : (es : List Event) → length es < 33554430 → run 2 es ≡ counting (start 2) es
-two-counting es k = run-counting (start 2) es (start-in 2 (omega arith) (omega arith)) (start-room (length es) k)
+  counting-in : (es : List Event) → length es < 33554430 → run n lim es ≡ counting (start n lim) es
+  counting-in es k = run-counting (start n lim) es (start-in TwoPairs n lim starts) (start-room (length es) k)
 
-in-three : (es : List Event) → length es < 33554430 → countsAside (run 3 es) ≡ quick (countsAside (start 3)) es
-in-three es k = started 3 es (omega arith) (omega arith) k
+  -- an event after a run
+  from-in : (es : List Event) (e : Event) → length es + 1 < 33554430 → aside (step (run n lim es) e) ≡ resultAside (quick (countsAside (start n lim)) es) e
+  from-in es e k =
+      aside-result (run n lim es) e (stays-in-range .runs TwoPairs n lim starts es) (run-below n lim es (omega arith))
+      ∙ ap (λ (s : State). resultAside s e) (started-in es (omega arith))
 
--- an event after a run
-from-run : (n : ℕ) (es : List Event) (e : Event) → 1 ≤ n → n ≤ 16 → length es + 1 < 33554430 → aside (step (run n es) e) ≡ resultAside (quick (countsAside (start n)) es) e
-from-run n es e l h k =
-    aside-result (run n es) e (stays-in-range .runs n l h es) (run-below n es (omega arith))
-    ∙ ap (λ (s : State). resultAside s e) (started n es l h (omega arith))
+  refused-in : (es : List Event) (e : Event) (r : ℕ) → length es + 1 < 33554430 → resultAside (quick (countsAside (start n lim)) es) e ≡ refused r → step (run n lim es) e ≡ refused r
+  refused-in es e r k h = refused-aside _ r (from-in es e k ∙ h)
 
-from-two : (es : List Event) (e : Event) (r : ℕ) → length es + 1 < 33554430 → resultAside (quick (countsAside (start 2)) es) e ≡ refused r → step (run 2 es) e ≡ refused r
-from-two es e r k h = refused-aside _ r (from-run 2 es e (omega arith) (omega arith) k ∙ h)
+  at-start-in : (e : Event) (r : ℕ) → resultAside (countsAside (start n lim)) e ≡ refused r → step (start n lim) e ≡ refused r
+  unfolding runFrom
+  at-start-in e r h = refused-in [] e r (omega arith) h
 
-at-start : (e : Event) (r : ℕ) → resultAside (countsAside (start 2)) e ≡ refused r → step (start 2) e ≡ refused r
-unfolding runFrom
-at-start e r h = from-two [] e r (omega arith) h
+  after-in : (es : List Event) (e : Event) → length es + 1 < 33554430
+      → countsAside (after (run n lim es) e) ≡ kept (quick (countsAside (start n lim)) es) (resultAside (quick (countsAside (start n lim)) es) e)
+  after-in es e k =
+      aside-kept (run n lim es) (step (run n lim es) e)
+      ∙ ap (λ (s : State). kept s (aside (step (run n lim es) e))) (started-in es (omega arith))
+      ∙ ap (kept (quick (countsAside (start n lim)) es)) (from-in es e k)
 
-after-two : (es : List Event) (e : Event) → length es + 1 < 33554430 → countsAside (after (run 2 es) e) ≡ kept (quick (countsAside (start 2)) es) (resultAside (quick (countsAside (start 2)) es) e)
-after-two es e k =
-    aside-kept (run 2 es) (step (run 2 es) e)
-    ∙ ap (λ (s : State). kept s (aside (step (run 2 es) e))) (two es (omega arith))
-    ∙ ap (kept (quick (countsAside (start 2)) es)) (from-run 2 es e (omega arith) (omega arith) k)
+  history-in : (es : List Event) → length es < 33554430 → history n lim es ≡ quickHistory (countsAside (start n lim)) blank es
+  history-in es k = history-aside (start n lim) blank es (start-in TwoPairs n lim starts) (start-room (length es) k)
 
-history-two : (es : List Event) → length es < 33554430 → history 2 es ≡ quickHistory (countsAside (start 2)) blank es
-history-two es k = history-aside (start 2) blank es (start-in 2 (omega arith) (omega arith)) (start-room (length es) k)
+-- in the tower
+two : (es : List Event) → length es < 33554430 → countsAside (run 2 tower es) ≡ quick (countsAside (start 2 tower)) es
+two es k = started-in tower in-tower 2 (omega arith) (omega arith) es k
+
+pub two-counting : (es : List Event) → length es < 33554430 → run 2 tower es ≡ counting (start 2 tower) es
+two-counting es k = counting-in tower in-tower 2 (omega arith) (omega arith) es k
+
+in-three : (es : List Event) → length es < 33554430 → countsAside (run 3 tower es) ≡ quick (countsAside (start 3 tower)) es
+in-three es k = started-in tower in-tower 3 (omega arith) (omega arith) es k
+
+from-two : (es : List Event) (e : Event) (r : ℕ) → length es + 1 < 33554430 → resultAside (quick (countsAside (start 2 tower)) es) e ≡ refused r → step (run 2 tower es) e ≡ refused r
+from-two es e r k h = refused-in tower in-tower 2 (omega arith) (omega arith) es e r k h
+
+at-start : (e : Event) (r : ℕ) → resultAside (countsAside (start 2 tower)) e ≡ refused r → step (start 2 tower) e ≡ refused r
+at-start e r h = at-start-in tower in-tower 2 (omega arith) (omega arith) e r h
+
+after-two : (es : List Event) (e : Event) → length es + 1 < 33554430
+    → countsAside (after (run 2 tower es) e) ≡ kept (quick (countsAside (start 2 tower)) es) (resultAside (quick (countsAside (start 2 tower)) es) e)
+after-two es e k = after-in tower in-tower 2 (omega arith) (omega arith) es e k
+
+history-two : (es : List Event) → length es < 33554430 → history 2 tower es ≡ quickHistory (countsAside (start 2 tower)) blank es
+history-two es k = history-in tower in-tower 2 (omega arith) (omega arith) es k
 
 pub named-cases : NamedCases
 unfolding total pick onesIn ones leadingZeros bitAnd bitOr inviteNext merges handNext finishes forwardNext askedAll askAt askAfter checked timedOut ticked expired resumed onAreYouCoordinator onAreYouThere onInvitation onAccept onReady onReply received react activityInRange nodeInRange messageInRange waits oldest withoutOldest every reactionTo remaining effect wrongNumber wrongTask wrongStatus wrongActivity notCoordinator noneWaits grounds judged updated
@@ -180,6 +244,61 @@ named-cases =
       k13 = at-start (Finish 9 (record { number = 5 })) _ refl;
       k13-task = at-start (Finish 2 (record { number = 5 })) _ refl;
       k13-down = at-start (Finish 2 (record { number = 100 })) _ refl;
+    }
+
+pub stand-cases : StandCases
+unfolding total pick onesIn ones leadingZeros bitAnd bitOr inviteNext merges handNext finishes forwardNext askedAll askAt askAfter checked timedOut ticked expired resumed onAreYouCoordinator onAreYouThere onInvitation onAccept onReady onReply received react activityInRange nodeInRange messageInRange waits oldest withoutOldest every reactionTo remaining effect wrongNumber wrongTask wrongStatus wrongActivity notCoordinator noneWaits grounds judged updated
+stand-cases =
+    record {
+      k1-low = refl;
+      k1-high = refl;
+      k1-first = refl;
+      k1-last = refl;
+      k2 = ap (λ (s : State). printedFields s 1) (started-in stand in-stand 2 (omega arith) (omega arith) (Recover 1 ∷ []) (omega arith));
+      k2-task = ap (λ (h : History). h .entry 16) (history-in stand in-stand 2 (omega arith) (omega arith) (Recover 1 ∷ []) (omega arith));
+      k3 = refused-in stand in-stand 2 (omega arith) (omega arith) (Recover 1 ∷ []) (Recover 1) _ (omega arith) refl;
+      k4 = ap (λ (s : State). printedFields s 1) (started-in stand in-stand 2 (omega arith) (omega arith) (Recover 1 ∷ Crash 1 ∷ Recover 1 ∷ []) (omega arith));
+      k5-passes = ap (λ (s : State). printedFields s 4) (one-after-in stand in-stand _ _ _ (Recover 4) refl);
+      k5-ends = one-refused-in stand in-stand _ _ _ _ _ refl refl;
+      k6-refused = refused-in stand in-stand 2 (omega arith) (omega arith) collecting (Finish 2 (record { number = 99 })) _ (omega arith) refl;
+      k6-passes = ap (λ (s : State). printedFields s 2) (after-in stand in-stand 2 (omega arith) (omega arith) collecting (Finish 2 (record { number = 100 })) (omega arith));
+      k7-first = ap (λ (s : State). nodeAt s 1 .activity) (started-in stand in-stand 3 (omega arith) (omega arith) (foundThree ++ (Tick 1 ∷ [])) (omega arith));
+      k7-second = ap (λ (s : State). nodeAt s 1 .activity) (started-in stand in-stand 3 (omega arith) (omega arith) (foundThree ++ (Tick 1 ∷ Tick 1 ∷ [])) (omega arith));
+      k8 = one-after-in stand in-stand _ _ _ _ refl;
+      k9 = one-after-in stand in-stand _ _ _ _ refl;
+      k10-first = ap (λ (s : State). printedFields s 1) (started-in stand in-stand 2 (omega arith) (omega arith) k10 (omega arith));
+      k10-second = ap (λ (s : State). printedFields s 2) (started-in stand in-stand 2 (omega arith) (omega arith) k10 (omega arith));
+      k10-task = ap (λ (h : History). h .entry 33) (history-in stand in-stand 2 (omega arith) (omega arith) k10 (omega arith));
+      k11-refused = one-refused-in stand in-stand _ _ _ _ _ refl refl;
+      k11-passes = one-after-in stand in-stand _ _ _ _ refl;
+      k11-room = ap (λ (s : State). s .queue) (one-after-in stand in-stand _ _ _ (Check 1) refl);
+      k11-turned-away = one-refused-in stand in-stand _ _ _ _ _ refl refl;
+      k12 = one-after-in stand in-stand _ _ _ _ refl;
+      k13 = at-start-in stand in-stand 2 (omega arith) (omega arith) (Finish 9 (record { number = 5 })) _ refl;
+      in-tower = ap (λ (s : State). s .queue) (one-after _ _ _ (Check 1) refl);
+      in-tower-more = ap (λ (s : State). s .queue) (one-after _ _ _ (Check 1) refl);
+      many-messages = not-in-range-in stand in-stand _ _ _ _ refl;
+      many-nodes = out-of-range _ _ refl;
+      tower-nodes = at-start-in tower in-tower 5 (omega arith) (omega arith) (Recover 9) _ refl;
+      ends-twelve = one-refused-in stand in-stand _ _ _ _ _ refl refl;
+      ends-thirteen = one-refused-in stand in-stand _ _ _ _ _ refl refl;
+      ends-fourteen = one-refused-in stand in-stand _ _ _ _ _ refl refl;
+      ends-pass = ap (λ (s : State). length (s .queue)) (one-after-in stand in-stand _ _ _ (Tick 2) refl);
+      run-fills = ap (λ (s : State). length (s .queue)) (started-in stand in-stand 4 (omega arith) (omega arith) allAsk (omega arith));
+      run-full = refused-in stand in-stand 4 (omega arith) (omega arith) allAsk (Check 1) _ (omega arith) refl;
+      run-delivers = ap (λ (s : State). length (s .queue)) (after-in stand in-stand 4 (omega arith) (omega arith) allAsk (Deliver 1 2) (omega arith));
+      run-in-tower = ap (λ (s : State). length (s .queue)) (after-in tower in-tower 4 (omega arith) (omega arith) allAsk (Check 1) (omega arith));
+      swapped = out-of-range _ _ refl;
+      tower-nodes-only = out-of-range _ _ refl;
+      stand-nodes-only = out-of-range _ _ refl;
+      no-limits = out-of-range _ _ refl;
+      left-out = ap (λ (s : State). printedFields s 1)
+          (run-aside (startBy LeftOut 2 (record { nodes = 4; messages = 64 })) (Recover 1 ∷ [])
+          (start-in LeftOut 2 (record { nodes = 4; messages = 64 }) (record { within = refl; pair = refl; low = omega arith; high = omega arith }))
+          (start-room 1 (omega arith)));
+      started = refl;
+      wrong-limits = refl;
+      wrong-count = refl;
     }
 
 pub wrong-turnings : WrongTurnings
@@ -255,7 +374,7 @@ further-cases =
       range-node = not-in-range _ _ _ _ refl;
       range-message = not-in-range _ _ _ _ refl;
       range-queue = not-in-range _ _ _ _ refl;
-      range-count = no-nodes (Crash 9);
+      range-count = out-of-range _ _ refl;
       range-kept = one-refused _ _ _ _ _ refl refl;
       number-none = one-refused _ _ _ _ _ refl refl;
       number-same = one-refused _ _ _ _ _ refl refl;
@@ -306,7 +425,7 @@ joined = inNewGroup (calls 2 3 1 (record { number = 5 }) (record { number = 34 }
 
 -- the parts of the story, each from the table before it
 record Parts : Type 0 where
-  pub former : quick (countsAside (start 3)) joinsFormer ≡ inFormerGroup
+  pub former : quick (countsAside (start 3 tower)) joinsFormer ≡ inFormerGroup
   pub merges : quick inFormerGroup newMerges ≡ afterMerge
   pub both : quick afterMerge bothInvite ≡ invitedByBoth
   pub joins : quick invitedByBoth accepting ≡ threeCollects
@@ -321,8 +440,8 @@ parts = record { former = refl; merges = refl; both = refl; joins = refl; hands 
 onward : (s t u : State) (es fs : List Event) → quick s es ≡ t → quick t fs ≡ u → quick s (es ++ fs) ≡ u
 onward s t u es fs p q = quick-append s es fs ∙ ap (λ (v : State). quick v fs) p ∙ q
 
-from-former : (es : List Event) (u : State) → length (joinsFormer ++ es) < 33554430 → quick inFormerGroup es ≡ u → countsAside (run 3 (joinsFormer ++ es)) ≡ u
-from-former es u k h = in-three (joinsFormer ++ es) k ∙ onward (countsAside (start 3)) inFormerGroup u joinsFormer es (parts .former) h
+from-former : (es : List Event) (u : State) → length (joinsFormer ++ es) < 33554430 → quick inFormerGroup es ≡ u → countsAside (run 3 tower (joinsFormer ++ es)) ≡ u
+from-former es u k h = in-three (joinsFormer ++ es) k ∙ onward (countsAside (start 3 tower)) inFormerGroup u joinsFormer es (parts .former) h
 
 pub invited-twice : InvitedTwice
 invited-twice =
@@ -371,13 +490,13 @@ check-cases =
       reorganization-member = one-refused _ _ _ _ _ refl refl;
       one = check-rules .one _ 1
           (record {
-            in-range = stays-in-range .runs 1 (omega arith) (omega arith) (Recover 1 ∷ []);
+            in-range = stays-in-range .runs TwoPairs 1 tower (starts tower in-tower 1 (omega arith) (omega arith)) (Recover 1 ∷ []);
             number = ap (λ (s : State). isNode (s .n) 1) recovered;
             not-down = ap (λ (s : State). isDown (nodeAt s 1 .status)) recovered;
             idle = ap (λ (s : State). isIdle (nodeAt s 1 .activity)) recovered;
           })
           (ap (λ (s : State). s .n) recovered) (ap (λ (s : State). nodeAt s 1 .status) recovered) (ap (λ (s : State). nodeAt s 1 .coordinator) recovered);
-      one-at-end = check-rules .one (onlyOne Normal 16777215 Idle) 1 (record { in-range = waiting-in _ _ _ refl; number = refl; not-down = refl; idle = refl }) refl refl refl;
+      one-at-end = check-rules .one (onlyOne Normal 16777215 Idle) 1 (record { in-range = waiting-in TwoPairs _ tower _ _ refl refl refl; number = refl; not-down = refl; idle = refl }) refl refl refl;
       one-election = one-refused _ _ _ _ _ refl refl;
       one-reorganization = one-refused _ _ _ _ _ refl refl;
       one-down = one-refused _ _ _ _ _ refl refl;
@@ -399,14 +518,14 @@ check-cases =
       run-accepted = from-two acceptedInvitation (Check 1) _ (omega arith) refl;
       run-member = member-turned-away;
       run-coordinator = ap (λ (s : State). nodeAt s 2 .activity) (after-two k10 (Check 2) (omega arith));
-      skipped = step-is-local .refused-skips 2 k10 (Check 1) (Check 2 ∷ []) 18 member-turned-away;
+      skipped = step-is-local .refused-skips 2 tower k10 (Check 1) (Check 2 ∷ []) 18 member-turned-away;
       number = refl;
     }
   where
-    recovered : countsAside (run 1 (Recover 1 ∷ [])) ≡ quick (countsAside (start 1)) (Recover 1 ∷ [])
-    recovered = started 1 (Recover 1 ∷ []) (omega arith) (omega arith) (omega arith)
+    recovered : countsAside (run 1 tower (Recover 1 ∷ [])) ≡ quick (countsAside (start 1 tower)) (Recover 1 ∷ [])
+    recovered = started-in tower in-tower 1 (omega arith) (omega arith) (Recover 1 ∷ []) (omega arith)
 
-    member-turned-away : step (run 2 k10) (Check 1) ≡ refused 18
+    member-turned-away : step (run 2 tower k10) (Check 1) ≡ refused 18
     member-turned-away = from-two k10 (Check 1) 18 (omega arith) refl
 
 pub recovery-cases : RecoveryCases
@@ -431,17 +550,52 @@ recovery-cases =
       inside = refl;
     }
 
+-- of two nodes at the start: in range where the limits are one of the two pairs
+limits-range : (lim : Limits) → inRange (allWaiting 2 lim (replicate 2 startingNode) []) ≡ isTowerOrStand lim
+unfolding inRange countsOf
+limits-range lim = by (isTowerOrStand lim) refl
+  where
+    by : (t : Bool) → isTowerOrStand lim ≡ t → inRange (allWaiting 2 lim (replicate 2 startingNode) []) ≡ isTowerOrStand lim
+    by true e = start-in TwoPairs 2 lim (record { within = pair-within lim e; pair = e; low = omega arith; high = le-trans (omega arith) (pair-four lim e) }) ∙ sym e
+    by false e = rw e
+
+among-limits : (f : ℕ → Limits) (l : List ℕ) → among (λ x. inRange (allWaiting 2 (f x) (replicate 2 startingNode) [])) l ≡ among (λ x. isTowerOrStand (f x)) l
+among-limits f l = among-same (λ x. inRange (allWaiting 2 (f x) (replicate 2 startingNode) [])) (λ x. isTowerOrStand (f x)) (λ x. limits-range (f x)) l
+
+-- with the rule of the two pairs left out
+abbrev leftOutRange : Limits → Bool
+leftOutRange lim = isWithinTower lim && leb 2 (lim .nodes)
+
+left-out-range : (lim : Limits) → inRange (startBy LeftOut 2 lim) ≡ leftOutRange lim
+unfolding inRange
+left-out-range lim = by (isWithinTower lim) (leb 2 (lim .nodes)) refl refl
+  where
+    by : (t u : Bool) → isWithinTower lim ≡ t → leb 2 (lim .nodes) ≡ u → inRange (startBy LeftOut 2 lim) ≡ leftOutRange lim
+    by true true p q = start-in LeftOut 2 lim (record { within = p; pair = refl; low = omega arith; high = leb-true 2 (lim .nodes) q }) ∙ sym (rw (p, q))
+    by true false p q = rw (p, q)
+    by false u p q = rw p
+
 pub range-cases : RangeCases
 unfolding pick bitOr activityInRange nodeInRange messageInRange every
 range-cases =
     record {
-      count-ends = among-tables (λ (x : ℕ). x) (λ (x : ℕ). replicate x startingNode) (λ (x : ℕ). []) (0 ∷ 1 ∷ 16 ∷ 17 ∷ []);
-      count-records = among-tables (λ (x : ℕ). 3) (λ (x : ℕ). replicate x startingNode) (λ (x : ℕ). []) (2 ∷ 3 ∷ 4 ∷ []);
-      waiting-end = among-tables (λ (x : ℕ). 2) (λ (x : ℕ). pair Normal none Idle [] .nodes) queued (0 ∷ 64 ∷ 65 ∷ []);
-      every-first = among-tables (λ (x : ℕ). 3) (λ (x : ℕ). filled Normal 16 1 1 (setOf (x ∷ [])) 0 Idle ∷ startingNode ∷ startingNode ∷ []) (λ (x : ℕ). []) (1 ∷ 2 ∷ 3 ∷ []);
-      every-last = among-tables (λ (x : ℕ). 3) (λ (x : ℕ). startingNode ∷ startingNode ∷ filled Normal 18 3 3 (setOf (x ∷ [])) 0 Idle ∷ []) (λ (x : ℕ). []) (1 ∷ 2 ∷ 3 ∷ []);
-      every-oldest = among-tables (λ (x : ℕ). 3) (λ (x : ℕ). replicate 3 startingNode) (λ (x : ℕ). asks 1 2 (record { number = x }) ∷ asks 2 1 (record { number = 1 }) ∷ []) anyCall;
-      every-newest = among-tables (λ (x : ℕ). 3) (λ (x : ℕ). replicate 3 startingNode) (λ (x : ℕ). asks 1 2 (record { number = 1 }) ∷ asks 2 1 (record { number = x }) ∷ []) anyCall;
+      count-ends = among-tables tower in-tower (λ (x : ℕ). x) (λ (x : ℕ). replicate x startingNode) (λ (x : ℕ). []) (0 ∷ 1 ∷ 16 ∷ 17 ∷ []);
+      count-records = among-tables tower in-tower (λ (x : ℕ). 3) (λ (x : ℕ). replicate x startingNode) (λ (x : ℕ). []) (2 ∷ 3 ∷ 4 ∷ []);
+      waiting-end = among-tables tower in-tower (λ (x : ℕ). 2) (λ (x : ℕ). pair Normal none Idle [] .nodes) queued (0 ∷ 64 ∷ 65 ∷ []);
+      stand-ends = among-tables stand in-stand (λ (x : ℕ). x) (λ (x : ℕ). replicate x startingNode) (λ (x : ℕ). []) (0 ∷ 1 ∷ 4 ∷ 5 ∷ 16 ∷ []);
+      stand-waiting = among-tables stand in-stand (λ (x : ℕ). 2) (λ (x : ℕ). pair Normal none Idle [] .nodes) queued (0 ∷ 12 ∷ 13 ∷ 64 ∷ []);
+      limits-sixteen = among-limits (λ (x : ℕ). record { nodes = 16; messages = x }) (0 ∷ 12 ∷ 63 ∷ 64 ∷ 65 ∷ 255 ∷ []);
+      limits-sixty-four = among-limits (λ (x : ℕ). record { nodes = x; messages = 64 }) (0 ∷ 2 ∷ 4 ∷ 15 ∷ 16 ∷ 17 ∷ 255 ∷ []);
+      limits-four = among-limits (λ (x : ℕ). record { nodes = 4; messages = x }) (0 ∷ 11 ∷ 12 ∷ 13 ∷ 64 ∷ 255 ∷ []);
+      limits-twelve = among-limits (λ (x : ℕ). record { nodes = x; messages = 12 }) (0 ∷ 2 ∷ 3 ∷ 4 ∷ 5 ∷ 16 ∷ 255 ∷ []);
+      left-out-nodes = among-same (λ (x : ℕ). inRange (startBy LeftOut 2 (record { nodes = x; messages = 64 }))) (λ (x : ℕ). leftOutRange (record { nodes = x; messages = 64 }))
+          (λ (x : ℕ). left-out-range (record { nodes = x; messages = 64 })) (0 ∷ 1 ∷ 2 ∷ 5 ∷ 16 ∷ 17 ∷ 255 ∷ []);
+      left-out-messages = among-same (λ (x : ℕ). inRange (startBy LeftOut 2 (record { nodes = 16; messages = x }))) (λ (x : ℕ). leftOutRange (record { nodes = 16; messages = x }))
+          (λ (x : ℕ). left-out-range (record { nodes = 16; messages = x })) (0 ∷ 13 ∷ 64 ∷ 65 ∷ 255 ∷ []);
+      every-first = among-tables tower in-tower (λ (x : ℕ). 3) (λ (x : ℕ). filled Normal 16 1 1 (setOf (x ∷ [])) 0 Idle ∷ startingNode ∷ startingNode ∷ []) (λ (x : ℕ). []) (1 ∷ 2 ∷ 3 ∷ []);
+      every-last = among-tables tower in-tower (λ (x : ℕ). 3) (λ (x : ℕ). startingNode ∷ startingNode ∷ filled Normal 18 3 3 (setOf (x ∷ [])) 0 Idle ∷ []) (λ (x : ℕ). []) (1 ∷ 2 ∷ 3 ∷ []);
+      every-oldest = among-tables tower in-tower (λ (x : ℕ). 3) (λ (x : ℕ). replicate 3 startingNode) (λ (x : ℕ). asks 1 2 (record { number = x }) ∷ asks 2 1 (record { number = 1 }) ∷ []) anyCall;
+      every-newest = among-tables tower in-tower (λ (x : ℕ). 3) (λ (x : ℕ). replicate 3 startingNode) (λ (x : ℕ). asks 1 2 (record { number = 1 }) ∷ asks 2 1 (record { number = x }) ∷ []) anyCall;
       counter-end = refl;
       group-down = refl;
       coordinator-down = refl;

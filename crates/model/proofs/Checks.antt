@@ -10,14 +10,14 @@ use lib.ListN.{length, set}
 use lib.Seq.{set-getD}
 use borrow.Author.Tests.{not-false, not-true, eqb-true, eqb-false, eq-eqb, ne-eqb, le-leb, lt-ltb, ltb-true}
 use Rattle.model.specs.Pick.{pick, pick-true, pick-false}
-use Rattle.model.specs.Limits.{queueLimit, counterEnd, callEnd, trafficEnd}
+use Rattle.model.specs.Limits.{counterEnd, callEnd, trafficEnd}
 use Rattle.model.specs.Counts.{countAt}
 use Rattle.model.specs.Node.{isNormal, nextCall, calling, asks}
 use Rattle.model.specs.Procedures.{reaction, stays, askAt, askAfter}
 use Rattle.model.specs.React.{leads, checked, react}
 use Rattle.model.specs.State.{State, startingNode, nodeAt}
 use Rattle.model.specs.Grounds.{ground, judged}
-use Rattle.model.specs.Step.{actor, reactionTo, remaining, sent, withSent, effect, notCoordinator, forms, isCalling, isSending, pairAtEnd, grounds, Result, refused, accepted, step, run}
+use Rattle.model.specs.Step.{step, grounds, actor, reactionTo, remaining, sent, withSent, effect, notCoordinator, forms, isCalling, isSending, pairAtEnd, Result, refused, accepted, run}
 use Rattle.model.specs.Claims.{MaySend, firstOther, checkGrounds, withQuestion, withCheck, CheckReaches, DoesNotLead, CheckRules}
 use Rattle.model.proofs.Grounds.{judged-by}
 use Rattle.model.proofs.Judged.{accepted-apart, accepted-is, met, passed}
@@ -26,6 +26,7 @@ use Rattle.model.proofs.Fields.{IsNode, node-is}
 use Rattle.model.proofs.CallOrder.{or-right}
 use Rattle.model.proofs.Early.{early-leads}
 use Rattle.model.proofs.Members.{NodeRests, idle-rests, run-rests}
+use Rattle.model.specs.declared.Limits.{Limits}
 use Rattle.model.specs.declared.Status.{Status}
 use Rattle.model.specs.declared.Status.the-variants.{Down, Election, Reorganization, Normal}
 use Rattle.model.specs.declared.Activity.the-variants.{Asking}
@@ -71,7 +72,9 @@ not-both false b = refl
 module _ (s : State) (i : ℕ) where
   abbrev left : Reaction → State
   left r = record {
+    rule = s .rule;
     n = s .n;
+    limits = s .limits;
     nodes = set (s .nodes) (i - 1) (r .node);
     queue = s .queue ++ sent (r .outgoing);
     sent = withSent (s .sent) (r .outgoing);
@@ -85,7 +88,7 @@ module _ (s : State) (i : ℕ) where
       judged refused (accepted (left r) (r .mark))
       (ground 12 (forms (r .mark) && eqb (nodeAt s i .counter) counterEnd)
       ∷ ground 13 (isCalling (r .outgoing) && eqb (nodeAt s i .last .number) callEnd)
-      ∷ ground 14 (isSending (r .outgoing) && eqb (length (s .queue)) queueLimit)
+      ∷ ground 14 (isSending (r .outgoing) && eqb (length (s .queue)) (s .limits .messages))
       ∷ ground 17 (pairAtEnd (s .sent) (r .outgoing))
       ∷ [])
 
@@ -94,15 +97,15 @@ module _ (s : State) (i : ℕ) where
   claimed =
       judged refused (accepted (withCheck s i) Plain)
       (ground 13 (ltb 1 (s .n) && eqb (nodeAt s i .last .number) callEnd)
-      ∷ ground 14 (ltb 1 (s .n) && eqb (length (s .queue)) queueLimit)
+      ∷ ground 14 (ltb 1 (s .n) && eqb (length (s .queue)) (s .limits .messages))
       ∷ ground 17 (ltb 1 (s .n) && eqb (countAt (s .sent) i (firstOther i)) trafficEnd)
       ∷ [])
 
   -- with n = 1 nothing changes
   same : left (stays (nodeAt s i)) ≡ s
   same =
-      ap (λ (l : List Node). record { n = s .n; nodes = l; queue = s .queue ++ []; sent = s .sent; delivered = s .delivered; lost = s .lost }) (set-getD (s .nodes) (i - 1) startingNode)
-      ∙ ap (λ q. record { n = s .n; nodes = s .nodes; queue = q; sent = s .sent; delivered = s .delivered; lost = s .lost }) (append-nil (s .queue))
+      ap (λ (l : List Node). record { rule = s .rule; n = s .n; limits = s .limits; nodes = l; queue = s .queue ++ []; sent = s .sent; delivered = s .delivered; lost = s .lost }) (set-getD (s .nodes) (i - 1) startingNode)
+      ∙ ap (λ q. record { rule = s .rule; n = s .n; limits = s .limits; nodes = s .nodes; queue = q; sent = s .sent; delivered = s .delivered; lost = s .lost }) (append-nil (s .queue))
 
   ends-claimed : ends (checked (s .n) i (nodeAt s i)) ≡ claimed
   unfolding checked judged
@@ -151,7 +154,7 @@ module _ (s : State) (i : ℕ) (x : CheckReaches s i) where
       by-eighteen
       (ap (λ (t : Bool). not (isNormal (nodeAt s i .status)) || not t) (ne-eqb (nodeAt s i .coordinator) i d) ∙ or-right (not (isNormal (nodeAt s i .status))) true refl)
 
-  asking : 1 < s .n → nodeAt s i .status ≡ Normal → nodeAt s i .coordinator ≡ i → nodeAt s i .last .number < callEnd → length (s .queue) < queueLimit → MaySend s i (firstOther i)
+  asking : 1 < s .n → nodeAt s i .status ≡ Normal → nodeAt s i .coordinator ≡ i → nodeAt s i .last .number < callEnd → length (s .queue) < s .limits .messages → MaySend s i (firstOther i)
       → step s (Check i) ≡ accepted (withQuestion s i) Plain
   unfolding judged pick
   asking n a b l q m =
@@ -165,7 +168,7 @@ module _ (s : State) (i : ℕ) (x : CheckReaches s i) where
         ap isNormal a,
         eq-eqb (nodeAt s i .coordinator) i b,
         ne-eqb (nodeAt s i .last .number) callEnd (λ e. omega arith),
-        ne-eqb (length (s .queue)) queueLimit (λ e. omega arith),
+        ne-eqb (length (s .queue)) (s .limits .messages) (λ e. omega arith),
         ne-eqb (countAt (s .sent) i (firstOther i)) trafficEnd m,
       )
 
@@ -218,31 +221,31 @@ module _ (s : State) where
       let x = not-leading e q in
       (x .0, reaches (actor e) (ap (step s) (sym (x .0)) ∙ q), which (actor e) (x .1))
 
-not-early : (n : ℕ) (es : List Event) (e : Event) → length es ≤ 6 → step (run n es) e ≡ refused 18 → ⊥
-not-early n es e few q =
-    let x = not-leading (run n es) e q in
-    let y = reaches (run n es) (actor e) (ap (step (run n es)) (sym (x .0)) ∙ q) in
-    let p = node-is (run n es .n) (actor e) (y .number) in
-    true≢false (sym (early-leads n es few (actor e) (p .low) (p .high) (y .not-down) (y .idle)) ∙ x .1)
+not-early : (n : ℕ) (lim : Limits) (es : List Event) (e : Event) → length es ≤ 6 → step (run n lim es) e ≡ refused 18 → ⊥
+not-early n lim es e few q =
+    let x = not-leading (run n lim es) e q in
+    let y = reaches (run n lim es) (actor e) (ap (step (run n lim es)) (sym (x .0)) ∙ q) in
+    let p = node-is (run n lim es .n) (actor e) (y .number) in
+    true≢false (sym (early-leads n lim es few (actor e) (p .low) (p .high) (y .not-down) (y .idle)) ∙ x .1)
 
-members-only : (n : ℕ) (es : List Event) (i : ℕ) → step (run n es) (Check i) ≡ refused 18
-    → (nodeAt (run n es) i .coordinator ≡ i → ⊥) × ((nodeAt (run n es) i .status ≡ Reorganization) ⊎ (nodeAt (run n es) i .status ≡ Normal))
-members-only n es i q = by (run-rests n es i (p .low) (p .high))
+members-only : (n : ℕ) (lim : Limits) (es : List Event) (i : ℕ) → step (run n lim es) (Check i) ≡ refused 18
+    → (nodeAt (run n lim es) i .coordinator ≡ i → ⊥) × ((nodeAt (run n lim es) i .status ≡ Reorganization) ⊎ (nodeAt (run n lim es) i .status ≡ Normal))
+members-only n lim es i q = by (run-rests n lim es i (p .low) (p .high))
   where
-    y : CheckReaches (run n es) i
-    y = reaches (run n es) i q
+    y : CheckReaches (run n lim es) i
+    y = reaches (run n lim es) i q
 
-    p : IsNode (run n es .n) i
-    p = node-is (run n es .n) i (y .number)
+    p : IsNode (run n lim es .n) i
+    p = node-is (run n lim es .n) i (y .number)
 
-    idle : (nodeAt (run n es) i .status ≡ Normal) ⊎ ((nodeAt (run n es) i .status ≡ Reorganization) × (nodeAt (run n es) i .coordinator ≡ i → ⊥))
-        → (nodeAt (run n es) i .coordinator ≡ i → ⊥) × ((nodeAt (run n es) i .status ≡ Reorganization) ⊎ (nodeAt (run n es) i .status ≡ Normal))
-    idle (inl e) = (⊎-elim (λ d. absurd (d e)) (λ d. d) (which (run n es) i (not-leading (run n es) (Check i) q .1)), inr e)
+    idle : (nodeAt (run n lim es) i .status ≡ Normal) ⊎ ((nodeAt (run n lim es) i .status ≡ Reorganization) × (nodeAt (run n lim es) i .coordinator ≡ i → ⊥))
+        → (nodeAt (run n lim es) i .coordinator ≡ i → ⊥) × ((nodeAt (run n lim es) i .status ≡ Reorganization) ⊎ (nodeAt (run n lim es) i .status ≡ Normal))
+    idle (inl e) = (⊎-elim (λ d. absurd (d e)) (λ d. d) (which (run n lim es) i (not-leading (run n lim es) (Check i) q .1)), inr e)
     idle (inr e) = (e .1, inl (e .0))
 
-    by : NodeRests i (nodeAt (run n es) i) → (nodeAt (run n es) i .coordinator ≡ i → ⊥) × ((nodeAt (run n es) i .status ≡ Reorganization) ⊎ (nodeAt (run n es) i .status ≡ Normal))
+    by : NodeRests i (nodeAt (run n lim es) i) → (nodeAt (run n lim es) i .coordinator ≡ i → ⊥) × ((nodeAt (run n lim es) i .status ≡ Reorganization) ⊎ (nodeAt (run n lim es) i .status ≡ Normal))
     by (inl d) = absurd (true≢false (sym d ∙ y .not-down))
-    by (inr r) = idle (idle-rests i (nodeAt (run n es) i .status) (nodeAt (run n es) i .coordinator) (nodeAt (run n es) i .activity) (y .idle) r)
+    by (inr r) = idle (idle-rests i (nodeAt (run n lim es) i .status) (nodeAt (run n lim es) i .coordinator) (nodeAt (run n lim es) i .activity) (y .idle) r)
 
 pub check-rules : CheckRules
 check-rules = record { checks = checks; leaves = leaves; turned-away = turned-away; passes = passes; asks = asking; one = one; eighteen = eighteen; members-only = members-only; not-early = not-early }

@@ -18,12 +18,13 @@ use Rattle.model.specs.Procedures.{reaction, stays, answers, recovers, i
 use Rattle.model.specs.React.{leads, checked, timedOut, ticked, expired, resumed, onAreYouCoordinator, onAreYouThere, onInvitation, onAccept, onReady, onReply, received, react}
 use Rattle.model.specs.Range.{isNode}
 use Rattle.model.specs.State.{State, startingNode, start, nodeAt, goes, waits, oldest}
-use Rattle.model.specs.Step.{actor, reactionTo, remaining, sent, effect, Result, kept, after, runFrom, run}
+use Rattle.model.specs.Step.{runFrom, actor, reactionTo, remaining, sent, effect, Result, kept, after, run}
 use Rattle.model.proofs.Judged.{Clear, by-step}
 use Rattle.model.proofs.Local.{both-left, both-right}
 use Rattle.model.proofs.Numbers.{actor-in}
 use Rattle.model.proofs.Fields.{otherwise, other-is, oldest-goes, other-record, each-record}
 use Rattle.model.proofs.Whole.{All, all-map, all-append, all-without}
+use Rattle.model.specs.declared.Limits.{Limits}
 use Rattle.model.specs.declared.Status.the-variants.{Reorganization, Normal}
 use Rattle.model.specs.declared.Activity.{Activity}
 use Rattle.model.specs.declared.Activity.the-variants.{Idle, Asking, Waiting, Inviting, Collecting, Handing, Contacting, Forwarding, Accepting}
@@ -440,8 +441,8 @@ run-after k s [] h x = subst (λ (j : ℕ). TableAfter j s) (omega arith) x
 run-after k s (e ∷ es) h x =
     subst (λ (j : ℕ). TableAfter j (runFrom (after s e) es)) (omega arith) (run-after (k + 1) (after s e) es (omega arith) (after-more k s e (omega arith) x))
 
-start-after : (n : ℕ) → TableAfter 0 (start n)
-start-after n =
+start-after : (n : ℕ) (lim : Limits) → TableAfter 0 (start n lim)
+start-after n lim =
     record {
       nodes = λ i l h. inl (down i l h);
       messages = tt;
@@ -449,12 +450,12 @@ start-after n =
       crossing = λ j l h d. tt;
     }
   where
-    down : (i : ℕ) → 1 ≤ i → i ≤ n → isDown (nodeAt (start n) i .status) ≡ true
+    down : (i : ℕ) → 1 ≤ i → i ≤ n → isDown (nodeAt (start n lim) i .status) ≡ true
     down i l h = ap (λ (c : Node). isDown (c .status)) (getD-replicate n (i - 1) startingNode startingNode (omega arith))
 
 -- after at most six events whoever is idle, and not Down, is Normal and its own coordinator
-pub early-leads : (n : ℕ) (es : List Event) → length es ≤ 6 → (i : ℕ) → 1 ≤ i → i ≤ run n es .n → isDown (nodeAt (run n es) i .status) ≡ false → isIdle (nodeAt (run n es) i .activity) ≡ true
-    → leads i (nodeAt (run n es) i) ≡ true
-early-leads n es few i l h d q =
-    let x = run-after 0 (start n) es (omega (arith, few)) (start-after n) in
-    idle-leads _ i (nodeAt (run n es) i) (nodeAt (run n es) i .activity) q (running _ i (nodeAt (run n es) i) (x .nodes i l h) d) .0
+pub early-leads : (n : ℕ) (lim : Limits) (es : List Event) → length es ≤ 6 → (i : ℕ) → 1 ≤ i → i ≤ run n lim es .n → isDown (nodeAt (run n lim es) i .status) ≡ false → isIdle (nodeAt (run n lim es) i .activity) ≡ true
+    → leads i (nodeAt (run n lim es) i) ≡ true
+early-leads n lim es few i l h d q =
+    let x = run-after 0 (start n lim) es (omega (arith, few)) (start-after n lim) in
+    idle-leads _ i (nodeAt (run n lim es) i) (nodeAt (run n lim es) i .activity) q (running _ i (nodeAt (run n lim es) i) (x .nodes i l h) d) .0

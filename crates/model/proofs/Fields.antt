@@ -1,6 +1,7 @@
 -- What a table in range gives: facts of each node's record, of each waiting message, and of the sizes.
 use Prim.Native.Nat.{ℕ, zero, suc, _+_, _-_, _<_, _≤_}
 use native.Mathlib.Omega.{arith}
+use native.Mathlib.Nat.{le-trans}
 use mathlib.Core.Bool.{Bool, true, false, not, _&&_, _||_, true≢false}
 use mathlib.Core.Logic.{_⊎_, inl, inr, ⊎-elim}
 use mathlib.Core.Path.{_≡_, refl, sym, _∙_, ap, subst}
@@ -11,10 +12,10 @@ use lib.Seq.{getD-set-same, getD-set-other}
 use borrow.Author.Tests.{eqb-true, eqb-false, leb-true, not-true}
 use Rattle.node_set.specs.NodeSet.{has, within}
 use Rattle.model.specs.Pick.{by-test}
-use Rattle.model.specs.Limits.{nodeLimit, queueLimit, counterEnd, callEnd, trafficEnd, tickEnd, taskLow, taskEnd}
+use Rattle.model.specs.Limits.{tower, counterEnd, callEnd, trafficEnd, tickEnd, taskLow, taskEnd}
 use Rattle.model.specs.Counts.{countPlaces, pairPlace, senderAt, receiverAt, countAt}
 use Rattle.model.specs.Node.{isDown, isIdle, ownerOf, counterOf}
-use Rattle.model.specs.Range.{isNode, isOther, isSetOfOthers, isGroup, isGivenTask, isCall, isGroupOrNone, isLed, carriesGroup, activityInRange, nodeInRange, messageInRange, isPair, countInRange}
+use Rattle.model.specs.Range.{pairRule, isWithinTower, isNode, isOther, isSetOfOthers, isGroup, isGivenTask, isCall, isGroupOrNone, isLed, carriesGroup, activityInRange, nodeInRange, messageInRange, isPair, countInRange}
 use Rattle.model.specs.State.{State, startingNode, nodeAt, goes, waits, oldest, howMany, every, upTo, addsUp, countsInRange, trafficInRange, inRange}
 use Rattle.model.specs.Step.{actor, reactionTo, effect}
 use Rattle.model.proofs.Local.{both-left, both-right}
@@ -267,17 +268,28 @@ upTo-at (suc k) f j e l h = at-last (eqb j (suc k)) refl (upTo-at k f j (both-le
 -- the tests of a table after the first
 abbrev tableTests : State → List Bool
 tableTests s =
-    leb (s .n) nodeLimit
+    leb (s .n) (s .limits .nodes)
     ∷ eqb (length (s .nodes)) (s .n)
-    ∷ leb (length (s .queue)) queueLimit
+    ∷ leb (length (s .queue)) (s .limits .messages)
     ∷ every (nodeInRange (s .n)) 1 (s .nodes)
     ∷ every (λ k. messageInRange (s .n)) 1 (s .queue)
     ∷ trafficInRange s
     ∷ []
 
+-- the limits (T-08)
+pub in-range-within : (s : State) → inRange s ≡ true → (s .limits .nodes ≤ 16) × (s .limits .messages ≤ 64)
+unfolding inRange
+in-range-within s e =
+    let w = both-left (isWithinTower (s .limits)) _ (both-right (pairRule (s .rule) (s .limits)) _ e) in
+    (leb-true _ _ (both-left (leb (s .limits .nodes) (tower .nodes)) _ w), leb-true _ _ (both-right (leb (s .limits .nodes) (tower .nodes)) _ w))
+
+pub in-range-pair : (s : State) → inRange s ≡ true → pairRule (s .rule) (s .limits) ≡ true
+unfolding inRange
+in-range-pair s e = both-left (pairRule (s .rule) (s .limits)) _ e
+
 table-parts : (s : State) → inRange s ≡ true → Hold (leb 1 (s .n) ∷ tableTests s)
 unfolding inRange
-table-parts s e = parts (leb 1 (s .n)) (tableTests s) e
+table-parts s e = parts (leb 1 (s .n)) (tableTests s) (both-right (isWithinTower (s .limits)) _ (both-right (pairRule (s .rule) (s .limits)) _ e))
 
 pub in-range-nodes : (s : State) → inRange s ≡ true → every (nodeInRange (s .n)) 1 (s .nodes) ≡ true
 in-range-nodes s e = table-parts s e .1 .1 .1 .1 .0
@@ -285,10 +297,16 @@ in-range-nodes s e = table-parts s e .1 .1 .1 .1 .0
 pub in-range-queue : (s : State) → inRange s ≡ true → every (λ k. messageInRange (s .n)) 1 (s .queue) ≡ true
 in-range-queue s e = table-parts s e .1 .1 .1 .1 .1 .0
 
+-- n and the waiting messages by the table's own limits
+pub in-range-own : (s : State) → inRange s ≡ true → (s .n ≤ s .limits .nodes) × (length (s .queue) ≤ s .limits .messages)
+in-range-own s e = let r = table-parts s e in (leb-true _ _ (r .1 .0), leb-true _ _ (r .1 .1 .1 .0))
+
 pub in-range-size : (s : State) → inRange s ≡ true → (1 ≤ s .n) × (s .n ≤ 16) × (length (s .nodes) ≡ s .n) × (length (s .queue) ≤ 64)
 in-range-size s e =
     let r = table-parts s e in
-    (leb-true 1 (s .n) (r .0), leb-true (s .n) 16 (r .1 .0), eqb-true _ _ (r .1 .1 .0), leb-true _ 64 (r .1 .1 .1 .0))
+    let o = in-range-own s e in
+    let w = in-range-within s e in
+    (leb-true 1 (s .n) (r .0), le-trans (o .0) (w .0), eqb-true _ _ (r .1 .1 .0), le-trans (o .1) (w .1))
 
 in-range-traffic : (s : State) → inRange s ≡ true → trafficInRange s ≡ true
 in-range-traffic s e = table-parts s e .1 .1 .1 .1 .1 .1 .0

@@ -1,6 +1,5 @@
 -- Demand 3 by the list itself: the event of the list that fixed a task, and that there is one only.
 use Prim.Native.Nat.{ℕ, _+_, _≤_}
-use native.Mathlib.Omega.{arith}
 use mathlib.Core.Path.{_≡_, refl, sym, _∙_, ap, subst}
 use mathlib.Core.Logic.{_⊎_, inl, inr}
 use mathlib.Core.List.{List, [], _∷_, _++_, append-nil, append-assoc}
@@ -8,14 +7,16 @@ use borrow.Author.Tests.{eqb-true}
 use Rattle.model.specs.Pick.{by-test}
 use Rattle.model.specs.Node.{groupOf}
 use Rattle.model.specs.React.{react}
-use Rattle.model.specs.State.{State, start, nodeAt}
-use Rattle.model.specs.Step.{actor, reactionTo, forms, Result, refused, accepted, step, run}
-use Rattle.model.specs.History.{Entry, NotFormed, NoTask, Task, History, blank, updated, newest, coming, marked, given, noted, historyFrom, history}
-use Rattle.model.specs.Claims.{RunFixes, Recovering, Finishing, Fixes, TaskFromList}
+use Rattle.model.specs.Range.{PairRule}
+use Rattle.model.specs.State.{State, startBy, nodeAt}
+use Rattle.model.specs.Step.{actor, reactionTo, Result, refused, accepted, step, runBy}
+use Rattle.model.specs.History.{Entry, NotFormed, NoTask, Task, History, blank, updated, newest, coming, marked, given, noted, historyFrom, historyBy}
+use Rattle.model.specs.Claims.{Recovering, Finishing, Fixes, TaskFromList}
 use Rattle.model.proofs.Judged.{accepted-is}
 use Rattle.model.proofs.Invariant.{updated-same, task-is, no-task≢task, not-formed≢task}
 use Rattle.model.proofs.Origin.{finish-mark}
 use Rattle.model.proofs.Whole.{history-append, run-fixes}
+use Rattle.model.specs.declared.Limits.{Limits}
 use Rattle.model.specs.declared.Status.the-variants.{Normal}
 use Rattle.model.specs.declared.TaskNo.{TaskNo}
 use Rattle.model.specs.declared.Mark.{Mark}
@@ -29,8 +30,8 @@ unfolding historyFrom
 history-one s h e = refl
 
 -- the history of a list with one event more
-history-next : (n : ℕ) (es : List Event) (e : Event) → history n (es ++ (e ∷ [])) ≡ noted (history n es) e (step (run n es) e)
-history-next n es e = history-append blank (start n) es (e ∷ []) ∙ history-one (run n es) (history n es) e
+history-next : (rule : PairRule) (n : ℕ) (lim : Limits) (es : List Event) (e : Event) → historyBy rule n lim (es ++ (e ∷ [])) ≡ noted (historyBy rule n lim es) e (step (runBy rule n lim es) e)
+history-next rule n lim es e = history-append blank (startBy rule n lim) es (e ∷ []) ∙ history-one (runBy rule n lim es) (historyBy rule n lim es) e
 
 given-count : (h : History) (e : Event) → given h e .count ≡ h .count
 given-count h (Crash i) = refl
@@ -131,101 +132,101 @@ order (x ∷ xs) (y ∷ ys) cs ds a b q = behind (order xs ys cs ds a b (tail-is
     behind (sooner zs p) = sooner zs (cc)
     behind (later zs p) = later zs (cc)
 
-module _ (n : ℕ) (small : n ≤ 16) where
+module _ (rule : PairRule) (n : ℕ) (lim : Limits) (small : n ≤ 16) where
   -- ── a task of the history was fixed by an event of the list ──
-  fixed-after : (es fs : List Event) (g t : ℕ) → history n (es ++ fs) .entry g ≡ Task t → (history n es .entry g ≡ Task t) ⊎ Fixes n (es ++ fs) g t
+  fixed-after : (es fs : List Event) (g t : ℕ) → historyBy rule n lim (es ++ fs) .entry g ≡ Task t → (historyBy rule n lim es .entry g ≡ Task t) ⊎ Fixes rule n lim (es ++ fs) g t
   fixed-after es [] g t q = inl (rw append-nil at q)
   fixed-after es (e ∷ fs) g t q =
       let z : (es ++ (e ∷ [])) ++ fs ≡ es ++ (e ∷ fs) = append-assoc es (e ∷ []) fs in
-      by-rest z (fixed-after (es ++ (e ∷ [])) fs g t (subst (λ (l : List Event). history n l .entry g ≡ Task t) (sym z) q))
+      by-rest z (fixed-after (es ++ (e ∷ [])) fs g t (subst (λ (v : List Event). historyBy rule n lim v .entry g ≡ Task t) (sym z) q))
     where
-      here : Recovering n es e g t ⊎ Finishing n es e g t → Fixes n (es ++ (e ∷ fs)) g t
+      here : Recovering rule n lim es e g t ⊎ Finishing rule n lim es e g t → Fixes rule n lim (es ++ (e ∷ fs)) g t
       here x = record { before = es; event = e; behind = fs; whole = refl; how = x }
 
-      by-event : (u : State) (k : Mark) → step (run n es) e ≡ accepted u k
-          → (history n es .entry g ≡ Task t) ⊎ (Finished (history n es) e g t ⊎ Recovered (history n es) e k g t)
-          → (history n es .entry g ≡ Task t) ⊎ Fixes n (es ++ (e ∷ fs)) g t
+      by-event : (u : State) (k : Mark) → step (runBy rule n lim es) e ≡ accepted u k
+          → (historyBy rule n lim es .entry g ≡ Task t) ⊎ (Finished (historyBy rule n lim es) e g t ⊎ Recovered (historyBy rule n lim es) e k g t)
+          → (historyBy rule n lim es .entry g ≡ Task t) ⊎ Fixes rule n lim (es ++ (e ∷ fs)) g t
       by-event u k i (inl p) = inl p
       by-event u k i (inr (inl f)) =
-          let j : step (run n es) (Finish (f .by) (f .given-task)) ≡ accepted u k = ap (step (run n es)) (sym (f .event)) ∙ i in
+          let j : step (runBy rule n lim es) (Finish (f .by) (f .given-task)) ≡ accepted u k = ap (step (runBy rule n lim es)) (sym (f .event)) ∙ i in
           inr (here (inr (record {
             node = f .by;
             task = f .given-task;
             table = u;
             event = f .event;
-            finishes = i ∙ ap (accepted u) (finish-plain (run n es) (f .by) (f .given-task) u k j);
-            group = run-fixes n small .own-group es (f .by) (f .given-task) u k j ∙ f .group;
+            finishes = i ∙ ap (accepted u) (finish-plain (runBy rule n lim es) (f .by) (f .given-task) u k j);
+            group = run-fixes rule n lim small .own-group es (f .by) (f .given-task) u k j ∙ f .group;
             number = f .task;
           })))
       by-event u k i (inr (inr r)) =
-          let j : step (run n es) e ≡ accepted u Recovers = i ∙ ap (accepted u) (r .mark) in
-          inr (here (inl (record { table = u; recovers = j; group = run-fixes n small .numbered es e u Recovers j refl ∙ r .group; solo = r .task })))
+          let j : step (runBy rule n lim es) e ≡ accepted u Recovers = i ∙ ap (accepted u) (r .mark) in
+          inr (here (inl (record { table = u; recovers = j; group = run-fixes rule n lim small .numbered es e u Recovers j refl ∙ r .group; solo = r .task })))
 
-      by-result : (r : Result) → step (run n es) e ≡ r → noted (history n es) e r .entry g ≡ Task t
-          → (history n es .entry g ≡ Task t) ⊎ Fixes n (es ++ (e ∷ fs)) g t
+      by-result : (r : Result) → step (runBy rule n lim es) e ≡ r → noted (historyBy rule n lim es) e r .entry g ≡ Task t
+          → (historyBy rule n lim es .entry g ≡ Task t) ⊎ Fixes rule n lim (es ++ (e ∷ fs)) g t
       by-result (refused x) i p = inl p
-      by-result (accepted u k) i p = by-event u k i (task-noted (history n es) e k g t p)
+      by-result (accepted u k) i p = by-event u k i (task-noted (historyBy rule n lim es) e k g t p)
 
-      by-rest : (es ++ (e ∷ [])) ++ fs ≡ es ++ (e ∷ fs) → (history n (es ++ (e ∷ [])) .entry g ≡ Task t) ⊎ Fixes n ((es ++ (e ∷ [])) ++ fs) g t
-          → (history n es .entry g ≡ Task t) ⊎ Fixes n (es ++ (e ∷ fs)) g t
-      by-rest z (inl p) = by-result (step (run n es) e) refl (subst (λ (d : History). d .entry g ≡ Task t) (history-next n es e) p)
-      by-rest z (inr p) = inr (subst (λ (l : List Event). Fixes n l g t) z p)
+      by-rest : (es ++ (e ∷ [])) ++ fs ≡ es ++ (e ∷ fs) → (historyBy rule n lim (es ++ (e ∷ [])) .entry g ≡ Task t) ⊎ Fixes rule n lim ((es ++ (e ∷ [])) ++ fs) g t
+          → (historyBy rule n lim es .entry g ≡ Task t) ⊎ Fixes rule n lim (es ++ (e ∷ fs)) g t
+      by-rest z (inl p) = by-result (step (runBy rule n lim es) e) refl (subst (λ (d : History). d .entry g ≡ Task t) (history-next rule n lim es e) p)
+      by-rest z (inr p) = inr (subst (λ (v : List Event). Fixes rule n lim v g t) z p)
 
-  blank-entry : (g : ℕ) → history n [] .entry g ≡ NotFormed
+  blank-entry : (g : ℕ) → historyBy rule n lim [] .entry g ≡ NotFormed
   unfolding historyFrom
   blank-entry g = refl
 
-  entry-fixed : (es : List Event) (g t : ℕ) → history n es .entry g ≡ Task t → Fixes n es g t
+  entry-fixed : (es : List Event) (g t : ℕ) → historyBy rule n lim es .entry g ≡ Task t → Fixes rule n lim es g t
   entry-fixed es g t q = by (fixed-after [] es g t q)
     where
-      by : (history n [] .entry g ≡ Task t) ⊎ Fixes n es g t → Fixes n es g t
+      by : (historyBy rule n lim [] .entry g ≡ Task t) ⊎ Fixes rule n lim es g t → Fixes rule n lim es g t
       by (inl p) = absurd (not-formed≢task _ t (blank-entry g) p)
       by (inr p) = p
 
-  task-from : (es : List Event) (i : ℕ) → 1 ≤ i → i ≤ n → nodeAt (run n es) i .status ≡ Normal
-      → Fixes n es (nodeAt (run n es) i .group .number) (nodeAt (run n es) i .task .number)
-  task-from es i l u q = entry-fixed es _ _ (rw append-nil at (run-fixes n small .fixed-task es [] i l u q))
+  task-from : (es : List Event) (i : ℕ) → 1 ≤ i → i ≤ n → nodeAt (runBy rule n lim es) i .status ≡ Normal
+      → Fixes rule n lim es (nodeAt (runBy rule n lim es) i .group .number) (nodeAt (runBy rule n lim es) i .task .number)
+  task-from es i l u q = entry-fixed es _ _ (rw append-nil at (run-fixes rule n lim small .fixed-task es [] i l u q))
 
   -- ── before that event the group has no task, and from it on it has this one ──
   module _ (es : List Event) (e : Event) (g t : ℕ) where
-    no-task-yet : Recovering n es e g t ⊎ Finishing n es e g t → (x : ℕ) → history n es .entry g ≡ Task x → ⊥
+    no-task-yet : Recovering rule n lim es e g t ⊎ Finishing rule n lim es e g t → (x : ℕ) → historyBy rule n lim es .entry g ≡ Task x → ⊥
     no-task-yet (inl r) x q =
-        let z = run-fixes n small .formed-once es e (r .table) Recovers (r .recovers) refl in
-        let c : coming (history n es) (actor e) ≡ g = sym (run-fixes n small .numbered es e (r .table) Recovers (r .recovers) refl) ∙ r .group in
-        not-formed≢task _ x z (ap (history n es .entry) c ∙ q)
+        let z = run-fixes rule n lim small .formed-once es e (r .table) Recovers (r .recovers) refl in
+        let c : coming (historyBy rule n lim es) (actor e) ≡ g = sym (run-fixes rule n lim small .numbered es e (r .table) Recovers (r .recovers) refl) ∙ r .group in
+        not-formed≢task _ x z (ap (historyBy rule n lim es .entry) c ∙ q)
     no-task-yet (inr f) x q =
-        let j = ap (step (run n es)) (sym (f .event)) ∙ f .finishes in
-        let z = run-fixes n small .given-once es (f .node) (f .task) (f .table) Plain j in
-        let c : newest (history n es) (f .node) ≡ g = sym (run-fixes n small .own-group es (f .node) (f .task) (f .table) Plain j) ∙ f .group in
-        no-task≢task _ x z (ap (history n es .entry) c ∙ q)
+        let j = ap (step (runBy rule n lim es)) (sym (f .event)) ∙ f .finishes in
+        let z = run-fixes rule n lim small .given-once es (f .node) (f .task) (f .table) Plain j in
+        let c : newest (historyBy rule n lim es) (f .node) ≡ g = sym (run-fixes rule n lim small .own-group es (f .node) (f .task) (f .table) Plain j) ∙ f .group in
+        no-task≢task _ x z (ap (historyBy rule n lim es .entry) c ∙ q)
 
     -- the history with that event
-    has-task : Recovering n es e g t ⊎ Finishing n es e g t → history n (es ++ (e ∷ [])) .entry g ≡ Task t
+    has-task : Recovering rule n lim es e g t ⊎ Finishing rule n lim es e g t → historyBy rule n lim (es ++ (e ∷ [])) .entry g ≡ Task t
     has-task (inl r) =
-        let c : g ≡ coming (given (history n es) e) (actor e) = sym (coming-given (history n es) e (actor e) ∙ sym (run-fixes n small .numbered es e (r .table) Recovers (r .recovers) refl) ∙ r .group) in
-        ap (λ (d : History). d .entry g) (history-next n es e ∙ ap (noted (history n es) e) (r .recovers))
-        ∙ ap (marked (given (history n es) e) (actor e) Recovers .entry) c
-        ∙ updated-same (given (history n es) e .entry) (coming (given (history n es) e) (actor e)) (Task (actor e))
+        let c : g ≡ coming (given (historyBy rule n lim es) e) (actor e) = sym (coming-given (historyBy rule n lim es) e (actor e) ∙ sym (run-fixes rule n lim small .numbered es e (r .table) Recovers (r .recovers) refl) ∙ r .group) in
+        ap (λ (d : History). d .entry g) (history-next rule n lim es e ∙ ap (noted (historyBy rule n lim es) e) (r .recovers))
+        ∙ ap (marked (given (historyBy rule n lim es) e) (actor e) Recovers .entry) c
+        ∙ updated-same (given (historyBy rule n lim es) e .entry) (coming (given (historyBy rule n lim es) e) (actor e)) (Task (actor e))
         ∙ ap Task (r .solo)
     has-task (inr f) =
-        let j = ap (step (run n es)) (sym (f .event)) ∙ f .finishes in
-        let c : g ≡ newest (history n es) (f .node) = sym (f .group) ∙ run-fixes n small .own-group es (f .node) (f .task) (f .table) Plain j in
-        ap (λ (d : History). d .entry g) (history-next n es e ∙ ap (noted (history n es) e) (f .finishes))
-        ∙ ap (λ (v : Event). given (history n es) v .entry g) (f .event)
-        ∙ ap (given (history n es) (Finish (f .node) (f .task)) .entry) c
-        ∙ updated-same (history n es .entry) (newest (history n es) (f .node)) (Task (f .task .number))
+        let j = ap (step (runBy rule n lim es)) (sym (f .event)) ∙ f .finishes in
+        let c : g ≡ newest (historyBy rule n lim es) (f .node) = sym (f .group) ∙ run-fixes rule n lim small .own-group es (f .node) (f .task) (f .table) Plain j in
+        ap (λ (d : History). d .entry g) (history-next rule n lim es e ∙ ap (noted (historyBy rule n lim es) e) (f .finishes))
+        ∙ ap (λ (v : Event). given (historyBy rule n lim es) v .entry g) (f .event)
+        ∙ ap (given (historyBy rule n lim es) (Finish (f .node) (f .task)) .entry) c
+        ∙ updated-same (historyBy rule n lim es .entry) (newest (historyBy rule n lim es) (f .node)) (Task (f .task .number))
         ∙ ap Task (f .number)
 
-    still-has : (fs : List Event) → Recovering n es e g t ⊎ Finishing n es e g t → history n (es ++ (e ∷ fs)) .entry g ≡ Task t
+    still-has : (fs : List Event) → Recovering rule n lim es e g t ⊎ Finishing rule n lim es e g t → historyBy rule n lim (es ++ (e ∷ fs)) .entry g ≡ Task t
     still-has fs x =
-        subst (λ (l : List Event). history n l .entry g ≡ Task t) (append-assoc es (e ∷ []) fs) (run-fixes n small .lasts (es ++ (e ∷ [])) fs g t (has-task x))
+        subst (λ (v : List Event). historyBy rule n lim v .entry g ≡ Task t) (append-assoc es (e ∷ []) fs) (run-fixes rule n lim small .lasts (es ++ (e ∷ [])) fs g t (has-task x))
 
-  fixed-entry : (es : List Event) (g t : ℕ) → Fixes n es g t → history n es .entry g ≡ Task t
+  fixed-entry : (es : List Event) (g t : ℕ) → Fixes rule n lim es g t → historyBy rule n lim es .entry g ≡ Task t
   fixed-entry es g t a =
-      subst (λ (l : List Event). history n l .entry g ≡ Task t) (sym (a .whole)) (still-has (a .before) (a .event) g t (a .behind) (a .how))
+      subst (λ (v : List Event). historyBy rule n lim v .entry g ≡ Task t) (sym (a .whole)) (still-has (a .before) (a .event) g t (a .behind) (a .how))
 
   -- ── so there is one such event only ──
-  module _ (es : List Event) (g t u : ℕ) (a : Fixes n es g t) (b : Fixes n es g u) where
+  module _ (es : List Event) (g t u : ℕ) (a : Fixes rule n lim es g t) (b : Fixes rule n lim es g u) where
     places : Order (a .before) (b .before) (a .event) (b .event)
     places = order (a .before) (b .before) (a .behind) (b .behind) (a .event) (b .event) (sym (a .whole) ∙ b .whole)
 
@@ -235,13 +236,14 @@ module _ (n : ℕ) (small : n ≤ 16) where
         by : Order (a .before) (b .before) (a .event) (b .event) → a .before ≡ b .before
         by (same p e) = p
         by (sooner zs p) =
-            absurd (no-task-yet (b .before) (b .event) g u (b .how) t (subst (λ (l : List Event). history n l .entry g ≡ Task t) (sym p) (still-has (a .before) (a .event) g t zs (a .how))))
+            absurd (no-task-yet (b .before) (b .event) g u (b .how) t (subst (λ (v : List Event). historyBy rule n lim v .entry g ≡ Task t) (sym p) (still-has (a .before) (a .event) g t zs (a .how))))
         by (later zs p) =
-            absurd (no-task-yet (a .before) (a .event) g t (a .how) u (subst (λ (l : List Event). history n l .entry g ≡ Task u) (sym p) (still-has (b .before) (b .event) g u zs (b .how))))
+            absurd (no-task-yet (a .before) (a .event) g t (a .how) u (subst (λ (v : List Event). historyBy rule n lim v .entry g ≡ Task u) (sym p) (still-has (b .before) (b .event) g u zs (b .how))))
 
     same-task : t ≡ u
     same-task =
         task-is t u (sym (fixed-entry es g t a) ∙ fixed-entry es g u b)
 
-pub task-from-list : (n : ℕ) → n ≤ 16 → TaskFromList n
-task-from-list n small = record { task = task-from n small; entry-fixed = entry-fixed n small; fixed-entry = fixed-entry n small; one = one n small; same = same-task n small }
+pub task-from-list : (rule : PairRule) (n : ℕ) (lim : Limits) → n ≤ 16 → TaskFromList rule n lim
+task-from-list rule n lim small =
+    record { task = task-from rule n lim small; entry-fixed = entry-fixed rule n lim small; fixed-entry = fixed-entry rule n lim small; one = one rule n lim small; same = same-task rule n lim small }

@@ -1,31 +1,32 @@
 -- Every table of a run is in range.
 use Prim.Native.Nat.{ℕ, zero, suc, _+_, _-_, _<_, _≤_}
 use native.Mathlib.Omega.{arith}
-use native.Mathlib.Nat.{le-refl}
-use mathlib.Core.Bool.{Bool, true, false, _&&_, _||_, true≢false}
+use native.Mathlib.Nat.{le-refl, le-trans}
+use mathlib.Core.Bool.{Bool, true, false, _&&_, true≢false}
 use mathlib.Core.Logic.{inl}
 use mathlib.Core.Path.{_≡_, refl, sym, _∙_, ap, subst}
 use mathlib.Core.List.{List, [], _∷_, _++_}
-use lib.Dec.{eqb}
+use lib.Dec.{eqb, leb}
 use lib.ListN.{length, set, replicate, length-append, length-set, length-replicate}
-use borrow.Author.Tests.{eqb-true, eqb-false, eq-eqb, le-leb, not-true, not-false}
+use borrow.Author.Tests.{eqb-true, eqb-false, eq-eqb, le-leb, leb-true, not-true, not-false}
 use Rattle.node_set.proofs.Laws.{empty-within, empty-lacks}
 use Rattle.model.specs.Pick.{pick, by-test}
-use Rattle.model.specs.Limits.{nodeLimit, queueLimit, counterEnd, callEnd, trafficEnd}
-use Rattle.model.specs.Counts.{pairPlace, senderAt, receiverAt, countAt, oneMore, noCounts}
-use Rattle.model.specs.Range.{isNode, isPair, nodeInRange, messageInRange, countInRange}
+use Rattle.model.specs.Limits.{counterEnd, callEnd, trafficEnd}
+use Rattle.model.specs.Counts.{pairPlace, countAt, oneMore, noCounts}
+use Rattle.model.specs.Range.{PairRule, isNode, isPair, nodeInRange, messageInRange, countInRange}
 use Rattle.model.specs.React.{react}
-use Rattle.model.specs.State.{State, startingNode, start, nodeAt, waits, goes, oldest, withoutOldest, howMany, every, upTo, addsUp, countsInRange, trafficInRange, inRange}
-use Rattle.model.specs.Step.{actor, reactionTo, remaining, sent, withSent, withDelivered, withLost, effect, wrongNumber, wrongTask, wrongStatus, noneWaits, isSending, pairAtEnd, grounds, refused, step, kept, after, runFrom, run}
-use Rattle.model.specs.Claims.{StaysInRange}
+use Rattle.model.specs.State.{State, startingNode, startBy, nodeAt, waits, goes, oldest, withoutOldest, howMany, every, upTo, addsUp, countsInRange, trafficInRange, inRange}
+use Rattle.model.specs.Step.{actor, reactionTo, remaining, sent, withSent, withDelivered, withLost, effect, wrongNumber, wrongTask, wrongStatus, noneWaits, isSending, pairAtEnd, grounds, refused, step, kept, after, runFrom, runBy}
+use Rattle.model.specs.Claims.{MayStart, StaysInRange}
 use Rattle.model.specs.Traffic.{sends, delivers, loses}
 use Rattle.model.proofs.Judged.{Clear, NotAtEnd, by-step, accepted-is, met, passed}
 use Rattle.model.proofs.Local.{both-left, both-right}
 use Rattle.model.proofs.Locality.{taken-out}
 use Rattle.model.proofs.Numbers.{actor-in}
-use Rattle.model.proofs.Fields.{node-is, other-is, given-is, NodeFacts, node-facts, message-facts, Counting, count-bounded, in-range-nodes, in-range-queue, in-range-size, in-range-places, in-range-each, in-range-sum, in-range-node, in-range-oldest, oldest-goes}
+use Rattle.model.proofs.Fields.{node-is, other-is, given-is, NodeFacts, node-facts, message-facts, Counting, count-bounded, in-range-within, in-range-pair, in-range-own, in-range-nodes, in-range-queue, in-range-size, in-range-places, in-range-each, in-range-sum, in-range-node, in-range-oldest, oldest-goes}
 use Rattle.model.proofs.Counts.{none-counted, many-append, upTo-all, is-count, pair-counting, sent-more, sent-room, sent-length, delivered-more, delivered-length, lost-more, lost-length, out-counted}
 use Rattle.model.proofs.Range.{both, is-node, Numbered, OutgoingIn, ReactionIn, Room, InputIn, react-in}
+use Rattle.model.specs.declared.Limits.{Limits}
 use Rattle.model.specs.declared.Message.{Message}
 use Rattle.model.specs.declared.Outgoing.{Outgoing}
 use Rattle.model.specs.declared.Outgoing.the-variants.{Nothing, Send}
@@ -75,9 +76,9 @@ without-length a b q w =
     let x = taken-out a b q w in
     omega (arith, ap length (x .whole), ap length (x .left), length-append (x .before) (x .taken ∷ (x .behind)), length-append (x .before) (x .behind))
 
-sent-fits : (q : List Message) (o : Outgoing) → length q ≤ queueLimit → isSending o && eqb (length q) queueLimit ≡ false → length (q ++ sent o) ≤ queueLimit
-sent-fits q Nothing h e = simp length-append (omega arith)
-sent-fits q (Send m) h e = let d = eqb-false (length q) queueLimit e in simp length-append (omega arith)
+sent-fits : (limit : ℕ) (q : List Message) (o : Outgoing) → length q ≤ limit → isSending o && eqb (length q) limit ≡ false → length (q ++ sent o) ≤ limit
+sent-fits limit q Nothing h e = simp length-append (omega arith)
+sent-fits limit q (Send m) h e = let d = eqb-false (length q) limit e in simp length-append (omega arith)
 
 sent-in : (n : ℕ) (o : Outgoing) → OutgoingIn n o → every (λ _. messageInRange n) 1 (sent o) ≡ true
 unfolding every
@@ -236,10 +237,13 @@ effect-in : (s : State) (e : Event) → Clear s e → NotAtEnd s e → inRange (
 unfolding effect inRange trafficInRange countsInRange
 effect-in s e c d =
     rw (
+      in-range-pair s (c .in-range),
+      le-leb (s .limits .nodes) 16 (within .0),
+      le-leb (s .limits .messages) 64 (within .1),
       le-leb 1 (s .n) (size .0),
-      le-leb (s .n) nodeLimit (size .1),
+      le-leb (s .n) (s .limits .nodes) (own .0),
       eq-eqb _ (s .n) (length-set (s .nodes) (actor e - 1) (reactionTo s e .node) ∙ size .2),
-      le-leb _ queueLimit (sent-fits (remaining s e) (reactionTo s e .outgoing) (omega (arith, x .fewer, size .3)) (c .room)),
+      le-leb _ (s .limits .messages) (sent-fits (s .limits .messages) (remaining s e) (reactionTo s e .outgoing) (omega (arith, x .fewer, own .1)) (c .room)),
       every-set (nodeInRange (s .n)) 1 (s .nodes) (actor e - 1) (reactionTo s e .node) (in-range-nodes s (c .in-range)) stored,
       every-append (messageInRange (s .n)) 1 (remaining s e) (sent (reactionTo s e .outgoing)) (x .stays) (sent-in (s .n) (reactionTo s e .outgoing) (x .reaction .outgoing)),
       eq-eqb _ 256 (sent-length (s .sent) (reactionTo s e .outgoing) ∙ places .0),
@@ -257,6 +261,12 @@ effect-in s e c d =
 
     size : (1 ≤ s .n) × (s .n ≤ 16) × (length (s .nodes) ≡ s .n) × (length (s .queue) ≤ 64)
     size = in-range-size s (c .in-range)
+
+    within : (s .limits .nodes ≤ 16) × (s .limits .messages ≤ 64)
+    within = in-range-within s (c .in-range)
+
+    own : (s .n ≤ s .limits .nodes) × (length (s .queue) ≤ s .limits .messages)
+    own = in-range-own s (c .in-range)
 
     places : (length (s .sent) ≡ 256) × (length (s .delivered) ≡ 256) × (length (s .lost) ≡ 256)
     places = in-range-places s (c .in-range)
@@ -286,9 +296,9 @@ delivery-never-full s a b q =
     let e = Deliver a b in
     omega (
       arith,
-      eqb-true (length (withoutOldest a b (s .queue))) queueLimit (both-right (isSending (reactionTo s e .outgoing)) _ (met s e 14 refl q)),
+      eqb-true (length (withoutOldest a b (s .queue))) (s .limits .messages) (both-right (isSending (reactionTo s e .outgoing)) _ (met s e 14 refl q)),
       without-length a b (s .queue) (not-false _ (passed s e 11 14 refl q)),
-      in-range-size s (not-false _ (passed s e 1 14 refl q)) .3,
+      in-range-own s (not-false _ (passed s e 1 14 refl q)) .1,
     )
 
 -- ── the claims ──
@@ -296,20 +306,30 @@ pub none-in : (n k : ℕ) → countInRange n k 0 ≡ true
 unfolding countInRange
 none-in n k = refl
 
-pub start-in : (n : ℕ) → 1 ≤ n → n ≤ nodeLimit → inRange (start n) ≡ true
+-- a table that may start has at most 16 nodes
+pub start-small : {rule : PairRule} (n : ℕ) (lim : Limits) → MayStart rule n lim → n ≤ 16
+start-small n lim s = le-trans (s .high) (leb-true _ _ (both-left (leb (lim .nodes) 16) _ (s .within)))
+
+pub start-in : (rule : PairRule) (n : ℕ) (lim : Limits) → MayStart rule n lim → inRange (startBy rule n lim) ≡ true
 unfolding inRange trafficInRange countsInRange every howMany
-start-in n l h =
+start-in rule n lim s =
     rw (
-      le-leb 1 n l,
-      le-leb n nodeLimit h,
+      s .pair,
+      s .within,
+      le-leb 1 n (s .low),
+      le-leb n (lim .nodes) (s .high),
+      le-leb 0 (lim .messages) (omega arith),
       eq-eqb _ n (length-replicate n startingNode),
       every-replicate (nodeInRange n) 1 n startingNode (λ j. is-node n j startingNode (starting j)),
       every-replicate (countInRange n) 0 256 0 (none-in n),
-      upTo-all n (λ a. upTo n (λ b. addsUp (start n) a b)) (λ a i j. upTo-all n (λ b. addsUp (start n) a b) (λ b k m.
-          let q = none-counted a b (record { low = i; high = omega (arith, h); low-to = k; high-to = omega (arith, h) }) in
+      upTo-all n (λ a. upTo n (λ b. addsUp (startBy rule n lim) a b)) (λ a i j. upTo-all n (λ b. addsUp (startBy rule n lim) a b) (λ b k m.
+          let q = none-counted a b (record { low = i; high = omega (arith, small); low-to = k; high-to = omega (arith, small) }) in
           eq-eqb (countAt noCounts a b) (countAt noCounts a b + countAt noCounts a b + 0) (omega (arith, q)))),
     )
   where
+    small : n ≤ 16
+    small = start-small n lim s
+
     starting : (j : ℕ) → NodeFacts n j startingNode
     starting j =
         record {
@@ -335,7 +355,8 @@ stays-in-range =
     record {
       starts = start-in;
       keeps = λ s e u k q.
-          let a = accepted-is s e u k q in subst (λ (v : State). inRange v ≡ true) (sym (a .state)) (effect-in s e (a .clear) (a .not-at-end));
-      runs = λ n l h es. run-in (start n) es (start-in n l h);
-      never-one = λ n l h es e. in-range-not-one (run n es) e (run-in (start n) es (start-in n l h));
+          let a = accepted-is s e u k q in
+          subst (λ (v : State). inRange v ≡ true) (sym (a .state)) (effect-in s e (a .clear) (a .not-at-end));
+      runs = λ rule n lim m es. run-in (startBy rule n lim) es (start-in rule n lim m);
+      never-one = λ rule n lim m es e. in-range-not-one (runBy rule n lim es) e (run-in (startBy rule n lim) es (start-in rule n lim m));
     }

@@ -1,32 +1,34 @@
 -- The delivery of an invitation in every table in range: a plain reply on each of three conditions; else it is forwarded, accepted, or refused for want of a call number.
-use Prim.Native.Nat.{ℕ, zero, suc, _-_, _<_}
+use Prim.Native.Nat.{ℕ, _-_, _<_}
 use native.Mathlib.Omega.{arith}
 use mathlib.Core.Bool.{Bool, true, false, not, _&&_, _||_, true≢false}
 use mathlib.Core.Path.{_≡_, refl, sym, _∙_, ap, subst}
 use mathlib.Core.List.{List, [], _∷_, _++_}
 use lib.Dec.{eqb}
-use lib.ListN.{length, getD, set}
+use lib.ListN.{length, set}
 use lib.Seq.{set-getD}
 use borrow.Author.Tests.{eqb-true, eq-eqb, le-leb, ne-eqb}
 use Rattle.node_set.specs.NodeSet.{without}
+use Rattle.model.specs.Range.{TwoPairs}
 use Rattle.model.specs.Pick.{pick, pick-true, by-test}
-use Rattle.model.specs.Limits.{queueLimit, counterEnd, callEnd, trafficEnd}
+use Rattle.model.specs.Limits.{counterEnd, callEnd, trafficEnd}
 use Rattle.model.specs.Counts.{countAt, oneMore}
 use Rattle.model.specs.Node.{isNormal, ownerOf, nextCall, calling, invited, calls, replies}
 use Rattle.model.specs.Procedures.{next, reaction, forwardNext}
 use Rattle.model.specs.React.{onlyReplies, onInvitation, react}
 use Rattle.model.specs.State.{State, start, startingNode, nodeAt, goes, waits, oldest, withoutOldest, inRange}
 use Rattle.model.specs.Grounds.{judged}
-use Rattle.model.specs.Step.{reactionTo, remaining, sent, withSent, effect, wrongNumber, forms, isCalling, isSending, pairAtEnd, grounds, Result, refused, accepted, step, kept, runFrom, run}
+use Rattle.model.specs.Step.{step, grounds, runFrom, reactionTo, remaining, sent, withSent, effect, wrongNumber, forms, isCalling, isSending, pairAtEnd, Result, refused, accepted, kept, run}
 use Rattle.model.specs.Claims.{InvitationReaches, Owns, Holds, NoPlainReply, withPlainReply, withCall, MaySend, InvitationRules}
 use Rattle.model.proofs.Judged.{Clear, by-step, clear-accepts}
 use Rattle.model.proofs.Refusals.{clear-ends}
-use Rattle.model.proofs.Traffic.{run-n, traffic-agrees}
+use Rattle.model.proofs.Traffic.{run-n, run-within, start-within, within-not-seventeen}
 use Rattle.model.proofs.Local.{both-left, both-right}
 use Rattle.model.proofs.Whole.{run-append}
-use Rattle.model.proofs.Fields.{IsNode, IsOther, MessageFacts, message-facts, in-range-size, in-range-oldest, oldest-goes}
+use Rattle.model.proofs.Fields.{IsNode, IsOther, MessageFacts, message-facts, in-range-own, in-range-size, in-range-oldest, oldest-goes}
 use Rattle.model.proofs.InRange.{without-length, run-in}
 use Rattle.model.proofs.Invitation.{where-not-normal, where-owned, where-held, where-none, plain-reply, acted-on, kind-three}
+use Rattle.model.specs.declared.Limits.{Limits}
 use Rattle.model.specs.declared.Status.the-variants.{Election}
 use Rattle.model.specs.declared.Activity.the-variants.{Forwarding, Accepting}
 use Rattle.model.specs.declared.Node.{Node}
@@ -120,7 +122,7 @@ module _ (s : State) (a b : ℕ) (x : InvitationReaches s a b) where
         counter = ap (λ (t : Bool). t && eqb (nodeAt s b .counter) counterEnd) f;
         calls = h;
         room = off (isSending (reactionTo s (Deliver a b) .outgoing))
-            (ne-eqb (length (withoutOldest a b (s .queue))) queueLimit (λ q. omega (arith, q, without-length a b (s .queue) waiting, in-range-size s (x .in-range) .3)));
+            (ne-eqb (length (withoutOldest a b (s .queue))) (s .limits .messages) (λ q. omega (arith, q, without-length a b (s .queue) waiting, in-range-own s (x .in-range) .1)));
       }
     where
       off : (t : Bool) {y : Bool} → y ≡ false → t && y ≡ false
@@ -130,7 +132,9 @@ module _ (s : State) (a b : ℕ) (x : InvitationReaches s a b) where
   -- what the node does says what the step is
   abbrev left : Reaction → State
   left r = record {
+    rule = s .rule;
     n = s .n;
+    limits = s .limits;
     nodes = set (s .nodes) (b - 1) (r .node);
     queue = withoutOldest a b (s .queue) ++ sent (r .outgoing);
     sent = withSent (s .sent) (r .outgoing);
@@ -159,7 +163,9 @@ module _ (s : State) (a b : ℕ) (x : InvitationReaches s a b) where
     plainly w =
         leaves (nodeAt s b) (replies b a (oldest a b (s .queue) .call) true) w answer plain-clear
         ∙ ap (λ (l : List Node). accepted (record {
+          rule = s .rule;
           n = s .n;
+          limits = s .limits;
           nodes = l;
           queue = withPlainReply s a b .queue;
           sent = withPlainReply s a b .sent;
@@ -232,14 +238,14 @@ out-of-range s (e ∷ es) r =
     ap (λ (u : State). runFrom u es) (by-step (λ (x : Result). kept s x ≡ s) s e (λ _. refl) (λ c _. absurd (true≢false (sym (c .in-range) ∙ r)))) ∙ out-of-range s es r
 
 -- where a message waits, the table of a run is in range, whatever n is
-kind-in-range : (n : ℕ) (es : List Event) (a b : ℕ) → oldest a b (run n es .queue) .kind ≡ 3 → inRange (run n es) ≡ true
+kind-in-range : (n : ℕ) (lim : Limits) (es : List Event) (a b : ℕ) → oldest a b (run n lim es .queue) .kind ≡ 3 → inRange (run n lim es) ≡ true
 unfolding oldest
-kind-in-range n es a b k = by (inRange (start n)) refl
+kind-in-range n lim es a b k = by (inRange (start n lim)) refl
   where
-    by : (t : Bool) → inRange (start n) ≡ t → inRange (run n es) ≡ true
-    by true r = run-in (start n) es r
+    by : (t : Bool) → inRange (start n lim) ≡ t → inRange (run n lim es) ≡ true
+    by true r = run-in (start n lim) es r
     by false r =
-        let z : _≡_ {A = ℕ} 0 3 = sym (ap (λ (s : State). oldest a b (s .queue) .kind) (out-of-range (start n) es r)) ∙ k in
+        let z : _≡_ {A = ℕ} 0 3 = sym (ap (λ (s : State). oldest a b (s .queue) .kind) (out-of-range (start n lim) es r)) ∙ k in
         absurd (omega arith)
 
 pub invitation-rules : InvitationRules
@@ -257,15 +263,15 @@ invitation-rules =
       held-end = λ s a b x e. plain-end s a b x (where-held b (nodeAt s b) _ e);
       forwards-end = λ s a b x y l o p w. forwards-end s a b x y l (own s b o) p w;
       accepts-end = λ s a b x y l o w. accepts-end s a b x y l (none s b o) w;
-      runs = λ n es a b u k g.
-          let r = kind-in-range n es a b k in
-          let x : InvitationReaches (run n es) a b = record { in-range = r; not-down = u; kind = k } in
-          let h = where-held b (nodeAt (run n es) b) _ g in
-          let z = in-range-size (run n es) r in
-          let q = run-n (start n) es in
-          run-append (start n) es (Deliver a b ∷ [])
-          ∙ ap (kept (run n es))
-          (plainly (run n es) a b x h (λ w. traffic-agrees n (omega (arith, q, z .0)) (omega (arith, q, z .1)) .never-seventeen es (Deliver a b) (plain-end (run n es) a b x h w)));
+      runs = λ n lim es a b u k g.
+          let r = kind-in-range n lim es a b k in
+          let x : InvitationReaches (run n lim es) a b = record { in-range = r; not-down = u; kind = k } in
+          let h = where-held b (nodeAt (run n lim es) b) _ g in
+          let z = in-range-size (run n lim es) r in
+          let q = run-n (start n lim) es in
+          run-append (start n lim) es (Deliver a b ∷ [])
+          ∙ ap (kept (run n lim es))
+          (plainly (run n lim es) a b x h (λ w. within-not-seventeen (run n lim es) (Deliver a b) (run-within (start n lim) es (start-within TwoPairs n lim (omega (arith, q, z .1)))) (plain-end (run n lim es) a b x h w)));
     }
   where
     own : (s : State) (b : ℕ) → nodeAt s b .coordinator ≡ b → pick (eqb (nodeAt s b .coordinator) b) (nodeAt s b .members) 0 ≡ nodeAt s b .members

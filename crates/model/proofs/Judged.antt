@@ -7,7 +7,7 @@ use lib.Dec.{eqb}
 use lib.ListN.{length}
 use borrow.Author.Tests.{not-false}
 use Rattle.model.specs.Pick.{pick}
-use Rattle.model.specs.Limits.{queueLimit, counterEnd, callEnd}
+use Rattle.model.specs.Limits.{counterEnd, callEnd}
 use Rattle.model.specs.Node.{isIdle, isWaiting, isCollecting, hasOpenCall}
 use Rattle.model.specs.Procedures.{stays}
 use Rattle.model.specs.React.{react}
@@ -34,7 +34,7 @@ pub record Clear (s : State) (e : Event) : Type 0 where
   pub waiting : noneWaits (s .queue) e ≡ false
   pub counter : forms (reactionTo s e .mark) && eqb (nodeAt s (actor e) .counter) counterEnd ≡ false
   pub calls : isCalling (reactionTo s e .outgoing) && eqb (nodeAt s (actor e) .last .number) callEnd ≡ false
-  pub room : isSending (reactionTo s e .outgoing) && eqb (length (remaining s e)) queueLimit ≡ false
+  pub room : isSending (reactionTo s e .outgoing) && eqb (length (remaining s e)) (s .limits .messages) ≡ false
 
 -- and 17 does not apply
 abbrev pub NotAtEnd : State → Event → Type 0

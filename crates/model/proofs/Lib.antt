@@ -9,6 +9,7 @@ pub mod Origin
 pub mod Whole
 pub mod Fixed
 pub mod Locality
+pub mod Pairs
 pub mod Fields
 pub mod Invitation
 pub mod Counts
@@ -24,6 +25,7 @@ pub mod TrafficCases
 pub mod Refusals
 pub mod Due
 pub mod Traffic
+pub mod TowerAndStand
 pub mod CallOrder
 pub mod InvitationRules
 pub mod Recovery

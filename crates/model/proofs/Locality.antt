@@ -1,23 +1,23 @@
 -- How little a step changes: a refused event nothing; an accepted one one record, one message out, one message in.
-use Prim.Native.Nat.{ℕ, suc, _+_, _-_, _≤_}
+use Prim.Native.Nat.{ℕ, _+_, _-_, _≤_}
 use native.Mathlib.Omega.{arith}
 use mathlib.Core.Bool.{Bool, true, false, _||_, true≢false}
 use mathlib.Core.Path.{_≡_, refl, sym, _∙_, ap, subst}
 use mathlib.Core.List.{List, [], _∷_, _++_}
-use lib.ListN.{length, getD, set, length-set, length-append}
+use lib.ListN.{length, length-set, length-append}
 use lib.Seq.{getD-set-other}
 use borrow.Author.Tests.{not-false}
-use Rattle.model.specs.Pick.{pick, pick-true, pick-false}
-use Rattle.model.specs.State.{State, startingNode, start, nodeAt, goes, waits, oldest, withoutOldest}
-use Rattle.model.specs.Step.{actor, reactionTo, remaining, sent, effect, noneWaits, Result, refused, accepted, step, kept, after, runFrom, run}
+use Rattle.model.specs.Pick.{pick-true, pick-false}
+use Rattle.model.specs.State.{State, startingNode, start, goes, waits, oldest, withoutOldest}
+use Rattle.model.specs.Step.{runFrom, actor, reactionTo, remaining, sent, effect, noneWaits, Result, refused, step, kept, run}
 use Rattle.model.specs.Claims.{WithoutOldest, TakesOut, ChangesLittle, StepIsLocal}
-use Rattle.model.proofs.Judged.{Clear, Accepted, accepted-is}
+use Rattle.model.proofs.Judged.{Clear, accepted-is}
 use Rattle.model.proofs.Numbers.{actor-in}
 use Rattle.model.proofs.Whole.{run-append}
+use Rattle.model.specs.declared.Limits.{Limits}
 use Rattle.model.specs.declared.Message.{Message}
 use Rattle.model.specs.declared.Outgoing.{Outgoing}
 use Rattle.model.specs.declared.Outgoing.the-variants.{Nothing, Send}
-use Rattle.model.specs.declared.Mark.{Mark}
 use Rattle.model.specs.declared.Event.{Event}
 use Rattle.model.specs.declared.Event.the-variants.{Crash, Recover, Check, Timeout, Tick, Expire, Finish, Deliver, Lose}
 
@@ -101,6 +101,8 @@ unfolding effect
 effect-little s e c low =
     record {
       same-n = refl;
+      same-rule = refl;
+      same-limits = refl;
       same-length = length-set (s .nodes) (actor e - 1) (reactionTo s e .node);
       others-kept = λ j l q. getD-set-other (s .nodes) (actor e - 1) (j - 1) (reactionTo s e .node) startingNode (λ z. q (omega arith));
       one-out = takes-out s e c;
@@ -111,12 +113,12 @@ effect-little s e c low =
       lost-counts = refl;
     }
 
-skips : (n : ℕ) (es : List Event) (e : Event) (fs : List Event) (r : ℕ) → step (run n es) e ≡ refused r → run n (es ++ (e ∷ fs)) ≡ run n (es ++ fs)
+skips : (n : ℕ) (lim : Limits) (es : List Event) (e : Event) (fs : List Event) (r : ℕ) → step (run n lim es) e ≡ refused r → run n lim (es ++ (e ∷ fs)) ≡ run n lim (es ++ fs)
 unfolding runFrom
-skips n es e fs r q =
-    run-append (start n) es (e ∷ fs)
-    ∙ ap (λ (x : Result). runFrom (kept (run n es) x) fs) q
-    ∙ sym (run-append (start n) es fs)
+skips n lim es e fs r q =
+    run-append (start n lim) es (e ∷ fs)
+    ∙ ap (λ (x : Result). runFrom (kept (run n lim es) x) fs) q
+    ∙ sym (run-append (start n lim) es fs)
 
 pub step-is-local : StepIsLocal
 step-is-local =

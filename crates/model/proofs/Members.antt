@@ -13,11 +13,12 @@ use Rattle.model.specs.Node.{isDown, isNormal, isIdle, ownerOf, merged, 
 use Rattle.model.specs.Procedures.{stays, inviteNext, merges, handNext, finishes, forwardNext, askedAll, askAt, askAfter}
 use Rattle.model.specs.React.{leads, checked, timedOut, ticked, expired, resumed, onAreYouCoordinator, onAreYouThere, onInvitation, onAccept, onReady, onReply, received, react}
 use Rattle.model.specs.State.{State, startingNode, start, nodeAt, oldest}
-use Rattle.model.specs.Step.{actor, reactionTo, effect, Result, kept, after, runFrom, run}
+use Rattle.model.specs.Step.{runFrom, actor, reactionTo, effect, Result, kept, after, run}
 use Rattle.model.proofs.Judged.{Clear, by-step}
 use Rattle.model.proofs.Local.{both-left}
 use Rattle.model.proofs.Numbers.{actor-in}
 use Rattle.model.proofs.Fields.{Busy, node-facts, in-range-node, each-record}
+use Rattle.model.specs.declared.Limits.{Limits}
 use Rattle.model.specs.declared.Status.{Status}
 use Rattle.model.specs.declared.Status.the-variants.{Reorganization, Normal}
 use Rattle.model.specs.declared.Activity.{Activity}
@@ -221,5 +222,5 @@ unfolding runFrom
 from-rest s [] x = x
 from-rest s (e ∷ es) x = from-rest (after s e) es (by-step (λ (r : Result). AllRest (kept s r)) s e (λ _. x) (λ c _. effect-rests s x e c))
 
-pub run-rests : (n : ℕ) (es : List Event) → AllRest (run n es)
-run-rests n es = from-rest (start n) es (λ i l h. inl (ap (λ (c : Node). isDown (c .status)) (getD-replicate n (i - 1) startingNode startingNode (omega arith))))
+pub run-rests : (n : ℕ) (lim : Limits) (es : List Event) → AllRest (run n lim es)
+run-rests n lim es = from-rest (start n lim) es (λ i l h. inl (ap (λ (c : Node). isDown (c .status)) (getD-replicate n (i - 1) startingNode startingNode (omega arith))))

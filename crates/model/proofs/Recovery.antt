@@ -176,7 +176,9 @@ module _ (s : State) (e : Event) (u : State) (q : step s e ≡ accepted u Recove
 
   abbrev stored : Node → List Message → List ℕ → State
   stored c l k = record {
+    rule = s .rule;
     n = s .n;
+    limits = s .limits;
     nodes = set (s .nodes) (actor e - 1) c;
     queue = l;
     sent = k;

@@ -12,18 +12,19 @@ use Rattle.model.specs.Pick.{pick}
 use Rattle.model.specs.Limits.{callEnd, trafficEnd}
 use Rattle.model.specs.Counts.{pairPlace, senderAt, receiverAt, countAt, oneMore, total, one}
 use Rattle.model.specs.React.{react}
-use Rattle.model.specs.Range.{isPair, countInRange}
-use Rattle.model.specs.State.{State, startingNode, start, nodeAt, goes, waits, oldest, howMany, every, inRange}
-use Rattle.model.specs.Step.{actor, reactionTo, remaining, sent, withSent, withDelivered, withLost, effect, wrongNumber, noneWaits, isCalling, pairAtEnd, grounds, refused, accepted, step, kept, after, runFrom, run}
+use Rattle.model.specs.Range.{PairRule, isPair, countInRange}
+use Rattle.model.specs.State.{State, startingNode, startBy, nodeAt, goes, waits, oldest, howMany, every, inRange}
+use Rattle.model.specs.Step.{actor, reactionTo, remaining, sent, withSent, withDelivered, withLost, effect, wrongNumber, noneWaits, isCalling, pairAtEnd, grounds, refused, step, kept, after, runFrom, runBy}
 use Rattle.model.specs.Traffic.{sends, delivers, loses, ofAccepted, tally, sendsAny, deliversAny, losesAny, sentIn, deliveredIn, lostIn}
-use Rattle.model.specs.Claims.{TrafficAgrees, TrafficRules}
+use Rattle.model.specs.Claims.{MayStart, TrafficAgrees, TrafficRules}
 use Rattle.model.proofs.Judged.{Clear, by-step, accepted-is, met, ended-clear}
 use Rattle.model.proofs.Local.{both-right}
 use Rattle.model.proofs.Fields.{node-facts, message-facts, Counting, CountFacts, count-facts, every-at, oldest-goes, in-range-size, in-range-places, in-range-each, in-range-node, in-range-sum, own-record, other-record}
 use Rattle.model.proofs.Range.{OutgoingIn}
 use Rattle.model.proofs.Counts.{none-counted, many-append, many-without, pair-counting}
-use Rattle.model.proofs.InRange.{EventIn, event-in, event-counted, start-in, run-in}
+use Rattle.model.proofs.InRange.{EventIn, event-in, event-counted, start-small, start-in, run-in}
 use Rattle.model.proofs.Due.{due, callTo, replyTo, From, callFrom, WithinDue, react-within}
+use Rattle.model.specs.declared.Limits.{Limits}
 use Rattle.model.specs.declared.Message.{Message}
 use Rattle.model.specs.declared.Outgoing.{Outgoing}
 use Rattle.model.specs.declared.Outgoing.the-variants.{Nothing, Send}
@@ -317,9 +318,9 @@ unfolding runFrom
 run-within s [] w = w
 run-within s (e ∷ es) w = run-within (after s e) es (by-step (λ r. SentWithin (kept s r)) s e (λ _. w) (λ c _. effect-within s e c w))
 
-pub start-within : (n : ℕ) → n ≤ 16 → SentWithin (start n)
+pub start-within : (rule : PairRule) (n : ℕ) (lim : Limits) → n ≤ 16 → SentWithin (startBy rule n lim)
 unfolding howMany
-start-within n small a b l h m k =
+start-within rule n lim small a b l h m k =
     rw (none-counted a b (record { low = l; high = omega arith; low-to = m; high-to = omega arith }), getD-replicate n (a - 1) startingNode startingNode (omega arith)) (omega arith)
 
 -- every table of a run has as many nodes
@@ -328,32 +329,41 @@ unfolding runFrom effect
 run-n s [] = refl
 run-n s (e ∷ es) = run-n (after s e) es ∙ by-step (λ r. kept s r .n ≡ s .n) s e (λ _. refl) (λ c _. refl)
 
+-- and the limits that it started with (T-08)
+pub run-limits : (s : State) (es : List Event) → runFrom s es .limits ≡ s .limits
+unfolding runFrom effect
+run-limits s [] = refl
+run-limits s (e ∷ es) = run-limits (after s e) es ∙ by-step (λ r. kept s r .limits ≡ s .limits) s e (λ _. refl) (λ c _. refl)
+
 -- the three counts of a pair in a run, for any n
-module _ (n : ℕ) (es : List Event) (a b : ℕ) (p : Counting a b) where
-  pub sent-in : countAt (run n es .sent) a b ≡ sentIn n es a b
-  sent-in = omega (arith, none-counted a b p, tally-is (λ s. s .sent) (sends a b) a b (λ s e c. event-counted s e c a b p .sent) (start n) es)
+module _ (rule : PairRule) (n : ℕ) (lim : Limits) (es : List Event) (a b : ℕ) (p : Counting a b) where
+  pub sent-in : countAt (runBy rule n lim es .sent) a b ≡ sentIn rule n lim es a b
+  sent-in = omega (arith, none-counted a b p, tally-is (λ s. s .sent) (sends a b) a b (λ s e c. event-counted s e c a b p .sent) (startBy rule n lim) es)
 
-  pub delivered-in : countAt (run n es .delivered) a b ≡ deliveredIn n es a b
-  delivered-in = omega (arith, none-counted a b p, tally-is (λ s. s .delivered) (delivers a b) a b (λ s e c. event-counted s e c a b p .delivered) (start n) es)
+  pub delivered-in : countAt (runBy rule n lim es .delivered) a b ≡ deliveredIn rule n lim es a b
+  delivered-in = omega (arith, none-counted a b p, tally-is (λ s. s .delivered) (delivers a b) a b (λ s e c. event-counted s e c a b p .delivered) (startBy rule n lim) es)
 
-  pub lost-in : countAt (run n es .lost) a b ≡ lostIn n es a b
-  lost-in = omega (arith, none-counted a b p, tally-is (λ s. s .lost) (loses a b) a b (λ s e c. event-counted s e c a b p .lost) (start n) es)
+  pub lost-in : countAt (runBy rule n lim es .lost) a b ≡ lostIn rule n lim es a b
+  lost-in = omega (arith, none-counted a b p, tally-is (λ s. s .lost) (loses a b) a b (λ s e c. event-counted s e c a b p .lost) (startBy rule n lim) es)
 
-pub traffic-agrees : (n : ℕ) → 1 ≤ n → n ≤ 16 → TrafficAgrees n
-traffic-agrees n low high =
+pub traffic-agrees : (rule : PairRule) (n : ℕ) (lim : Limits) → MayStart rule n lim → TrafficAgrees rule n lim
+traffic-agrees rule n lim s =
     record {
-      sent-counted = λ es a b l h m k. sent-in n es a b (at a b l h m k);
-      delivered-counted = λ es a b l h m k. delivered-in n es a b (at a b l h m k);
-      lost-counted = λ es a b l h m k. lost-in n es a b (at a b l h m k);
-      sent-total = λ es. omega (arith, none-total 256, total-is (λ s. s .sent) sendsAny (λ s e c. event-totalled s e c .sent) (start n) es);
-      delivered-total = λ es. omega (arith, none-total 256, total-is (λ s. s .delivered) deliversAny (λ s e c. event-totalled s e c .delivered) (start n) es);
-      lost-total = λ es. omega (arith, none-total 256, total-is (λ s. s .lost) losesAny (λ s e c. event-totalled s e c .lost) (start n) es);
+      sent-counted = λ es a b l h m k. sent-in rule n lim es a b (at a b l h m k);
+      delivered-counted = λ es a b l h m k. delivered-in rule n lim es a b (at a b l h m k);
+      lost-counted = λ es a b l h m k. lost-in rule n lim es a b (at a b l h m k);
+      sent-total = λ es. omega (arith, none-total 256, total-is (λ s. s .sent) sendsAny (λ s e c. event-totalled s e c .sent) (startBy rule n lim) es);
+      delivered-total = λ es. omega (arith, none-total 256, total-is (λ s. s .delivered) deliversAny (λ s e c. event-totalled s e c .delivered) (startBy rule n lim) es);
+      lost-total = λ es. omega (arith, none-total 256, total-is (λ s. s .lost) losesAny (λ s e c. event-totalled s e c .lost) (startBy rule n lim) es);
       adds-up = λ es a b l h m k.
-          let q = run-n (start n) es in
-          in-range-sum (run n es) a b (run-in (start n) es (start-in n low high)) l (omega (arith, h, q)) m (omega (arith, k, q));
-      never-seventeen = λ es e. within-not-seventeen (run n es) e (run-within (start n) es (start-within n high));
+          let q = run-n (startBy rule n lim) es in
+          in-range-sum (runBy rule n lim es) a b (run-in (startBy rule n lim) es (start-in rule n lim s)) l (omega (arith, h, q)) m (omega (arith, k, q));
+      never-seventeen = λ es e. within-not-seventeen (runBy rule n lim es) e (run-within (startBy rule n lim) es (start-within rule n lim small));
     }
   where
+    small : n ≤ 16
+    small = start-small n lim s
+
     at : (a b : ℕ) → 1 ≤ a → a ≤ 16 → 1 ≤ b → b ≤ 16 → Counting a b
     at a b l h m k = record { low = l; high = h; low-to = m; high-to = k }
 

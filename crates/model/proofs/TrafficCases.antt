@@ -1,9 +1,9 @@
 -- The cases of T-05.
 use Prim.Native.Nat.{ℕ, zero, suc, _+_, _≤_, _<_}
 use native.Mathlib.Omega.{arith}
-use mathlib.Core.Bool.{Bool, true, false, not, _&&_, _||_}
+use mathlib.Core.Bool.{Bool, true, false, _&&_}
 use mathlib.Core.Path.{_≡_, refl, _∙_, ap, subst}
-use mathlib.Core.List.{List, [], _∷_, _++_}
+use mathlib.Core.List.{List, [], _∷_}
 use lib.Dec.{eqb, leb, ltb}
 use lib.ListN.{length, set, replicate, length-set, length-replicate}
 use lib.Seq.{getD-set-same, getD-set-other}
@@ -11,27 +11,29 @@ use lib.Count.{onesIn, ones, leadingZeros}
 use lib.Bits.{bitAnd, bitOr}
 use borrow.Author.Tests.{eqb-true, eqb-false, eq-eqb, leb-true, ltb-true}
 use Rattle.model.specs.Pick.{pick, pick-true, pick-false}
-use Rattle.model.specs.Limits.{trafficEnd}
+use Rattle.model.specs.Limits.{tower, stand, trafficEnd}
 use Rattle.model.specs.Counts.{pairPlace, countAt, noCounts}
 use Rattle.model.specs.Node.{asks}
 use Rattle.model.specs.Procedures.{inviteNext, merges, handNext, finishes, forwardNext, askedAll, askAt, askAfter}
 use Rattle.model.specs.React.{checked, timedOut, ticked, expired, resumed, onAreYouCoordinator, onAreYouThere, onInvitation, onAccept, onReady, onReply, received, react}
-use Rattle.model.specs.Range.{activityInRange, nodeInRange, messageInRange, isNode, isPair, countInRange}
-use Rattle.model.specs.State.{State, startingNode, allWaiting, waits, oldest, withoutOldest, howMany, waiting, countsOf, every, upTo, addsUp, baseInRange, countsInRange, trafficInRange, inRange}
-use Rattle.model.specs.Grounds.{Ground, ground, judged}
-use Rattle.model.specs.Step.{reactionTo, remaining, effect, wrongNumber, wrongTask, wrongStatus, wrongActivity, notCoordinator, noneWaits, grounds, Result, refused, accepted, step, kept, after}
+use Rattle.model.specs.Range.{isTowerOrStand, TwoPairs, activityInRange, nodeInRange, messageInRange, isNode, isPair, countInRange}
+use Rattle.model.specs.State.{inRange, State, startingNode, allWaiting, waits, oldest, withoutOldest, howMany, waiting, countsOf, every, upTo, addsUp, baseInRange, countsInRange, trafficInRange}
+use Rattle.model.specs.Grounds.{judged}
+use Rattle.model.specs.Step.{step, grounds, reactionTo, remaining, effect, wrongNumber, wrongTask, wrongStatus, wrongActivity, notCoordinator, noneWaits, Result, refused, accepted, kept, after}
 use Rattle.model.specs.Cases.{k10, past, only, withCounts, someWait, among, TrafficCases}
-use Rattle.model.proofs.Fields.{parts, Counting, node-is, other-is, in-range-size, in-range-places, in-range-each, in-range-sum}
+use Rattle.model.proofs.Fields.{parts, Counting, in-range-pair, node-is, other-is, in-range-size, in-range-places, in-range-each, in-range-sum}
 use Rattle.model.proofs.Counts.{same-pair, upTo-all, pair-counting, is-count}
 use Rattle.model.proofs.InRange.{every-set, every-replicate, none-in}
 use Rattle.model.proofs.Aside.{in-range-base, later}
 use Rattle.model.proofs.Local.{both-left, both-right}
 use Rattle.model.proofs.Waiting.{waiting-in}
+use Rattle.model.proofs.Pairs.{pair-within}
 use Rattle.model.proofs.Cases.{two-counting, among-same}
+use Rattle.model.specs.declared.Limits.{Limits}
 use Rattle.model.specs.declared.Node.{Node}
 use Rattle.model.specs.declared.Message.{Message}
 use Rattle.model.specs.declared.Event.{Event}
-use Rattle.model.specs.declared.Event.the-variants.{Crash, Recover, Check, Timeout, Tick, Expire, Finish, Deliver, Lose}
+use Rattle.model.specs.declared.Event.the-variants.{Crash}
 
 and-true : (t : Bool) → (t && true) ≡ t
 and-true true = refl
@@ -88,7 +90,9 @@ module _ (s : State) (a b d l : ℕ) (r : inRange s ≡ true) (p : isPair (s .n)
   unfolding inRange trafficInRange countsInRange
   past-in =
       rw (
-        in-range-base s r,
+        in-range-pair s r,
+        in-range-base s r .0,
+        in-range-base s r .1,
         eq-eqb _ 256 (length-set (s .sent) (pairPlace a b) (countAt (s .sent) a b + d + l) ∙ places .0),
         eq-eqb _ 256 (length-set (s .delivered) (pairPlace a b) (countAt (s .delivered) a b + d) ∙ places .1),
         eq-eqb _ 256 (length-set (s .lost) (pairPlace a b) (countAt (s .lost) a b + l) ∙ places .2),
@@ -106,12 +110,17 @@ known-is : (s : State) (e : Event) → inRange s ≡ true → step s e ≡ known
 unfolding step grounds judged
 known-is s e r = rw (r, pick-false) refl
 
-after-many : (n : ℕ) (cs : List Node) (q : List Message) (a b d l : ℕ) (e : Event) → baseInRange n cs q ≡ true → isPair n a b ≡ true → leb (countAt (countsOf q) a b + d + l) trafficEnd ≡ true
-    → step (past a b d l (allWaiting n cs q)) e ≡ known (past a b d l (allWaiting n cs q)) e
-after-many n cs q a b d l e r p h = known-is (past a b d l (allWaiting n cs q)) e (past-in (allWaiting n cs q) a b d l (waiting-in n cs q r) p (leb-true _ trafficEnd h))
+after-many-in : (lim : Limits) → isTowerOrStand lim ≡ true → (n : ℕ) (cs : List Node) (q : List Message) (a b d l : ℕ) (e : Event) → baseInRange lim n cs q ≡ true → isPair n a b ≡ true
+    → leb (countAt (countsOf q) a b + d + l) trafficEnd ≡ true → step (past a b d l (allWaiting n lim cs q)) e ≡ known (past a b d l (allWaiting n lim cs q)) e
+after-many-in lim o n cs q a b d l e r p h =
+    known-is (past a b d l (allWaiting n lim cs q)) e (past-in (allWaiting n lim cs q) a b d l (waiting-in TwoPairs n lim cs q o (pair-within lim o) r) p (leb-true _ trafficEnd h))
 
-once : (n : ℕ) (cs : List Node) (q : List Message) (e : Event) → baseInRange n cs q ≡ true → after (allWaiting n cs q) e ≡ kept (allWaiting n cs q) (known (allWaiting n cs q) e)
-once n cs q e r = ap (kept (allWaiting n cs q)) (known-is (allWaiting n cs q) e (waiting-in n cs q r))
+after-many : (n : ℕ) (cs : List Node) (q : List Message) (a b d l : ℕ) (e : Event) → baseInRange tower n cs q ≡ true → isPair n a b ≡ true → leb (countAt (countsOf q) a b + d + l) trafficEnd ≡ true
+    → step (past a b d l (allWaiting n tower cs q)) e ≡ known (past a b d l (allWaiting n tower cs q)) e
+after-many = after-many-in tower refl
+
+once : (n : ℕ) (cs : List Node) (q : List Message) (e : Event) → baseInRange tower n cs q ≡ true → after (allWaiting n tower cs q) e ≡ kept (allWaiting n tower cs q) (known (allWaiting n tower cs q) e)
+once n cs q e r = ap (kept (allWaiting n tower cs q)) (known-is (allWaiting n tower cs q) e (waiting-in TwoPairs n tower cs q refl refl r))
 
 by-range : (s : State) (e : Event) → inRange s ≡ false → step s e ≡ refused 1
 unfolding step grounds judged
@@ -135,7 +144,7 @@ counts-only n a b x h =
 
 abbrev onlyInRange : List Message → ℕ → ℕ → ℕ → ℕ → ℕ → ℕ → ℕ → ℕ → ℕ → Bool
 onlyInRange q a b x c d y e f z =
-    baseInRange 3 (replicate 3 startingNode) q
+    baseInRange tower 3 (replicate 3 startingNode) q
     && (countInRange 3 (pairPlace a b) x
     && countInRange 3 (pairPlace c d) y
     && countInRange 3 (pairPlace e f) z
@@ -177,6 +186,8 @@ traffic-cases =
       ends-thirteen = after-many _ _ _ 2 1 33554366 0 _ refl refl refl;
       ends-fourteen = after-many _ _ _ 2 1 33554366 0 _ refl refl refl;
       ends-seventeen = after-many _ _ _ 2 1 33554367 0 _ refl refl refl;
+      stand-fourteen = after-many-in stand refl _ _ _ 2 1 33554418 0 _ refl refl refl;
+      stand-seventeen = after-many-in stand refl _ _ _ 2 1 33554419 0 _ refl refl refl;
       delivery-counts = once _ _ _ _ refl;
       loss-counts = once _ _ _ _ refl;
       refused-counts = once _ _ _ _ refl;

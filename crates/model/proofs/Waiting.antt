@@ -1,21 +1,21 @@
 -- A table in which all that was sent still waits: its counts are in range where its nodes and messages are.
-use Prim.Native.Nat.{ℕ, _+_, _≤_, _<_}
+use Prim.Native.Nat.{ℕ, _+_, _≤_}
 use native.Mathlib.Omega.{arith}
-use mathlib.Core.Bool.{Bool, true, false, _&&_}
-use mathlib.Core.Path.{_≡_, refl, _∙_}
+use native.Mathlib.Nat.{le-trans}
+use mathlib.Core.Bool.{Bool, true, false}
+use mathlib.Core.Path.{_≡_, _∙_}
 use mathlib.Core.List.{List, [], _∷_}
 use lib.Dec.{eqb, leb}
 use lib.ListN.{length, length-set, length-replicate}
 use borrow.Author.Tests.{leb-true, eq-eqb}
-use Rattle.model.specs.Limits.{nodeLimit, queueLimit, trafficEnd}
 use Rattle.model.specs.Counts.{countAt, noCounts, one}
-use Rattle.model.specs.Range.{nodeInRange, messageInRange, countInRange, isPair}
-use Rattle.model.specs.State.{State, goes, howMany, waiting, countsOf, allWaiting, every, upTo, addsUp, baseInRange, countsInRange, trafficInRange, inRange}
+use Rattle.model.specs.Range.{PairRule, pairRule, isWithinTower, nodeInRange, messageInRange, countInRange, isPair}
+use Rattle.model.specs.State.{inRange, goes, howMany, waiting, countsOf, allWaitingBy, every, upTo, addsUp, baseInRange, countsInRange, trafficInRange}
 use Rattle.model.proofs.Local.{both-left, both-right}
 use Rattle.model.proofs.Fields.{Counting, Hold, parts}
 use Rattle.model.proofs.Counts.{more-at, none-counted, upTo-all, pair-counting}
-use Rattle.model.proofs.Range.{both}
 use Rattle.model.proofs.InRange.{every-replicate, more-each, none-in}
+use Rattle.model.specs.declared.Limits.{Limits}
 use Rattle.model.specs.declared.Node.{Node}
 use Rattle.model.specs.declared.Message.{Message}
 
@@ -54,28 +54,31 @@ module _ (n : ℕ) (small : n ≤ 16) where
       let c = counts-at (k + 1) ms r (m .sender) (m .receiver) (pair-counting n (m .sender) (m .receiver) small x) in
       more-each n (countsOf ms) (m .sender) (m .receiver) small x (counts-each (k + 1) ms r (omega arith)) (omega (arith, c, many-few (goes (m .sender) (m .receiver)) ms))
 
-pub waiting-in : (n : ℕ) (cs : List Node) (q : List Message) → baseInRange n cs q ≡ true → inRange (allWaiting n cs q) ≡ true
+pub waiting-in : (rule : PairRule) (n : ℕ) (lim : Limits) (cs : List Node) (q : List Message) → pairRule rule lim ≡ true → isWithinTower lim ≡ true → baseInRange lim n cs q ≡ true
+    → inRange (allWaitingBy rule n lim cs q) ≡ true
 unfolding inRange trafficInRange countsInRange
-waiting-in n cs q e =
+waiting-in rule n lim cs q p w e =
     rw (
+      p,
+      w,
       e,
       eq-eqb _ 256 (counts-long q),
       counts-each n small 1 q each few,
       every-replicate (countInRange n) 0 256 0 (none-in n),
-      upTo-all n (λ a. upTo n (λ b. addsUp (allWaiting n cs q) a b)) (λ a i j. upTo-all n (λ b. addsUp (allWaiting n cs q) a b) (λ b k m.
+      upTo-all n (λ a. upTo n (λ b. addsUp (allWaitingBy rule n lim cs q) a b)) (λ a i j. upTo-all n (λ b. addsUp (allWaitingBy rule n lim cs q) a b) (λ b k m.
           let p : Counting a b = record { low = i; high = omega (arith, small); low-to = k; high-to = omega (arith, small) } in
           eq-eqb (countAt (countsOf q) a b) (countAt noCounts a b + countAt noCounts a b + waiting q a b) (omega (arith, counts-at n small 1 q each a b p, none-counted a b p)))),
     )
   where
     -- the tests after the first
-    tests : Hold (leb 1 n ∷ leb n nodeLimit ∷ eqb (length cs) n ∷ leb (length q) queueLimit ∷ every (nodeInRange n) 1 cs ∷ every (λ k. messageInRange n) 1 q ∷ [])
-    tests = parts (leb 1 n) (leb n nodeLimit ∷ eqb (length cs) n ∷ leb (length q) queueLimit ∷ every (nodeInRange n) 1 cs ∷ every (λ k. messageInRange n) 1 q ∷ []) e
+    tests : Hold (leb 1 n ∷ leb n (lim .nodes) ∷ eqb (length cs) n ∷ leb (length q) (lim .messages) ∷ every (nodeInRange n) 1 cs ∷ every (λ k. messageInRange n) 1 q ∷ [])
+    tests = parts (leb 1 n) (leb n (lim .nodes) ∷ eqb (length cs) n ∷ leb (length q) (lim .messages) ∷ every (nodeInRange n) 1 cs ∷ every (λ k. messageInRange n) 1 q ∷ []) e
 
     small : n ≤ 16
-    small = leb-true n 16 (tests .1 .0)
+    small = le-trans (leb-true n (lim .nodes) (tests .1 .0)) (leb-true _ _ (both-left (leb (lim .nodes) 16) _ w))
 
     few : length q ≤ 64
-    few = leb-true (length q) 64 (tests .1 .1 .1 .0)
+    few = le-trans (leb-true (length q) (lim .messages) (tests .1 .1 .1 .0)) (leb-true _ _ (both-right (leb (lim .nodes) 16) _ w))
 
     each : every (λ k. messageInRange n) 1 q ≡ true
     each = tests .1 .1 .1 .1 .1 .0

@@ -1,28 +1,29 @@
 -- Demand 3: the invariant holds along every run, and the claims follow.
-use Prim.Native.Nat.{ℕ, zero, suc, _+_, _-_, _*_, _/_, _%_, _<_, _≤_}
+use Prim.Native.Nat.{ℕ, _+_, _-_, _≤_}
 use native.Mathlib.Omega.{arith}
 use native.Mathlib.Nat.{le-trans, le-refl}
-use mathlib.Core.Bool.{Bool, true, false, not, _&&_, true≢false}
+use mathlib.Core.Bool.{Bool, true, false, true≢false}
 use mathlib.Core.Path.{_≡_, refl, sym, _∙_, ap, subst}
 use mathlib.Core.Logic.{_⊎_, ⊎-elim}
 use mathlib.Core.List.{List, [], _∷_, _++_}
-use lib.Dec.{eqb, leb}
-use lib.ListN.{length, getD, set, replicate, length-set, length-replicate, getD-replicate}
+use lib.Dec.{eqb}
+use lib.ListN.{length, getD, set, length-set, length-replicate, getD-replicate}
 use lib.Seq.{getD-set-same, getD-set-other}
 use borrow.Author.Tests.{eqb-true, eqb-false, not-false}
-use Rattle.model.specs.Pick.{pick, by-test}
-use Rattle.model.specs.Node.{isDown, ownerOf, counterOf, isActive}
+use Rattle.model.specs.Pick.{by-test}
+use Rattle.model.specs.Node.{ownerOf, counterOf, isActive}
 use Rattle.model.specs.React.{react}
-use Rattle.model.specs.Range.{carriesGroup}
-use Rattle.model.specs.State.{State, startingNode, start, nodeAt, noMessage, goes, oldest, withoutOldest}
-use Rattle.model.specs.Step.{actor, reactionTo, remaining, sent, effect, wrongStatus, wrongActivity, noneWaits, forms, Result, refused, accepted, step, kept, after, runFrom, run}
-use Rattle.model.specs.History.{Entry, NotFormed, NoTask, Task, History, blank, newest, coming, marked, given, noted, historyFrom, history}
+use Rattle.model.specs.Range.{PairRule, carriesGroup}
+use Rattle.model.specs.State.{State, startingNode, startBy, nodeAt, noMessage, oldest, withoutOldest}
+use Rattle.model.specs.Step.{actor, reactionTo, remaining, sent, effect, wrongStatus, wrongActivity, noneWaits, forms, Result, step, kept, after, runFrom, runBy}
+use Rattle.model.specs.History.{Task, History, blank, coming, marked, given, noted, historyFrom, historyBy}
 use Rattle.model.specs.Claims.{Unsent, Lacks, EachGroup, RunFixes}
 use Rattle.model.proofs.Judged.{Clear, by-step, Accepted, accepted-is}
 use Rattle.model.proofs.Invariant.{NodeNumber, Led, Gathering, NodeOk, MessageOk, HistoryOk, OutgoingOk, MarkOk, ReactionOk, Extends, extends-refl, extends-trans, owner-of, counter-of, message-extends, node-extends, task-is, coming-not-formed, marked-extends, marked-ok, tasked-extends, tasked-ok}
 use Rattle.model.proofs.Local.{stays-ok, react-ok, collecting-gathers, finish-ok}
 use Rattle.model.proofs.Numbers.{actor-in}
 use Rattle.model.proofs.Origin.{finish-mark, Source, group-source, oldest-held, Carries, group-sent}
+use Rattle.model.specs.declared.Limits.{Limits}
 use Rattle.model.specs.declared.Status.{Status}
 use Rattle.model.specs.declared.Status.the-variants.{Down, Election, Reorganization, Normal}
 use Rattle.model.specs.declared.Node.{Node}
@@ -32,7 +33,6 @@ use Rattle.model.specs.declared.Outgoing.{Outgoing}
 use Rattle.model.specs.declared.Outgoing.the-variants.{Nothing, Send}
 use Rattle.model.specs.declared.Mark.{Mark}
 use Rattle.model.specs.declared.Mark.the-variants.{Plain, Recovers, Merges}
-use Rattle.model.specs.declared.Reaction.{Reaction}
 use Rattle.model.specs.declared.Input.the-variants as Input
 use Rattle.model.specs.declared.Event.{Event}
 use Rattle.model.specs.declared.Event.the-variants.{Crash, Recover, Check, Timeout, Tick, Expire, Finish, Deliver, Lose}
@@ -212,8 +212,8 @@ unfolding historyFrom runFrom
 history-append h s [] fs = refl
 history-append h s (e ∷ es) fs = history-append (noted h e (step s e)) (after s e) es fs
 
-start-good : (n : ℕ) → n ≤ 16 → Good blank (start n)
-start-good n h =
+start-good : (rule : PairRule) (n : ℕ) (lim : Limits) → n ≤ 16 → Good blank (startBy rule n lim)
+start-good rule n lim h =
     record {
       history = record { ahead = λ g l. refl };
       state = record {
@@ -307,78 +307,78 @@ all-sent : (P : ℕ → Type 0) (g : ℕ) (o : Outgoing) → Carries g o → P g
 all-sent P g Nothing c h = tt
 all-sent P g (Send m) c h = ((λ e. subst P (sym (c e)) h), tt)
 
-pub run-fixes : (n : ℕ) → n ≤ 16 → RunFixes n
+pub run-fixes : (rule : PairRule) (n : ℕ) (lim : Limits) → n ≤ 16 → RunFixes rule n lim
 unfolding effect wrongActivity runFrom
-run-fixes n small =
+run-fixes rule n lim small =
     record {
       same-coordinator = λ es i j l h l′ h′ a a′ q.
           let c = good es .state .nodes in
-          led-active (nodeAt (run n es) i .status) _ _ a (c i l (reach es h) .led) ∙ ap ownerOf q ∙ sym (led-active (nodeAt (run n es) j .status) _ _ a′ (c j l′ (reach es h′) .led));
-      same-task = λ es i j l h l′ h′ a a′ q. task-is _ _ (sym (settled es i l h a) ∙ ap (history n es .entry) q ∙ settled es j l′ h′ a′);
+          led-active (nodeAt (runBy rule n lim es) i .status) _ _ a (c i l (reach es h) .led) ∙ ap ownerOf q ∙ sym (led-active (nodeAt (runBy rule n lim es) j .status) _ _ a′ (c j l′ (reach es h′) .led));
+      same-task = λ es i j l h l′ h′ a a′ q. task-is _ _ (sym (settled es i l h a) ∙ ap (historyBy rule n lim es .entry) q ∙ settled es j l′ h′ a′);
       fixed-task = λ es fs i l h e. growth es fs .lasts _ _ (settled es i l h e);
-      numbered = λ es e u k q f. group-number es e u k f (accepted-is (run n es) e u k q);
-      fresh = λ es fs e u k q f. lacks-coming (history n es) (history n (es ++ fs)) (run n es) (actor e) (actor-number (es ++ fs) e (accepted-is (run n (es ++ fs)) e u k q .clear)) (good es .state) (growth es fs);
-      borrowed = λ es e u k q f j l h x. none-new es e u k f j l h (accepted-is (run n es) e u k q) x;
-      borrowed-messages = λ es e u k q. messages-held es e u k (accepted-is (run n es) e u k q);
-      formed-once = λ es e u k q f. coming-not-formed (history n es) (actor e) (actor-number es e (accepted-is (run n es) e u k q .clear)) (good es .history);
-      given-once = λ es i t u k q. collects es i t (accepted-is (run n es) (Finish i t) u k q .clear) .undecided;
-      own-group = λ es i t u k q. collects es i t (accepted-is (run n es) (Finish i t) u k q .clear) .own;
+      numbered = λ es e u k q f. group-number es e u k f (accepted-is (runBy rule n lim es) e u k q);
+      fresh = λ es fs e u k q f. lacks-coming (historyBy rule n lim es) (historyBy rule n lim (es ++ fs)) (runBy rule n lim es) (actor e) (actor-number (es ++ fs) e (accepted-is (runBy rule n lim (es ++ fs)) e u k q .clear)) (good es .state) (growth es fs);
+      borrowed = λ es e u k q f j l h x. none-new es e u k f j l h (accepted-is (runBy rule n lim es) e u k q) x;
+      borrowed-messages = λ es e u k q. messages-held es e u k (accepted-is (runBy rule n lim es) e u k q);
+      formed-once = λ es e u k q f. coming-not-formed (historyBy rule n lim es) (actor e) (actor-number es e (accepted-is (runBy rule n lim es) e u k q .clear)) (good es .history);
+      given-once = λ es i t u k q. collects es i t (accepted-is (runBy rule n lim es) (Finish i t) u k q .clear) .undecided;
+      own-group = λ es i t u k q. collects es i t (accepted-is (runBy rule n lim es) (Finish i t) u k q .clear) .own;
       lasts = λ es fs g t e. growth es fs .lasts g t e;
     }
   where
-    good : (es : List Event) → Good (history n es) (run n es)
-    good es = good-run blank (start n) es (start-good n small)
+    good : (es : List Event) → Good (historyBy rule n lim es) (runBy rule n lim es)
+    good es = good-run blank (startBy rule n lim) es (start-good rule n lim small)
 
     -- every table of a run has n nodes
     same-n : (s : State) (es : List Event) → s .n ≡ n → runFrom s es .n ≡ n
     same-n s [] q = q
     same-n s (e ∷ es) q = same-n (after s e) es (by-step (λ r. kept s r .n ≡ n) s e (λ x. q) (λ c _. effect-n s e ∙ q))
 
-    reach : (es : List Event) {i : ℕ} → i ≤ n → i ≤ run n es .n
-    reach es h = omega (arith, same-n (start n) es refl, h)
+    reach : (es : List Event) {i : ℕ} → i ≤ n → i ≤ runBy rule n lim es .n
+    reach es h = omega (arith, same-n (startBy rule n lim) es refl, h)
 
     -- a Normal node's task is the history's
-    settled : (es : List Event) (i : ℕ) → 1 ≤ i → i ≤ n → nodeAt (run n es) i .status ≡ Normal → history n es .entry (nodeAt (run n es) i .group .number) ≡ Task (nodeAt (run n es) i .task .number)
+    settled : (es : List Event) (i : ℕ) → 1 ≤ i → i ≤ n → nodeAt (runBy rule n lim es) i .status ≡ Normal → historyBy rule n lim es .entry (nodeAt (runBy rule n lim es) i .group .number) ≡ Task (nodeAt (runBy rule n lim es) i .task .number)
     settled es i l h e = rw e at (good es .state .nodes i l (reach es h) .settled)
 
-    event : (es : List Event) (e : Event) → Clear (run n es) e → EventOk (history n es) (run n es) e
-    event es e c = event-ok (history n es) (run n es) (good es .history) (good es .state) e c
+    event : (es : List Event) (e : Event) → Clear (runBy rule n lim es) e → EventOk (historyBy rule n lim es) (runBy rule n lim es) e
+    event es e c = event-ok (historyBy rule n lim es) (runBy rule n lim es) (good es .history) (good es .state) e c
 
-    actor-number : (es : List Event) (e : Event) → Clear (run n es) e → NodeNumber (actor e)
-    actor-number es e c = let x = event es e c in number (history n es) (run n es) (good es .history) (good es .state) (actor e) (x .low, x .high)
+    actor-number : (es : List Event) (e : Event) → Clear (runBy rule n lim es) e → NodeNumber (actor e)
+    actor-number es e c = let x = event es e c in number (historyBy rule n lim es) (runBy rule n lim es) (good es .history) (good es .state) (actor e) (x .low, x .high)
 
-    formed-number : (es : List Event) (e : Event) (k : Mark) → forms k ≡ true → Clear (run n es) e → k ≡ reactionTo (run n es) e .mark
-        → reactionTo (run n es) e .node .group .number ≡ coming (history n es) (actor e)
+    formed-number : (es : List Event) (e : Event) (k : Mark) → forms k ≡ true → Clear (runBy rule n lim es) e → k ≡ reactionTo (runBy rule n lim es) e .mark
+        → reactionTo (runBy rule n lim es) e .node .group .number ≡ coming (historyBy rule n lim es) (actor e)
     formed-number es e k f c q =
-        let g : forms (reactionTo (run n es) e .mark) ≡ true = rw (← q) f in
-        mark-number (given (history n es) e) (actor e) _ (reactionTo (run n es) e .mark) g (event es e c .reaction .mark)
-        ∙ ap (λ (d : History). coming d (actor e)) (forming-gives-none (history n es) (run n es) e g)
+        let g : forms (reactionTo (runBy rule n lim es) e .mark) ≡ true = rw (← q) f in
+        mark-number (given (historyBy rule n lim es) e) (actor e) _ (reactionTo (runBy rule n lim es) e .mark) g (event es e c .reaction .mark)
+        ∙ ap (λ (d : History). coming d (actor e)) (forming-gives-none (historyBy rule n lim es) (runBy rule n lim es) e g)
 
-    group-number : (es : List Event) (e : Event) (u : State) (k : Mark) → forms k ≡ true → Accepted (run n es) e u k → nodeAt u (actor e) .group .number ≡ coming (history n es) (actor e)
+    group-number : (es : List Event) (e : Event) (u : State) (k : Mark) → forms k ≡ true → Accepted (runBy rule n lim es) e u k → nodeAt u (actor e) .group .number ≡ coming (historyBy rule n lim es) (actor e)
     group-number es e u k f a =
         ap (λ (v : State). nodeAt v (actor e) .group .number) (a .state)
-        ∙ ap (λ (c : Node). c .group .number) (stored (history n es) (run n es) (good es .history) (good es .state) e (event es e (a .clear)))
+        ∙ ap (λ (c : Node). c .group .number) (stored (historyBy rule n lim es) (runBy rule n lim es) (good es .history) (good es .state) e (event es e (a .clear)))
         ∙ formed-number es e k f (a .clear) (a .mark)
 
-    none-new : (es : List Event) (e : Event) (u : State) (k : Mark) → forms k ≡ false → (j : ℕ) → 1 ≤ j → j ≤ n → Accepted (run n es) e u k → Lacks (run n es) (nodeAt u j .group .number) → ⊥
+    none-new : (es : List Event) (e : Event) (u : State) (k : Mark) → forms k ≡ false → (j : ℕ) → 1 ≤ j → j ≤ n → Accepted (runBy rule n lim es) e u k → Lacks (runBy rule n lim es) (nodeAt u j .group .number) → ⊥
     none-new es e u k f j l v a lacks =
         let x = event es e (a .clear) in
         by-number (eqb j (actor e)) refl x
-        (subst (λ (w : State). Lacks (run n es) (nodeAt w j .group .number)) (a .state) lacks)
+        (subst (λ (w : State). Lacks (runBy rule n lim es) (nodeAt w j .group .number)) (a .state) lacks)
       where
         s : State
-        s = run n es
+        s = runBy rule n lim es
 
-        by-number : (b : Bool) → eqb j (actor e) ≡ b → EventOk (history n es) s e → Lacks s (getD (set (s .nodes) (actor e - 1) (reactionTo s e .node)) (j - 1) startingNode .group .number) → ⊥
+        by-number : (b : Bool) → eqb j (actor e) ≡ b → EventOk (historyBy rule n lim es) s e → Lacks s (getD (set (s .nodes) (actor e - 1) (reactionTo s e .node)) (j - 1) startingNode .group .number) → ⊥
         by-number true q x m =
-            let m′ = rw (eqb-true j (actor e) q, stored (history n es) s (good es .history) (good es .state) e x) at m in
+            let m′ = rw (eqb-true j (actor e) q, stored (historyBy rule n lim es) s (good es .history) (good es .state) e x) at m in
             source-held s e (a .clear) (x .low) (x .high) _ (group-source s e (rw (← a .mark) f)) m′
         by-number false q x m =
             let m′ = rw (getD-set-other (s .nodes) (actor e - 1) (j - 1) (reactionTo s e .node) startingNode (λ z. eqb-false j (actor e) q (omega (arith, x .low)))) at m in
             m′ .in-nodes j l (reach es v) refl
 
-    messages-held : (es : List Event) (e : Event) (u : State) (k : Mark) → Accepted (run n es) e u k
-        → EachGroup (λ g. Lacks (run n es) g → (forms k ≡ true) × (g ≡ coming (history n es) (actor e))) (u .queue)
+    messages-held : (es : List Event) (e : Event) (u : State) (k : Mark) → Accepted (runBy rule n lim es) e u k
+        → EachGroup (λ g. Lacks (runBy rule n lim es) g → (forms k ≡ true) × (g ≡ coming (historyBy rule n lim es) (actor e))) (u .queue)
     messages-held es e u k a =
         each-group New (u .queue)
         (subst (λ (w : State). All P (w .queue)) (sym (a .state))
@@ -387,10 +387,10 @@ run-fixes n small =
         (all-sent New (reactionTo s e .node .group .number) (reactionTo s e .outgoing) (group-sent s e) (by-mark (forms k) refl))))
       where
         s : State
-        s = run n es
+        s = runBy rule n lim es
 
         New : ℕ → Type 0
-        New g = Lacks s g → (forms k ≡ true) × (g ≡ coming (history n es) (actor e))
+        New g = Lacks s g → (forms k ≡ true) × (g ≡ coming (historyBy rule n lim es) (actor e))
 
         P : Message → Type 0
         P m = carriesGroup (m .kind) ≡ true → New (m .group .number)
@@ -401,10 +401,10 @@ run-fixes n small =
             let y = event es e (a .clear) in
             absurd (source-held s e (a .clear) (y .low) (y .high) _ (group-source s e (rw (← a .mark) f)) x)
 
-    collects : (es : List Event) (i : ℕ) (t : TaskNo) → Clear (run n es) (Finish i t) → Gathering (history n es) i (nodeAt (run n es) i .group .number)
+    collects : (es : List Event) (i : ℕ) (t : TaskNo) → Clear (runBy rule n lim es) (Finish i t) → Gathering (historyBy rule n lim es) i (nodeAt (runBy rule n lim es) i .group .number)
     collects es i t c =
         let x = event es (Finish i t) c in
-        collecting-gathers (nodeAt (run n es) i .task .number) (nodeAt (run n es) i .activity) (not-false _ (c .activity)) (good es .state .nodes i (x .low) (x .high) .busy)
+        collecting-gathers (nodeAt (runBy rule n lim es) i .task .number) (nodeAt (runBy rule n lim es) i .activity) (not-false _ (c .activity)) (good es .state .nodes i (x .low) (x .high) .busy)
 
-    growth : (es fs : List Event) → Grows (history n es) (history n (es ++ fs))
-    growth es fs = rw (history-append blank (start n) es fs) (run-grows (history n es) (run n es) fs (good es))
+    growth : (es fs : List Event) → Grows (historyBy rule n lim es) (historyBy rule n lim (es ++ fs))
+    growth es fs = rw (history-append blank (startBy rule n lim) es fs) (run-grows (historyBy rule n lim es) (runBy rule n lim es) fs (good es))

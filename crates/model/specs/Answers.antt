@@ -4,7 +4,7 @@ use Rattle.model.specs.Step.{Result, refused, accepted}
 use Rattle.model.specs.declared.Status.{Status}
 use Rattle.model.specs.declared.Status.the-variants.{Down, Election, Reorganization, Normal}
 use Rattle.model.specs.declared.StartAnswer.{StartAnswer}
-use Rattle.model.specs.declared.StartAnswer.the-variants.{Started, WrongCount}
+use Rattle.model.specs.declared.StartAnswer.the-variants.{Started, WrongLimits, WrongCount}
 use Rattle.model.specs.declared.Answer.{Answer}
 use Rattle.model.specs.declared.Answer.the-variants.{Accepted, NotInRange, WrongNumber, WrongTask, WrongStatus, WrongActivity, NotCoordinator, NoMessage, CounterAtEnd, CallsAtEnd, QueueFull, SentAtEnd}
 
@@ -18,6 +18,7 @@ statusNumber Normal = 3
 -- the number of the refusal of a starting table
 abbrev pub startNumber : StartAnswer → ℕ
 startNumber Started = 0
+startNumber WrongLimits = 1
 startNumber WrongCount = 6
 
 -- the number of the refusal

@@ -1,5 +1,5 @@
 -- "Named cases": what is claimed of K1 to K13, jointly, over the definitions. Where 01 names one side of a rule, the other side stands beside it. "Wrong
--- turnings in this protocol" follow, then further cases, those of 02's T-03 to T-06, and the ends of what is in range. The tables are in range where nothing else is said;
+-- turnings in this protocol" follow, then further cases, those of 02's T-03 to T-06, and the ends of what is in range; T-08's stand is beside K1 to K13. The tables are in range, and those of the tower, where nothing else is said;
 -- not each of them is one that a run reaches.
 use Prim.Native.Nat.{ℕ, _+_}
 use mathlib.Core.Bool.{Bool, true, false}
@@ -8,14 +8,16 @@ use mathlib.Core.List.{List, [], _∷_, _++_, map}
 use lib.ListN.{length, set, replicate}
 use Rattle.node_set.specs.NodeSet.{with, count}
 use Rattle.model.specs.Pick.{pick}
+use Rattle.model.specs.Limits.{tower, stand}
 use Rattle.model.specs.Counts.{pairPlace, countAt, noCounts, total}
 use Rattle.model.specs.Node.{groupOf, asks, calls, readies, replies}
 use Rattle.model.specs.Recovery.{recoveryRecords, stopped}
-use Rattle.model.specs.Range.{nodeInRange, messageInRange}
-use Rattle.model.specs.State.{State, startingNode, start, wrongCount, nodeAt, allWaiting, countsAside, countsInRange, inRange}
-use Rattle.model.specs.Step.{Result, refused, accepted, aside, step, after, runFrom, run}
-use Rattle.model.specs.History.{Entry, NoTask, Task, history}
-use Rattle.model.specs.Answers.{statusNumber, answerNumber}
+use Rattle.model.specs.Range.{TwoPairs, LeftOut, nodeInRange, messageInRange}
+use Rattle.model.specs.State.{State, startingNode, startBy, start, wrongCount, nodeAt, allWaiting, countsAside, countsInRange, inRange}
+use Rattle.model.specs.Step.{refused, accepted, aside, step, after, runFrom, runBy, run}
+use Rattle.model.specs.History.{NoTask, Task, history}
+use Rattle.model.specs.Answers.{statusNumber, startNumber, answerNumber}
+use Rattle.model.specs.declared.Limits.{Limits}
 use Rattle.model.specs.declared.Status.{Status}
 use Rattle.model.specs.declared.Status.the-variants.{Down, Election, Reorganization, Normal}
 use Rattle.model.specs.declared.Activity.{Activity}
@@ -26,6 +28,7 @@ use Rattle.model.specs.declared.CallNo.{CallNo}
 use Rattle.model.specs.declared.GroupNo.{GroupNo}
 use Rattle.model.specs.declared.Message.{Message}
 use Rattle.model.specs.declared.Mark.the-variants.{Plain, Recovers, Merges}
+use Rattle.model.specs.declared.StartAnswer.the-variants.{Started, WrongLimits, WrongCount}
 use Rattle.model.specs.declared.Answer.the-variants.{NotCoordinator, SentAtEnd}
 use Rattle.model.specs.declared.Event.{Event}
 use Rattle.model.specs.declared.Event.the-variants.{Crash, Recover, Check, Timeout, Tick, Expire, Finish, Deliver, Lose}
@@ -64,7 +67,9 @@ none = setOf []
 -- T-05: the table with d more messages from a to b that were sent and delivered, and l more that were sent and lost
 abbrev pub past : ℕ → ℕ → ℕ → ℕ → State → State
 past a b d l s = record {
+  rule = s .rule;
   n = s .n;
+  limits = s .limits;
   nodes = s .nodes;
   queue = s .queue;
   sent = set (s .sent) (pairPlace a b) (countAt (s .sent) a b + d + l);
@@ -75,22 +80,40 @@ past a b d l s = record {
 -- K5: 16 nodes, of which node 16 has the counter k and the group formed with it, and the others are as at the start
 abbrev pub counted : Status → Activity → ℕ → State
 counted s a k =
-    allWaiting 16
+    allWaiting 16 tower
     (set (replicate 16 startingNode) 15
     (record { status = s; counter = k; group = groupNo (groupOf k 16); coordinator = 16; task = taskNo 16; members = none; last = callNo 16; activity = a }))
     []
 
--- two nodes: node 1 is Normal in its own group 16, and node 2 is c
-abbrev pub beside : Node → List Message → State
-beside c q =
-    allWaiting 2
+-- the same of the stand's node 4, Down and idle
+abbrev pub standCounted : ℕ → State
+standCounted k =
+    allWaiting 4 stand
+    (startingNode
+    ∷ startingNode
+    ∷ startingNode
+    ∷ record { status = Down; counter = k; group = groupNo (groupOf k 4); coordinator = 4; task = taskNo 4; members = none; last = callNo 4; activity = Idle }
+    ∷ [])
+    []
+
+-- two nodes in a table with the limits l: node 1 is Normal in its own group 16, and node 2 is c
+abbrev pub besideIn : Limits → Node → List Message → State
+besideIn l c q =
+    allWaiting 2 l
     (record { status = Normal; counter = 1; group = groupNo 16; coordinator = 1; task = taskNo 1; members = none; last = callNo 3; activity = Idle } ∷ c ∷ [])
     q
 
 -- node 2 as the coordinator of its group 33, with the members m and two former calls
+abbrev pub pairIn : Limits → Status → ℕ → Activity → List Message → State
+pairIn l s m a q =
+    besideIn l (record { status = s; counter = 2; group = groupNo 33; coordinator = 2; task = taskNo 100; members = m; last = callNo 2; activity = a }) q
+
+-- both in the tower
+abbrev pub beside : Node → List Message → State
+beside c q = besideIn tower c q
+
 abbrev pub pair : Status → ℕ → Activity → List Message → State
-pair s m a q =
-    beside (record { status = s; counter = 2; group = groupNo 33; coordinator = 2; task = taskNo 100; members = m; last = callNo 2; activity = a }) q
+pair s m a q = pairIn tower s m a q
 
 -- node 2 in group g of node 1, with the task t, the members m and the last call number k
 abbrev pub follower : Status → ℕ → ℕ → ℕ → ℕ → Activity → Node
@@ -106,12 +129,26 @@ alone = record { status = Normal; counter = 3; group = groupNo 49; coordinator =
 
 -- three nodes: node 1 is c, and the others are as at the start
 abbrev pub first : Node → List Message → State
-first c q = allWaiting 3 (c ∷ startingNode ∷ startingNode ∷ []) q
+first c q = allWaiting 3 tower (c ∷ startingNode ∷ startingNode ∷ []) q
 
 -- node 1 as the coordinator of its group 16, with the members 2 and 3 and the last call number k
 abbrev pub leader : Status → ℕ → Activity → Node
 leader s k a =
     record { status = s; counter = 1; group = groupNo 16; coordinator = 1; task = taskNo 100; members = setOf (2 ∷ 3 ∷ []); last = callNo k; activity = a }
+
+-- node 2 of two, with the counter k and the last call number l, waits for its last tick; it has found node 1
+abbrev pub endingIn : Limits → ℕ → ℕ → List Message → State
+endingIn lim k l q =
+    besideIn lim (record {
+      status = Normal;
+      counter = k;
+      group = groupNo 17;
+      coordinator = 2;
+      task = taskNo 2;
+      members = none;
+      last = callNo l;
+      activity = Waiting 1 (setOf (1 ∷ []));
+    }) q
 
 -- ── messages: node 1's third call, to node 2, and the plain reply to it ──
 
@@ -151,26 +188,34 @@ k10 = collecting ++ (Finish 2 (taskNo 100) ∷ Deliver 2 1 ∷ Deliver 1 2 ∷ [
 abbrev pub foundThree : List Event
 foundThree = Recover 1 ∷ Recover 3 ∷ Check 1 ∷ Expire 1 ∷ Deliver 1 3 ∷ Deliver 3 1 ∷ []
 
+-- T-08: four nodes recover; each asks the others one after another, and gives each call up
+abbrev pub asksAll : ℕ → List Event
+asksAll i = Check i ∷ Expire i ∷ Expire i ∷ Expire i ∷ []
+
+abbrev pub allAsk : List Event
+allAsk = Recover 1 ∷ Recover 2 ∷ Recover 3 ∷ Recover 4 ∷ (asksAll 1 ++ (asksAll 2 ++ (asksAll 3 ++ asksAll 4)))
+
 -- ── K1 to K13 ──
 
+-- in the tower
 pub record NamedCases : Type 0 where
   -- "K1 n = 0 and 17: 6; 1 and 16 pass."
-  pub k1-low : wrongCount 0 ≡ true
-  pub k1-high : wrongCount 17 ≡ true
-  pub k1-first : wrongCount 1 ≡ false
-  pub k1-last : wrongCount 16 ≡ false
+  pub k1-low : wrongCount (tower .nodes) 0 ≡ true
+  pub k1-high : wrongCount (tower .nodes) 17 ≡ true
+  pub k1-first : wrongCount (tower .nodes) 1 ≡ false
+  pub k1-last : wrongCount (tower .nodes) 16 ≡ false
   -- "K2 n = 2, recover 1: group 16, task 1, Normal."
-  pub k2 : printedFields (run 2 (Recover 1 ∷ [])) 1 ≡ 1 ∷ 3 ∷ 1 ∷ 16 ∷ 1 ∷ 1 ∷ 0 ∷ []
+  pub k2 : printedFields (run 2 tower (Recover 1 ∷ [])) 1 ≡ 1 ∷ 3 ∷ 1 ∷ 16 ∷ 1 ∷ 1 ∷ 0 ∷ []
   -- the history has it with its solo task
-  pub k2-task : history 2 (Recover 1 ∷ []) .entry 16 ≡ Task 1
+  pub k2-task : history 2 tower (Recover 1 ∷ []) .entry 16 ≡ Task 1
   -- the other node stays as it was
-  pub k2-other : printedFields (run 2 (Recover 1 ∷ [])) 2 ≡ 2 ∷ 0 ∷ 0 ∷ 0 ∷ 0 ∷ 0 ∷ 0 ∷ []
+  pub k2-other : printedFields (run 2 tower (Recover 1 ∷ [])) 2 ≡ 2 ∷ 0 ∷ 0 ∷ 0 ∷ 0 ∷ 0 ∷ 0 ∷ []
   -- with members before: they are emptied, and the last call number is kept
   pub k2-emptied : aside (step (pair Down (setOf (1 ∷ [])) Idle []) (Recover 2)) ≡ accepted (beside alone []) Recovers
   -- "K3 recover 1 again: 9."
-  pub k3 : step (run 2 (Recover 1 ∷ [])) (Recover 1) ≡ refused 9
+  pub k3 : step (run 2 tower (Recover 1 ∷ [])) (Recover 1) ≡ refused 9
   -- "K4 crash 1, recover 1: group 32."
-  pub k4 : printedFields (run 2 (Recover 1 ∷ Crash 1 ∷ Recover 1 ∷ [])) 1 ≡ 1 ∷ 3 ∷ 1 ∷ 32 ∷ 1 ∷ 2 ∷ 0 ∷ []
+  pub k4 : printedFields (run 2 tower (Recover 1 ∷ Crash 1 ∷ Recover 1 ∷ [])) 1 ≡ 1 ∷ 3 ∷ 1 ∷ 32 ∷ 1 ∷ 2 ∷ 0 ∷ []
   -- a crash ends what the node does: all else is kept, and messages keep waiting
   pub k4-crash : aside (step (pair Normal (setOf (1 ∷ [])) (Asking 1 none) (invitation 16)) (Crash 2)) ≡ accepted (pair Down (setOf (1 ∷ [])) Idle (invitation 16)) Plain
   -- "K5 cabinet 16 with counter 1,048,574 recovers into group 16,777,215; with 1,048,575: 12."
@@ -182,25 +227,25 @@ pub record NamedCases : Type 0 where
   -- where none was found, no group is needed
   pub k5-no-group : countsAside (after (counted Normal (Asking 15 none) 1048575) (Expire 16)) ≡ counted Normal Idle 1048575
   -- "K6 finish by a collecting cabinet: task 99 gives 8, 100 passes."
-  pub k6-collects : nodeAt (run 2 collecting) 2 .activity ≡ Collecting
-  pub k6-refused : step (run 2 collecting) (Finish 2 (taskNo 99)) ≡ refused 8
-  pub k6-passes : printedFields (after (run 2 collecting) (Finish 2 (taskNo 100))) 2 ≡ 2 ∷ 2 ∷ 2 ∷ 33 ∷ 100 ∷ 2 ∷ 1 ∷ []
+  pub k6-collects : nodeAt (run 2 tower collecting) 2 .activity ≡ Collecting
+  pub k6-refused : step (run 2 tower collecting) (Finish 2 (taskNo 99)) ≡ refused 8
+  pub k6-passes : printedFields (after (run 2 tower collecting) (Finish 2 (taskNo 100))) 2 ≡ 2 ∷ 2 ∷ 2 ∷ 33 ∷ 100 ∷ 2 ∷ 1 ∷ []
   -- the other end of the tasks
-  pub k6-last : printedFields (after (run 2 collecting) (Finish 2 (taskNo 65535))) 2 ≡ 2 ∷ 2 ∷ 2 ∷ 33 ∷ 65535 ∷ 2 ∷ 1 ∷ []
-  pub k6-high : step (run 2 collecting) (Finish 2 (taskNo 65536)) ≡ refused 8
+  pub k6-last : printedFields (after (run 2 tower collecting) (Finish 2 (taskNo 65535))) 2 ≡ 2 ∷ 2 ∷ 2 ∷ 33 ∷ 65535 ∷ 2 ∷ 1 ∷ []
+  pub k6-high : step (run 2 tower collecting) (Finish 2 (taskNo 65536)) ≡ refused 8
   -- with no member it is Normal at once
   pub k6-no-member : aside (step (pair Election none Collecting []) (Finish 2 (taskNo 100))) ≡ accepted (pair Normal none Idle []) Plain
   -- by one that is idle: 10, but 8 comes first
   pub k6-idle : step (pair Normal none Idle []) (Finish 2 (taskNo 100)) ≡ refused 10
   pub k6-idle-task : step (pair Normal none Idle []) (Finish 2 (taskNo 99)) ≡ refused 8
   -- "K7 n = 3, cabinet 1 found 3: it merges at the second tick."
-  pub k7-waits : nodeAt (run 3 foundThree) 1 .activity ≡ Waiting 2 (setOf (3 ∷ []))
-  pub k7-first : nodeAt (run 3 (foundThree ++ (Tick 1 ∷ []))) 1 .activity ≡ Waiting 1 (setOf (3 ∷ []))
-  pub k7-still : nodeAt (run 3 (foundThree ++ (Tick 1 ∷ []))) 1 .status ≡ Normal
-  pub k7-second : nodeAt (run 3 (foundThree ++ (Tick 1 ∷ Tick 1 ∷ []))) 1 .activity ≡ Inviting none none 3
-  pub k7-merges : printedFields (run 3 (foundThree ++ (Tick 1 ∷ Tick 1 ∷ []))) 1 ≡ 1 ∷ 1 ∷ 1 ∷ 32 ∷ 1 ∷ 2 ∷ 0 ∷ []
+  pub k7-waits : nodeAt (run 3 tower foundThree) 1 .activity ≡ Waiting 2 (setOf (3 ∷ []))
+  pub k7-first : nodeAt (run 3 tower (foundThree ++ (Tick 1 ∷ []))) 1 .activity ≡ Waiting 1 (setOf (3 ∷ []))
+  pub k7-still : nodeAt (run 3 tower (foundThree ++ (Tick 1 ∷ []))) 1 .status ≡ Normal
+  pub k7-second : nodeAt (run 3 tower (foundThree ++ (Tick 1 ∷ Tick 1 ∷ []))) 1 .activity ≡ Inviting none none 3
+  pub k7-merges : printedFields (run 3 tower (foundThree ++ (Tick 1 ∷ Tick 1 ∷ []))) 1 ≡ 1 ∷ 1 ∷ 1 ∷ 32 ∷ 1 ∷ 2 ∷ 0 ∷ []
   -- the question to 2 still waits; behind it, 3 is invited
-  pub k7-invites : run 3 (foundThree ++ (Tick 1 ∷ Tick 1 ∷ [])) .queue ≡ asks 1 2 (callNo 1) ∷ calls 1 3 3 (callNo 3) (groupNo 32) ∷ []
+  pub k7-invites : run 3 tower (foundThree ++ (Tick 1 ∷ Tick 1 ∷ [])) .queue ≡ asks 1 2 (callNo 1) ∷ calls 1 3 3 (callNo 3) (groupNo 32) ∷ []
   -- "K8 an invitation to a cabinet in Election changes nothing but the messages."
   pub k8 : countsAside (after (pair Election (setOf (1 ∷ [])) Collecting (invitation 16)) (Deliver 1 2)) ≡ pair Election (setOf (1 ∷ [])) Collecting plain
   -- nor to one in Reorganization, nor to one that owns the group (nor, by T-03, to one that holds it: HeldGroupCases)
@@ -224,16 +269,16 @@ pub record NamedCases : Type 0 where
   -- without an open call, the number does not help
   pub k9-no-call : countsAside (after (pair Election none Collecting (reply 2 true)) (Deliver 1 2)) ≡ pair Election none Collecting []
   -- "Case K10": what its lines print; 02, T-02: "K10 prints the same."
-  pub k10-first : printedFields (run 2 k10) 1 ≡ 1 ∷ 3 ∷ 2 ∷ 33 ∷ 100 ∷ 1 ∷ 0 ∷ []
-  pub k10-second : printedFields (run 2 k10) 2 ≡ 2 ∷ 3 ∷ 2 ∷ 33 ∷ 100 ∷ 2 ∷ 1 ∷ []
-  pub k10-messages : length (run 2 k10 .queue) ≡ 0
+  pub k10-first : printedFields (run 2 tower k10) 1 ≡ 1 ∷ 3 ∷ 2 ∷ 33 ∷ 100 ∷ 1 ∷ 0 ∷ []
+  pub k10-second : printedFields (run 2 tower k10) 2 ≡ 2 ∷ 3 ∷ 2 ∷ 33 ∷ 100 ∷ 2 ∷ 1 ∷ []
+  pub k10-messages : length (run 2 tower k10 .queue) ≡ 0
   -- 02, T-05: "K10 gains the lines `sent 8`, `delivered 8`, `lost 0`."
-  pub k10-sent : total (run 2 k10 .sent) ≡ 8
-  pub k10-delivered : total (run 2 k10 .delivered) ≡ 8
-  pub k10-lost : total (run 2 k10 .lost) ≡ 0
+  pub k10-sent : total (run 2 tower k10 .sent) ≡ 8
+  pub k10-delivered : total (run 2 tower k10 .delivered) ≡ 8
+  pub k10-lost : total (run 2 tower k10 .lost) ≡ 0
   -- the history's task of group 33, and before the finish none
-  pub k10-task : history 2 k10 .entry 33 ≡ Task 100
-  pub k10-no-task : history 2 collecting .entry 33 ≡ NoTask
+  pub k10-task : history 2 tower k10 .entry 33 ≡ Task 100
+  pub k10-no-task : history 2 tower collecting .entry 33 ≡ NoTask
   -- "K11 with 64 waiting, a check that must ask: 14; a delivery passes."
   pub k11-refused : step (pair Normal none Idle (queued 64)) (Check 1) ≡ refused 14
   pub k11-passes : countsAside (after (pair Normal none Idle (queued 64)) (Deliver 2 1)) ≡ pair Normal none Idle (queued 63 ++ (replies 1 2 (callNo 1) true ∷ []))
@@ -248,10 +293,74 @@ pub record NamedCases : Type 0 where
   pub k12-group : countsAside (after (pair Election none Collecting (accept 17)) (Deliver 1 2)) ≡ pair Election none Collecting plain
   pub k12-led : countsAside (after (beside (follower Election 16 100 none 2 Collecting) (accept 16)) (Deliver 1 2)) ≡ beside (follower Election 16 100 none 2 Collecting) plain
   -- "K13 n = 2, finish 9 with task 5: 7."
-  pub k13 : step (start 2) (Finish 9 (taskNo 5)) ≡ refused 7
+  pub k13 : step (start 2 tower) (Finish 9 (taskNo 5)) ≡ refused 7
   -- with the number of a node: 8; with a task as well: 9, as it is Down
-  pub k13-task : step (start 2) (Finish 2 (taskNo 5)) ≡ refused 8
-  pub k13-down : step (start 2) (Finish 2 (taskNo 100)) ≡ refused 9
+  pub k13-task : step (start 2 tower) (Finish 2 (taskNo 5)) ≡ refused 8
+  pub k13-down : step (start 2 tower) (Finish 2 (taskNo 100)) ≡ refused 9
+
+-- T-08: the same of the stand, which has "four cabinets and memory for 12 waiting messages"; and what its limits, and others, decide
+pub record StandCases : Type 0 where
+  -- K1: n = 0 and 5: 6; 1 and 4 pass
+  pub k1-low : wrongCount (stand .nodes) 0 ≡ true
+  pub k1-high : wrongCount (stand .nodes) 5 ≡ true
+  pub k1-first : wrongCount (stand .nodes) 1 ≡ false
+  pub k1-last : wrongCount (stand .nodes) 4 ≡ false
+  -- K2, K3 and K4
+  pub k2 : printedFields (run 2 stand (Recover 1 ∷ [])) 1 ≡ 1 ∷ 3 ∷ 1 ∷ 16 ∷ 1 ∷ 1 ∷ 0 ∷ []
+  pub k2-task : history 2 stand (Recover 1 ∷ []) .entry 16 ≡ Task 1
+  pub k3 : step (run 2 stand (Recover 1 ∷ [])) (Recover 1) ≡ refused 9
+  pub k4 : printedFields (run 2 stand (Recover 1 ∷ Crash 1 ∷ Recover 1 ∷ [])) 1 ≡ 1 ∷ 3 ∷ 1 ∷ 32 ∷ 1 ∷ 2 ∷ 0 ∷ []
+  -- K5: node 4 with counter 1,048,574 recovers into group 16,777,203; with 1,048,575: 12
+  pub k5-passes : printedFields (after (standCounted 1048574) (Recover 4)) 4 ≡ 4 ∷ 3 ∷ 4 ∷ 16777203 ∷ 4 ∷ 1048575 ∷ 0 ∷ []
+  pub k5-ends : step (standCounted 1048575) (Recover 4) ≡ refused 12
+  -- K6 to K10
+  pub k6-refused : step (run 2 stand collecting) (Finish 2 (taskNo 99)) ≡ refused 8
+  pub k6-passes : printedFields (after (run 2 stand collecting) (Finish 2 (taskNo 100))) 2 ≡ 2 ∷ 2 ∷ 2 ∷ 33 ∷ 100 ∷ 2 ∷ 1 ∷ []
+  pub k7-first : nodeAt (run 3 stand (foundThree ++ (Tick 1 ∷ []))) 1 .activity ≡ Waiting 1 (setOf (3 ∷ []))
+  pub k7-second : nodeAt (run 3 stand (foundThree ++ (Tick 1 ∷ Tick 1 ∷ []))) 1 .activity ≡ Inviting none none 3
+  pub k8 : countsAside (after (pairIn stand Election (setOf (1 ∷ [])) Collecting (invitation 16)) (Deliver 1 2)) ≡ pairIn stand Election (setOf (1 ∷ [])) Collecting plain
+  pub k9 : countsAside (after (pairIn stand Normal (setOf (1 ∷ [])) (Asking 1 none) (reply 1 true)) (Deliver 1 2)) ≡ pairIn stand Normal (setOf (1 ∷ [])) (Asking 1 none) []
+  pub k10-first : printedFields (run 2 stand k10) 1 ≡ 1 ∷ 3 ∷ 2 ∷ 33 ∷ 100 ∷ 1 ∷ 0 ∷ []
+  pub k10-second : printedFields (run 2 stand k10) 2 ≡ 2 ∷ 3 ∷ 2 ∷ 33 ∷ 100 ∷ 2 ∷ 1 ∷ []
+  pub k10-task : history 2 stand k10 .entry 33 ≡ Task 100
+  -- K11: with 12 waiting, a check that must ask: 14; a delivery passes
+  pub k11-refused : step (pairIn stand Normal none Idle (queued 12)) (Check 1) ≡ refused 14
+  pub k11-passes : countsAside (after (pairIn stand Normal none Idle (queued 12)) (Deliver 2 1))
+      ≡ pairIn stand Normal none Idle (queued 11 ++ (replies 1 2 (callNo 1) true ∷ []))
+  -- with 11 waiting it asks; with 12, a check in Reorganization meets 18 (T-06), and not 14
+  pub k11-room : after (pairIn stand Normal none Idle (queued 11)) (Check 1) .queue ≡ queued 11 ++ (asks 1 2 (callNo 4) ∷ [])
+  pub k11-turned-away : step (pairIn stand Reorganization none Idle (queued 12)) (Check 2) ≡ refused 18
+  -- K12 and K13
+  pub k12 : countsAside (after (pairIn stand Reorganization none Collecting (accept 33)) (Deliver 1 2)) ≡ pairIn stand Reorganization none Collecting plain
+  pub k13 : step (start 2 stand) (Finish 9 (taskNo 5)) ≡ refused 7
+  -- "Grounds 1, 6 and 14 read the table's own limits.": the same events and messages in the tower, where 12 wait and it asks, and 13 are in range
+  pub in-tower : after (pair Normal none Idle (queued 12)) (Check 1) .queue ≡ queued 12 ++ (asks 1 2 (callNo 4) ∷ [])
+  pub in-tower-more : after (pair Normal none Idle (queued 13)) (Check 1) .queue ≡ queued 13 ++ (asks 1 2 (callNo 4) ∷ [])
+  -- 1: in the stand 13 messages are too many, and so are five nodes, which the tower has room for; before 7
+  pub many-messages : step (pairIn stand Normal none Idle (queued 13)) (Check 9) ≡ refused 1
+  pub many-nodes : step (start 5 stand) (Recover 9) ≡ refused 1
+  pub tower-nodes : step (start 5 tower) (Recover 9) ≡ refused 7
+  -- the order of the ends, as FurtherCases and TrafficCases have it in the tower: 12 before 13 before 14 before 17
+  pub ends-twelve : step (endingIn stand 1048575 16777215 (queued 12)) (Tick 2) ≡ refused 12
+  pub ends-thirteen : step (endingIn stand 1048574 16777215 (queued 12)) (Tick 2) ≡ refused 13
+  pub ends-fourteen : step (endingIn stand 1048574 16777214 (queued 12)) (Tick 2) ≡ refused 14
+  pub ends-pass : length (after (endingIn stand 1048574 16777214 (queued 11)) (Tick 2) .queue) ≡ 12
+  -- a run that comes to 12: each of four nodes asks the three others, and nothing is delivered; then a check is refused with 14, in the tower it asks; a delivery passes
+  pub run-fills : length (run 4 stand allAsk .queue) ≡ 12
+  pub run-full : step (run 4 stand allAsk) (Check 1) ≡ refused 14
+  pub run-delivers : length (after (run 4 stand allAsk) (Deliver 1 2) .queue) ≡ 12
+  pub run-in-tower : length (after (run 4 tower allAsk) (Check 1) .queue) ≡ 13
+  -- "no other pair is allowed": 1
+  pub swapped : step (start 2 (record { nodes = 12; messages = 4 })) (Recover 1) ≡ refused 1
+  pub tower-nodes-only : step (start 2 (record { nodes = 16; messages = 12 })) (Recover 1) ≡ refused 1
+  pub stand-nodes-only : step (start 2 (record { nodes = 4; messages = 64 })) (Recover 1) ≡ refused 1
+  pub no-limits : step (start 2 (record { nodes = 0; messages = 0 })) (Recover 1) ≡ refused 1
+  -- with that rule left out such a table takes the event
+  pub left-out : printedFields (runBy LeftOut 2 (record { nodes = 4; messages = 64 }) (Recover 1 ∷ [])) 1 ≡ 1 ∷ 3 ∷ 1 ∷ 16 ∷ 1 ∷ 1 ∷ 0 ∷ []
+  -- the numbers that a starting table is answered with: an impossible pair is a table that is not in range
+  pub started : startNumber Started ≡ 0
+  pub wrong-limits : startNumber WrongLimits ≡ 1
+  pub wrong-count : startNumber WrongCount ≡ 6
 
 -- ── "Wrong turnings in this protocol": what happens instead. The first and the last of the five are K4 and K9. ──
 
@@ -281,7 +390,7 @@ pub record WrongTurnings : Type 0 where
         activity = Collecting;
       }) (calls 1 3 2 (callNo 2) (groupNo 32) ∷ calls 1 3 3 (callNo 3) (groupNo 32) ∷ calls 1 3 2 (callNo 4) (groupNo 32) ∷ [])
   -- "Taking the task with the invitation: one group, two tasks." Node 2 has finished with task 100. Node 1, which it invited, has its solo task until Ready comes.
-  pub task-waits : printedFields (run 2 (collecting ++ (Finish 2 (taskNo 100) ∷ []))) 1 ≡ 1 ∷ 2 ∷ 2 ∷ 33 ∷ 1 ∷ 1 ∷ 0 ∷ []
+  pub task-waits : printedFields (run 2 tower (collecting ++ (Finish 2 (taskNo 100) ∷ []))) 1 ≡ 1 ∷ 2 ∷ 2 ∷ 33 ∷ 1 ∷ 1 ∷ 0 ∷ []
   -- the task comes with the Ready of its group, in Reorganization
   pub task-comes : countsAside (after (beside (follower Reorganization 32 100 none 2 Idle) (ready 32 200)) (Deliver 1 2)) ≡ beside (follower Normal 32 200 none 2 Idle) plain
   pub task-of-other : countsAside (after (beside (follower Reorganization 32 100 none 2 Idle) (ready 16 200)) (Deliver 1 2)) ≡ beside (follower Reorganization 32 100 none 2 Idle) plain
@@ -323,15 +432,15 @@ filled s g o t m l a = node s 1 g o t m l a
 
 -- three nodes
 abbrev pub three : Node → Node → Node → List Message → State
-three a b c q = allWaiting 3 (a ∷ b ∷ c ∷ []) q
+three a b c q = allWaiting 3 tower (a ∷ b ∷ c ∷ []) q
 
 -- four nodes: node 2 is c, and the others are as at the start
 abbrev pub second : Node → List Message → State
-second c q = allWaiting 4 (startingNode ∷ c ∷ startingNode ∷ startingNode ∷ []) q
+second c q = allWaiting 4 tower (startingNode ∷ c ∷ startingNode ∷ startingNode ∷ []) q
 
 -- and node 4 is c
 abbrev pub fourth : Node → List Message → State
-fourth c q = allWaiting 4 (startingNode ∷ startingNode ∷ startingNode ∷ c ∷ []) q
+fourth c q = allWaiting 4 tower (startingNode ∷ startingNode ∷ startingNode ∷ c ∷ []) q
 
 -- node 2 as the coordinator of its group 17, with the task 100, the members m and the last call number k
 abbrev pub middle : Status → ℕ → ℕ → Activity → Node
@@ -362,19 +471,9 @@ formerCoordinator = filled Normal 18 3 100 (setOf (2 ∷ [])) 4 Idle
 abbrev pub forwarder : Node
 forwarder = filled Election 32 1 100 (setOf (2 ∷ [])) 5 (Forwarding none 2 1 (callNo 7))
 
--- node 2 of two, with the counter k and the last call number l, waits for its last tick; it has found node 1
+-- `endingIn` in the tower
 abbrev pub ending : ℕ → ℕ → List Message → State
-ending k l q =
-    beside (record {
-      status = Normal;
-      counter = k;
-      group = groupNo 17;
-      coordinator = 2;
-      task = taskNo 2;
-      members = none;
-      last = callNo l;
-      activity = Waiting 1 (setOf (1 ∷ []));
-    }) q
+ending k l q = endingIn tower k l q
 
 -- ── messages of the further cases: node 1's third call, to node 2, and the reply no to it; two of the same pair with another between them ──
 
@@ -545,7 +644,7 @@ pub record FurtherCases : Type 0 where
   pub range-node : step (beside (follower Normal 33 100 none 2 Idle) []) (Crash 9) ≡ refused 1
   pub range-message : step (pair Normal none Idle (invitation 0)) (Crash 9) ≡ refused 1
   pub range-queue : step (pair Normal none Idle (queued 65)) (Crash 9) ≡ refused 1
-  pub range-count : step (start 0) (Crash 9) ≡ refused 1
+  pub range-count : step (start 0 tower) (Crash 9) ≡ refused 1
   pub range-kept : step (pair Normal none Idle (queued 64)) (Crash 9) ≡ refused 7
   -- 7 "cabinet outside 1 to n, or sender equals receiver"
   pub number-none : step (pair Normal none Idle []) (Crash 0) ≡ refused 7
@@ -554,11 +653,11 @@ pub record FurtherCases : Type 0 where
   pub number-sender : step (pair Normal none Idle []) (Deliver 3 2) ≡ refused 7
   pub number-receiver : step (pair Normal none Idle []) (Lose 2 3) ≡ refused 7
   -- 9 "all others but lose: cabinet (for deliver, the receiver) Down", before 10 and 11
-  pub down-crash : step (start 2) (Crash 1) ≡ refused 9
-  pub down-check : step (start 2) (Check 1) ≡ refused 9
-  pub down-timeout : step (start 2) (Timeout 1) ≡ refused 9
-  pub down-tick : step (start 2) (Tick 1) ≡ refused 9
-  pub down-expire : step (start 2) (Expire 1) ≡ refused 9
+  pub down-crash : step (start 2 tower) (Crash 1) ≡ refused 9
+  pub down-check : step (start 2 tower) (Check 1) ≡ refused 9
+  pub down-timeout : step (start 2 tower) (Timeout 1) ≡ refused 9
+  pub down-tick : step (start 2 tower) (Tick 1) ≡ refused 9
+  pub down-expire : step (start 2 tower) (Expire 1) ≡ refused 9
   pub down-deliver : step (pair Down none Idle question) (Deliver 1 2) ≡ refused 9
   pub down-none-waits : step (pair Down none Idle []) (Deliver 1 2) ≡ refused 9
   -- 10 "check, timeout: not idle; tick: not waiting; expire: no open call"
@@ -659,17 +758,17 @@ invitedOnce = joinsFormer ++ (newMerges ++ (bothInvite ++ joinsNew))
 
 pub record InvitedTwice : Type 0 where
   -- "its former coordinator"
-  pub former : countsAside (run 3 joinsFormer) ≡ inFormerGroup
+  pub former : countsAside (run 3 tower joinsFormer) ≡ inFormerGroup
   -- "a new coordinator"
-  pub merges : countsAside (run 3 (joinsFormer ++ newMerges)) ≡ afterMerge
+  pub merges : countsAside (run 3 tower (joinsFormer ++ newMerges)) ≡ afterMerge
   -- "A cabinet was invited by a new coordinator, and the same invitation was also forwarded to it by its former coordinator."
-  pub both : countsAside (run 3 (joinsFormer ++ (newMerges ++ bothInvite))) ≡ invitedByBoth
+  pub both : countsAside (run 3 tower (joinsFormer ++ (newMerges ++ bothInvite))) ≡ invitedByBoth
   -- "The forwarded one was slow. It came when the cabinet was Normal in the new group": it alone still waits
-  pub normal : countsAside (run 3 invitedOnce) ≡ inNewGroup (calls 2 3 1 (callNo 5) (groupNo 34) ∷ [])
+  pub normal : countsAside (run 3 tower invitedOnce) ≡ inNewGroup (calls 2 3 1 (callNo 5) (groupNo 34) ∷ [])
   -- "an invitation to the group a cabinet already holds gets a plain reply and changes nothing else": before and after it only the messages differ
-  pub only-messages : countsAside (run 3 (invitedOnce ++ (Deliver 2 1 ∷ []))) ≡ inNewGroup (replies 1 2 (callNo 5) true ∷ [])
+  pub only-messages : countsAside (run 3 tower (invitedOnce ++ (Deliver 2 1 ∷ []))) ≡ inNewGroup (replies 1 2 (callNo 5) true ∷ [])
   -- node 2 no longer waits for the reply, and drops it
-  pub reply-dropped : countsAside (run 3 (invitedOnce ++ (Deliver 2 1 ∷ Deliver 1 2 ∷ []))) ≡ inNewGroup []
+  pub reply-dropped : countsAside (run 3 tower (invitedOnce ++ (Deliver 2 1 ∷ Deliver 1 2 ∷ []))) ≡ inNewGroup []
 
 -- "an invitation to the group a cabinet already holds", and to another: node 2 is in group 32, which node 1 owns, and node 1 invites it
 pub record HeldGroupCases : Type 0 where
@@ -706,11 +805,11 @@ downFollower = node Down 5 48 1 300 (setOf (1 ∷ 3 ∷ [])) 9 Idle
 
 -- a table with node 2 as c, in which node 3 is as at the start
 abbrev pub withFollower : Node → State
-withFollower c = allWaiting 3 (node Normal 3 48 1 300 (setOf (2 ∷ [])) 4 Idle ∷ c ∷ startingNode ∷ []) (invitation 48)
+withFollower c = allWaiting 3 tower (node Normal 3 48 1 300 (setOf (2 ∷ [])) 4 Idle ∷ c ∷ startingNode ∷ []) (invitation 48)
 
 pub record RecoveryCases : Type 0 where
   -- K2: the first recovery of node 1
-  pub k2 : recoveryRecords 1 (nodeAt (start 2) 1)
+  pub k2 : recoveryRecords 1 (nodeAt (start 2 tower) 1)
       ≡ node Election 0 0 0 0 none 0 Idle
       ∷ node Election 1 0 0 0 none 0 Idle
       ∷ node Election 1 16 0 0 none 0 Idle
@@ -734,7 +833,7 @@ pub record RecoveryCases : Type 0 where
   -- and recover 2 leaves the last of them, and nothing else changes
   pub left : aside (step (withFollower downFollower) (Recover 2)) ≡ accepted (withFollower (node Normal 6 97 2 2 none 9 Idle)) Recovers
   -- K4: after a crash, the second recovery; K5: the last that the counter allows
-  pub k4 : map (λ c. c .group .number) (recoveryRecords 1 (nodeAt (run 2 (Recover 1 ∷ Crash 1 ∷ [])) 1)) ≡ 16 ∷ 16 ∷ 32 ∷ 32 ∷ 32 ∷ 32 ∷ 32 ∷ 32 ∷ []
+  pub k4 : map (λ c. c .group .number) (recoveryRecords 1 (nodeAt (run 2 tower (Recover 1 ∷ Crash 1 ∷ [])) 1)) ≡ 16 ∷ 16 ∷ 32 ∷ 32 ∷ 32 ∷ 32 ∷ 32 ∷ 32 ∷ []
   pub k5 : map (λ c. c .group .number) (recoveryRecords 16 (nodeAt (counted Down Idle 1048574) 16))
       ≡ 16777199 ∷ 16777199 ∷ 16777215 ∷ 16777215 ∷ 16777215 ∷ 16777215 ∷ 16777215 ∷ 16777215 ∷ []
   -- the grounds in their order, where two apply: 1 before 7, 9 and 12; 7 before 9 and 12 (the number 0 reads the record of node 1); 9 before 12. And where one does: 7 for
@@ -744,12 +843,12 @@ pub record RecoveryCases : Type 0 where
   pub range-counter : step (beside (node Down 1048575 0 0 0 none 0 Idle) (invitation 0)) (Recover 2) ≡ refused 1
   pub status-counter : step (counted Normal Idle 1048575) (Recover 16) ≡ refused 9
   pub number-status : step (withFollower downFollower) (Recover 0) ≡ refused 7
-  pub number-counter : step (allWaiting 1 (node Down 1048575 0 0 0 none 0 Idle ∷ []) []) (Recover 0) ≡ refused 7
-  pub number-zero : step (start 2) (Recover 0) ≡ refused 7
-  pub number-above : step (start 2) (Recover 3) ≡ refused 7
+  pub number-counter : step (allWaiting 1 tower (node Down 1048575 0 0 0 none 0 Idle ∷ []) []) (Recover 0) ≡ refused 7
+  pub number-zero : step (start 2 tower) (Recover 0) ≡ refused 7
+  pub number-above : step (start 2 tower) (Recover 3) ≡ refused 7
   -- of the records before the last some are out of range: while the group is new and the coordinator is not, and at the first recovery (K2) while there is no group
   pub between : map (nodeInRange 3 2) (recoveryRecords 2 downFollower) ≡ true ∷ true ∷ false ∷ true ∷ true ∷ true ∷ true ∷ true ∷ []
-  pub between-k2 : map (nodeInRange 2 1) (recoveryRecords 1 (nodeAt (start 2) 1)) ≡ false ∷ false ∷ false ∷ true ∷ true ∷ true ∷ true ∷ true ∷ []
+  pub between-k2 : map (nodeInRange 2 1) (recoveryRecords 1 (nodeAt (start 2 tower) 1)) ≡ false ∷ false ∷ false ∷ true ∷ true ∷ true ∷ true ∷ true ∷ []
   -- a recovery inside another procedure: contacting stops, and the record after each assignment is that of an idle node
   pub inside : recoveryRecords 2 (stopped (node Normal 5 48 1 300 (setOf (1 ∷ 3 ∷ [])) 9 Contacting))
       ≡ node Election 5 48 1 300 (setOf (1 ∷ 3 ∷ [])) 9 Idle
@@ -770,8 +869,8 @@ among f [] = []
 among f (x ∷ xs) = pick (f x) (x ∷ among f xs) (among f xs)
 
 -- d messages from 2 to 1 were delivered, and `waiting` more wait; node 2, with the counter k and the last call number l, merges at its last tick and calls 1
-abbrev pub endingAfter : ℕ → ℕ → ℕ → ℕ → State
-endingAfter d k l waiting = past 2 1 d 0 (ending k l (queued waiting))
+abbrev pub endingAfter : Limits → ℕ → ℕ → ℕ → ℕ → State
+endingAfter lim d k l waiting = past 2 1 d 0 (endingIn lim k l (queued waiting))
 
 -- counts of which one, from a to b, is k, and the others are 0
 abbrev pub only : ℕ → ℕ → ℕ → List ℕ
@@ -779,7 +878,7 @@ only a b k = set noCounts (pairPlace a b) k
 
 -- three nodes as at the start, with the messages q and these counts
 abbrev pub withCounts : List Message → List ℕ → List ℕ → List ℕ → State
-withCounts q sent delivered lost = record { n = 3; nodes = replicate 3 startingNode; queue = q; sent = sent; delivered = delivered; lost = lost }
+withCounts q sent delivered lost = record { rule = TwoPairs; n = 3; limits = tower; nodes = replicate 3 startingNode; queue = q; sent = sent; delivered = delivered; lost = lost }
 
 -- k messages from 1 to 2
 abbrev pub someWait : ℕ → List Message
@@ -787,8 +886,8 @@ someWait k = replicate k (asks 1 2 (callNo 1))
 
 pub record TrafficCases : Type 0 where
   -- K10's eight messages, by pair: four each way, all delivered
-  pub k10-sent : countAt (run 2 k10 .sent) 1 2 ∷ countAt (run 2 k10 .sent) 2 1 ∷ [] ≡ 4 ∷ 4 ∷ []
-  pub k10-delivered : countAt (run 2 k10 .delivered) 1 2 ∷ countAt (run 2 k10 .delivered) 2 1 ∷ [] ≡ 4 ∷ 4 ∷ []
+  pub k10-sent : countAt (run 2 tower k10 .sent) 1 2 ∷ countAt (run 2 tower k10 .sent) 2 1 ∷ [] ≡ 4 ∷ 4 ∷ []
+  pub k10-delivered : countAt (run 2 tower k10 .delivered) 1 2 ∷ countAt (run 2 tower k10 .delivered) 2 1 ∷ [] ≡ 4 ∷ 4 ∷ []
   -- "17, a message must be sent and its pair's sent count is 33,554,430"; with one less it is sent, and counted
   pub at-end : step (past 2 1 33554430 0 (pair Normal none Idle [])) (Check 2) ≡ refused 17
   pub below-end : step (past 2 1 33554429 0 (pair Normal none Idle [])) (Check 2)
@@ -809,10 +908,13 @@ pub record TrafficCases : Type 0 where
   -- a check of a member meets 18 (T-06), and not 17
   pub member-at-end : step (past 2 1 33554430 0 (beside (follower Normal 32 100 none 2 Idle) [])) (Check 2) ≡ refused 18
   -- "after 14": 12 before 13 before 14 before 17
-  pub ends-twelve : step (endingAfter 33554366 1048575 16777215 64) (Tick 2) ≡ refused 12
-  pub ends-thirteen : step (endingAfter 33554366 1048574 16777215 64) (Tick 2) ≡ refused 13
-  pub ends-fourteen : step (endingAfter 33554366 1048574 16777214 64) (Tick 2) ≡ refused 14
-  pub ends-seventeen : step (endingAfter 33554367 1048574 16777214 63) (Tick 2) ≡ refused 17
+  pub ends-twelve : step (endingAfter tower 33554366 1048575 16777215 64) (Tick 2) ≡ refused 12
+  pub ends-thirteen : step (endingAfter tower 33554366 1048574 16777215 64) (Tick 2) ≡ refused 13
+  pub ends-fourteen : step (endingAfter tower 33554366 1048574 16777214 64) (Tick 2) ≡ refused 14
+  pub ends-seventeen : step (endingAfter tower 33554367 1048574 16777214 63) (Tick 2) ≡ refused 17
+  -- and of the stand's 12
+  pub stand-fourteen : step (endingAfter stand 33554418 1048574 16777214 12) (Tick 2) ≡ refused 14
+  pub stand-seventeen : step (endingAfter stand 33554419 1048574 16777214 11) (Tick 2) ≡ refused 17
   -- a delivery with a reply changes two counts, a loss one, and a refused event none
   pub delivery-counts : after (pair Normal none Idle question) (Deliver 1 2) ≡ past 1 2 1 0 (pair Normal none Idle plain)
   pub loss-counts : after (pair Normal none Idle question) (Lose 1 2) ≡ past 1 2 0 1 (pair Normal none Idle [])
@@ -854,7 +956,7 @@ pub record TrafficCases : Type 0 where
 
 -- one node alone, its own coordinator, with the last call number l
 abbrev pub onlyOne : Status → ℕ → Activity → State
-onlyOne s l a = allWaiting 1 (filled s 16 1 100 none l a ∷ []) []
+onlyOne s l a = allWaiting 1 tower (filled s 16 1 100 none l a ∷ []) []
 
 pub record CheckCases : Type 0 where
   -- "A check shall be turned away unless the cabinet is Normal and its own coordinator.": it is both, and asks, with members or without
@@ -870,7 +972,7 @@ pub record CheckCases : Type 0 where
   pub election-member : step (beside (follower Election 32 100 none 2 Idle) []) (Check 2) ≡ refused 18
   pub reorganization-member : step (beside (follower Reorganization 32 100 none 2 Idle) []) (Check 2) ≡ refused 18
   -- "With n = 1 such a check still passes without effect.", also with the last call number at its end, as it needs no call
-  pub one : step (run 1 (Recover 1 ∷ [])) (Check 1) ≡ accepted (run 1 (Recover 1 ∷ [])) Plain
+  pub one : step (run 1 tower (Recover 1 ∷ [])) (Check 1) ≡ accepted (run 1 tower (Recover 1 ∷ [])) Plain
   pub one-at-end : step (onlyOne Normal 16777215 Idle) (Check 1) ≡ accepted (onlyOne Normal 16777215 Idle) Plain
   -- a check in another status does not, nor one of a busy node
   pub one-election : step (onlyOne Election 0 Idle) (Check 1) ≡ refused 18
@@ -897,11 +999,11 @@ pub record CheckCases : Type 0 where
   pub calls-end : step (beside (follower Normal 32 100 none 16777215 Idle) []) (Check 2) ≡ refused 18
   pub full : step (beside (follower Normal 32 100 none 2 Idle) (queued 64)) (Check 2) ≡ refused 18
   -- of a run, K10: node 1 has accepted, after eight events; it has its task; node 2 checks again
-  pub run-accepted : step (run 2 acceptedInvitation) (Check 1) ≡ refused 18
-  pub run-member : step (run 2 k10) (Check 1) ≡ refused 18
-  pub run-coordinator : nodeAt (after (run 2 k10) (Check 2)) 2 .activity ≡ Asking 1 none
+  pub run-accepted : step (run 2 tower acceptedInvitation) (Check 1) ≡ refused 18
+  pub run-member : step (run 2 tower k10) (Check 1) ≡ refused 18
+  pub run-coordinator : nodeAt (after (run 2 tower k10) (Check 2)) 2 .activity ≡ Asking 1 none
   -- "it skips the event": what follows it is done as if it were not there
-  pub skipped : run 2 (k10 ++ (Check 1 ∷ Check 2 ∷ [])) ≡ run 2 (k10 ++ (Check 2 ∷ []))
+  pub skipped : run 2 tower (k10 ++ (Check 1 ∷ Check 2 ∷ [])) ≡ run 2 tower (k10 ++ (Check 2 ∷ []))
   -- its number
   pub number : answerNumber NotCoordinator ≡ 18
 
@@ -968,9 +1070,12 @@ anyKind = 0 ∷ 1 ∷ 2 ∷ 3 ∷ 4 ∷ 5 ∷ 6 ∷ 7 ∷ []
 abbrev pub kindsOf : ℕ → ℕ → List ℕ
 kindsOf g t = among (λ k. sent 2 1 k 1 g t) anyKind
 
--- a table of n, with k records as at the start
+-- a table of n with the limits l, and with k records as at the start; in the tower
+abbrev pub sizedIn : Limits → ℕ → ℕ → Bool
+sizedIn l n k = inRange (allWaiting n l (replicate k startingNode) [])
+
 abbrev pub sized : ℕ → ℕ → Bool
-sized n k = inRange (allWaiting n (replicate k startingNode) [])
+sized n k = sizedIn tower n k
 
 -- ── "A table is in range when ..": each rule at its ends and just outside. On the left what is tried, on the right what of it is in range. ──
 
@@ -980,6 +1085,17 @@ pub record RangeCases : Type 0 where
   pub count-records : among (sized 3) (2 ∷ 3 ∷ 4 ∷ []) ≡ 3 ∷ []
   -- "At most 64 messages wait"
   pub waiting-end : among (λ k. inRange (pair Normal none Idle (queued k))) (0 ∷ 64 ∷ 65 ∷ []) ≡ 0 ∷ 64 ∷ []
+  -- T-08: the stand's ends
+  pub stand-ends : among (λ n. sizedIn stand n n) (0 ∷ 1 ∷ 4 ∷ 5 ∷ 16 ∷ []) ≡ 1 ∷ 4 ∷ []
+  pub stand-waiting : among (λ k. inRange (pairIn stand Normal none Idle (queued k))) (0 ∷ 12 ∷ 13 ∷ 64 ∷ []) ≡ 0 ∷ 12 ∷ []
+  -- "no other pair is allowed": 16 goes with 64 alone, and 4 with 12
+  pub limits-sixteen : among (λ k. sizedIn (record { nodes = 16; messages = k }) 2 2) (0 ∷ 12 ∷ 63 ∷ 64 ∷ 65 ∷ 255 ∷ []) ≡ 64 ∷ []
+  pub limits-sixty-four : among (λ k. sizedIn (record { nodes = k; messages = 64 }) 2 2) (0 ∷ 2 ∷ 4 ∷ 15 ∷ 16 ∷ 17 ∷ 255 ∷ []) ≡ 16 ∷ []
+  pub limits-four : among (λ k. sizedIn (record { nodes = 4; messages = k }) 2 2) (0 ∷ 11 ∷ 12 ∷ 13 ∷ 64 ∷ 255 ∷ []) ≡ 12 ∷ []
+  pub limits-twelve : among (λ k. sizedIn (record { nodes = k; messages = 12 }) 2 2) (0 ∷ 2 ∷ 3 ∷ 4 ∷ 5 ∷ 16 ∷ 255 ∷ []) ≡ 4 ∷ []
+  -- "any limits not above the tower's, with the rule of the two pairs left out": of two nodes at the start
+  pub left-out-nodes : among (λ k. inRange (startBy LeftOut 2 (record { nodes = k; messages = 64 }))) (0 ∷ 1 ∷ 2 ∷ 5 ∷ 16 ∷ 17 ∷ 255 ∷ []) ≡ 2 ∷ 5 ∷ 16 ∷ []
+  pub left-out-messages : among (λ k. inRange (startBy LeftOut 2 (record { nodes = 16; messages = k }))) (0 ∷ 13 ∷ 64 ∷ 65 ∷ 255 ∷ []) ≡ 0 ∷ 13 ∷ 64 ∷ []
   -- every record counts, each as that of its own number: the member is 1, 2 or 3
   pub every-first : among (λ i. inRange (three (filled Normal 16 1 1 (setOf (i ∷ [])) 0 Idle) startingNode startingNode [])) (1 ∷ 2 ∷ 3 ∷ []) ≡ 2 ∷ 3 ∷ []
   pub every-last : among (λ i. inRange (three startingNode startingNode (filled Normal 18 3 3 (setOf (i ∷ [])) 0 Idle) [])) (1 ∷ 2 ∷ 3 ∷ []) ≡ 1 ∷ 2 ∷ []

@@ -8,21 +8,22 @@ use lib.Dec.{eqb, ltb}
 use lib.ListN.{length, getD, set}
 use Rattle.node_set.specs.NodeSet.{has, without}
 use Rattle.model.specs.Pick.{pick}
-use Rattle.model.specs.Limits.{nodeLimit, queueLimit, counterEnd, callEnd, trafficEnd}
+use Rattle.model.specs.Limits.{nodeLimit, counterEnd, callEnd, trafficEnd}
 use Rattle.model.specs.Counts.{pairPlace, senderAt, receiverAt, countAt, oneMore, total}
 use Rattle.model.specs.Node.{isDown, isNormal, isActive, isIdle, groupOf, ownerOf, nextCall, asks, calls, replies}
 use Rattle.model.specs.Recovery.{withStatus, withCounter, withGroup, withCoordinator, withMembers, withTask, recoveryRecords, stopped, recovered}
 use Rattle.model.specs.Procedures.{next, inviteNext, handNext, forwardNext}
 use Rattle.model.specs.React.{checked, expired, resumed}
-use Rattle.model.specs.Range.{isNode, isPair, carriesGroup}
-use Rattle.model.specs.State.{State, startingNode, start, nodeAt, goes, waits, oldest, withoutOldest, waiting, countsAside, inRange}
+use Rattle.model.specs.Range.{PairRule, TwoPairs, LeftOut, pairRule, isTowerOrStand, isWithinTower, isNode, isPair, carriesGroup}
+use Rattle.model.specs.State.{State, startingNode, startBy, nodeAt, goes, waits, oldest, withoutOldest, waiting, countsAside, inRange}
 use Rattle.model.specs.Grounds.{Ground, ground, judged, NoneApplies}
-use Rattle.model.specs.Step.{actor, reactionTo, remaining, sent, withSent, withDelivered, withLost, effect, forms, grounds, Result, refused, accepted, step, aside, after, run}
+use Rattle.model.specs.Step.{actor, reactionTo, remaining, sent, withSent, withDelivered, withLost, effect, forms, grounds, refused, accepted, step, changed, aside, after, runBy, run}
 use Rattle.model.specs.Traffic.{sends, delivers, loses, tally, sentIn, deliveredIn, lostIn, sendsAny, deliversAny, losesAny}
-use Rattle.model.specs.History.{Entry, NotFormed, NoTask, Task, History, newest, coming, history}
+use Rattle.model.specs.History.{NotFormed, NoTask, Task, newest, coming, historyBy, history}
 use Rattle.model.specs.Answers.{resultNumber}
+use Rattle.model.specs.declared.Limits.{Limits}
 use Rattle.model.specs.declared.Status.{Status}
-use Rattle.model.specs.declared.Status.the-variants.{Down, Election, Reorganization, Normal}
+use Rattle.model.specs.declared.Status.the-variants.{Election, Reorganization, Normal}
 use Rattle.model.specs.declared.Activity.{Activity}
 use Rattle.model.specs.declared.Activity.the-variants.{Idle, Asking, Waiting, Inviting, Collecting, Handing, Contacting, Forwarding, Accepting}
 use Rattle.model.specs.declared.Node.{Node}
@@ -33,7 +34,7 @@ use Rattle.model.specs.declared.Message.{Message}
 use Rattle.model.specs.declared.Outgoing.{Outgoing}
 use Rattle.model.specs.declared.Outgoing.the-variants.{Nothing, Send}
 use Rattle.model.specs.declared.Mark.{Mark}
-use Rattle.model.specs.declared.Mark.the-variants.{Plain, Recovers, Merges}
+use Rattle.model.specs.declared.Mark.the-variants.{Plain, Recovers}
 use Rattle.model.specs.declared.Event.{Event}
 use Rattle.model.specs.declared.Event.the-variants.{Crash, Recover, Check, Timeout, Tick, Expire, Finish, Deliver, Lose}
 
@@ -54,111 +55,150 @@ abbrev pub EachGroup : (ℕ → Type 0) → List Message → Type 0
 EachGroup P [] = Unit {0}
 EachGroup P (m ∷ ms) = (carriesGroup (m .kind) ≡ true → P (m .group .number)) × EachGroup P ms
 
--- Demand 3 ("What a run fixes", and the agreement of groups that it is for), of every list of events from the starting table of n nodes. `es` is a beginning
--- of the list, `fs` what comes next, and `e` an event after them that is accepted with the mark k and leaves the table u.
-pub record RunFixes (n : ℕ) : Type 0 where
+-- Demand 3 ("What a run fixes", and the agreement of groups that it is for), of every list of events from the starting table of n nodes with the limits l, over the steps
+-- with or without the rule of the two pairs. `es` is a beginning of the list, `fs` what comes next, and `e` an event after them that is accepted with the mark k and leaves
+-- the table u. `TowerAndStand` below says for which n and l.
+pub record RunFixes (r : PairRule) (n : ℕ) (l : Limits) : Type 0 where
   -- two nodes in Reorganization or Normal with the same group have the same coordinator (002, Assertion 3 a)
   pub same-coordinator : (es : List Event) (i j : ℕ) → 1 ≤ i → i ≤ n → 1 ≤ j → j ≤ n
-      → isActive (nodeAt (run n es) i .status) ≡ true → isActive (nodeAt (run n es) j .status) ≡ true
-      → nodeAt (run n es) i .group .number ≡ nodeAt (run n es) j .group .number
-      → nodeAt (run n es) i .coordinator ≡ nodeAt (run n es) j .coordinator
+      → isActive (nodeAt (runBy r n l es) i .status) ≡ true → isActive (nodeAt (runBy r n l es) j .status) ≡ true
+      → nodeAt (runBy r n l es) i .group .number ≡ nodeAt (runBy r n l es) j .group .number
+      → nodeAt (runBy r n l es) i .coordinator ≡ nodeAt (runBy r n l es) j .coordinator
   -- and two Normal ones the same task (002, Assertion 3 b)
   pub same-task : (es : List Event) (i j : ℕ) → 1 ≤ i → i ≤ n → 1 ≤ j → j ≤ n
-      → nodeAt (run n es) i .status ≡ Normal → nodeAt (run n es) j .status ≡ Normal
-      → nodeAt (run n es) i .group .number ≡ nodeAt (run n es) j .group .number
-      → nodeAt (run n es) i .task .number ≡ nodeAt (run n es) j .task .number
+      → nodeAt (runBy r n l es) i .status ≡ Normal → nodeAt (runBy r n l es) j .status ≡ Normal
+      → nodeAt (runBy r n l es) i .group .number ≡ nodeAt (runBy r n l es) j .group .number
+      → nodeAt (runBy r n l es) i .task .number ≡ nodeAt (runBy r n l es) j .task .number
   -- "The book's task is the one the list fixed": a Normal node's task, in any table of the run, is the task that the whole list's history has for its group
-  pub fixed-task : (es fs : List Event) (i : ℕ) → 1 ≤ i → i ≤ n → nodeAt (run n es) i .status ≡ Normal
-      → history n (es ++ fs) .entry (nodeAt (run n es) i .group .number) ≡ Task (nodeAt (run n es) i .task .number)
+  pub fixed-task : (es fs : List Event) (i : ℕ) → 1 ≤ i → i ≤ n → nodeAt (runBy r n l es) i .status ≡ Normal
+      → historyBy r n l (es ++ fs) .entry (nodeAt (runBy r n l es) i .group .number) ≡ Task (nodeAt (runBy r n l es) i .task .number)
   -- "A new group gets the book's number"
-  pub numbered : (es : List Event) (e : Event) (u : State) (k : Mark) → step (run n es) e ≡ accepted u k → forms k ≡ true
-      → nodeAt u (actor e) .group .number ≡ coming (history n es) (actor e)
+  pub numbered : (es : List Event) (e : Event) (u : State) (k : Mark) → step (runBy r n l es) e ≡ accepted u k → forms k ≡ true
+      → nodeAt u (actor e) .group .number ≡ coming (historyBy r n l es) (actor e)
   -- "and no table from the starting one to the one just before that event holds it": `es` is any beginning of the list before e
-  pub fresh : (es fs : List Event) (e : Event) (u : State) (k : Mark) → step (run n (es ++ fs)) e ≡ accepted u k → forms k ≡ true
-      → Lacks (run n es) (coming (history n (es ++ fs)) (actor e))
+  pub fresh : (es fs : List Event) (e : Event) (u : State) (k : Mark) → step (runBy r n l (es ++ fs)) e ≡ accepted u k → forms k ≡ true
+      → Lacks (runBy r n l es) (coming (historyBy r n l (es ++ fs)) (actor e))
   -- and no other group is new: where no group is formed, the table before held each node's group, in a node or a message
-  pub borrowed : (es : List Event) (e : Event) (u : State) (k : Mark) → step (run n es) e ≡ accepted u k → forms k ≡ false
-      → (j : ℕ) → 1 ≤ j → j ≤ n → Lacks (run n es) (nodeAt u j .group .number) → ⊥
+  pub borrowed : (es : List Event) (e : Event) (u : State) (k : Mark) → step (runBy r n l es) e ≡ accepted u k → forms k ≡ false
+      → (j : ℕ) → 1 ≤ j → j ≤ n → Lacks (runBy r n l es) (nodeAt u j .group .number) → ⊥
   -- and where a message carries a group that the table before did not hold, it is the one that the event forms
-  pub borrowed-messages : (es : List Event) (e : Event) (u : State) (k : Mark) → step (run n es) e ≡ accepted u k
-      → EachGroup (λ g. Lacks (run n es) g → (forms k ≡ true) × (g ≡ coming (history n es) (actor e))) (u .queue)
+  pub borrowed-messages : (es : List Event) (e : Event) (u : State) (k : Mark) → step (runBy r n l es) e ≡ accepted u k
+      → EachGroup (λ g. Lacks (runBy r n l es) g → (forms k ≡ true) × (g ≡ coming (historyBy r n l es) (actor e))) (u .queue)
   -- "no group ever gets a second task": a group that is formed was not formed before, and a group that gets its task by a finish has none
-  pub formed-once : (es : List Event) (e : Event) (u : State) (k : Mark) → step (run n es) e ≡ accepted u k → forms k ≡ true
-      → history n es .entry (coming (history n es) (actor e)) ≡ NotFormed
-  pub given-once : (es : List Event) (i : ℕ) (t : TaskNo) (u : State) (k : Mark) → step (run n es) (Finish i t) ≡ accepted u k
-      → history n es .entry (newest (history n es) i) ≡ NoTask
+  pub formed-once : (es : List Event) (e : Event) (u : State) (k : Mark) → step (runBy r n l es) e ≡ accepted u k → forms k ≡ true
+      → historyBy r n l es .entry (coming (historyBy r n l es) (actor e)) ≡ NotFormed
+  pub given-once : (es : List Event) (i : ℕ) (t : TaskNo) (u : State) (k : Mark) → step (runBy r n l es) (Finish i t) ≡ accepted u k
+      → historyBy r n l es .entry (newest (historyBy r n l es) i) ≡ NoTask
   -- "the group that i formed last" is the one that the table has for i
-  pub own-group : (es : List Event) (i : ℕ) (t : TaskNo) (u : State) (k : Mark) → step (run n es) (Finish i t) ≡ accepted u k
-      → nodeAt (run n es) i .group .number ≡ newest (history n es) i
+  pub own-group : (es : List Event) (i : ℕ) (t : TaskNo) (u : State) (k : Mark) → step (runBy r n l es) (Finish i t) ≡ accepted u k
+      → nodeAt (runBy r n l es) i .group .number ≡ newest (historyBy r n l es) i
   -- and a task once given stays
-  pub lasts : (es fs : List Event) (g t : ℕ) → history n es .entry g ≡ Task t → history n (es ++ fs) .entry g ≡ Task t
+  pub lasts : (es fs : List Event) (g t : ℕ) → historyBy r n l es .entry g ≡ Task t → historyBy r n l (es ++ fs) .entry g ≡ Task t
 
 -- ── demand 3 by the list itself: where in it a task comes from ──
 
 -- after the events es, e is a recovery that forms the group g, and t is the solo task
-pub record Recovering (n : ℕ) (es : List Event) (e : Event) (g t : ℕ) : Type 0 where
+pub record Recovering (r : PairRule) (n : ℕ) (l : Limits) (es : List Event) (e : Event) (g t : ℕ) : Type 0 where
   pub table : State
-  pub recovers : step (run n es) e ≡ accepted table Recovers
+  pub recovers : step (runBy r n l es) e ≡ accepted table Recovers
   pub group : nodeAt table (actor e) .group .number ≡ g
   pub solo : actor e ≡ t
 
 -- after the events es, e is an accepted finish of a node in the group g, with the task t
-pub record Finishing (n : ℕ) (es : List Event) (e : Event) (g t : ℕ) : Type 0 where
+pub record Finishing (r : PairRule) (n : ℕ) (l : Limits) (es : List Event) (e : Event) (g t : ℕ) : Type 0 where
   pub node : ℕ
   pub task : TaskNo
   pub table : State
   pub event : e ≡ Finish node task
-  pub finishes : step (run n es) e ≡ accepted table Plain
-  pub group : nodeAt (run n es) node .group .number ≡ g
+  pub finishes : step (runBy r n l es) e ≡ accepted table Plain
+  pub group : nodeAt (runBy r n l es) node .group .number ≡ g
   pub number : task .number ≡ t
 
 -- an event of the list es fixes t as the task of g
-pub record Fixes (n : ℕ) (es : List Event) (g t : ℕ) : Type 0 where
+pub record Fixes (r : PairRule) (n : ℕ) (l : Limits) (es : List Event) (g t : ℕ) : Type 0 where
   pub before : List Event
   pub event : Event
   pub behind : List Event
   pub whole : es ≡ before ++ (event ∷ behind)
-  pub how : Recovering n before event g t ⊎ Finishing n before event g t
+  pub how : Recovering r n l before event g t ⊎ Finishing r n l before event g t
 
-pub record TaskFromList (n : ℕ) : Type 0 where
+pub record TaskFromList (r : PairRule) (n : ℕ) (l : Limits) : Type 0 where
   -- a Normal node's task is the solo task of a recovery in the list that formed its group, or else the task of an accepted finish in the list for that group
-  pub task : (es : List Event) (i : ℕ) → 1 ≤ i → i ≤ n → nodeAt (run n es) i .status ≡ Normal
-      → Fixes n es (nodeAt (run n es) i .group .number) (nodeAt (run n es) i .task .number)
+  pub task : (es : List Event) (i : ℕ) → 1 ≤ i → i ≤ n → nodeAt (runBy r n l es) i .status ≡ Normal
+      → Fixes r n l es (nodeAt (runBy r n l es) i .group .number) (nodeAt (runBy r n l es) i .task .number)
   -- the history's tasks are those that an event of the list fixes, and no other
-  pub entry-fixed : (es : List Event) (g t : ℕ) → history n es .entry g ≡ Task t → Fixes n es g t
-  pub fixed-entry : (es : List Event) (g t : ℕ) → Fixes n es g t → history n es .entry g ≡ Task t
+  pub entry-fixed : (es : List Event) (g t : ℕ) → historyBy r n l es .entry g ≡ Task t → Fixes r n l es g t
+  pub fixed-entry : (es : List Event) (g t : ℕ) → Fixes r n l es g t → historyBy r n l es .entry g ≡ Task t
   -- and there is one such event only
-  pub one : (es : List Event) (g t u : ℕ) (a : Fixes n es g t) (b : Fixes n es g u) → a .before ≡ b .before
-  pub same : (es : List Event) (g t u : ℕ) → Fixes n es g t → Fixes n es g u → t ≡ u
+  pub one : (es : List Event) (g t u : ℕ) (a : Fixes r n l es g t) (b : Fixes r n l es g u) → a .before ≡ b .before
+  pub same : (es : List Event) (g t u : ℕ) → Fixes r n l es g t → Fixes r n l es g u → t ≡ u
 
 -- ── the range ──
 
+-- what may start a table: "limits not above the tower's", which are one of the two pairs unless that rule is left out, and n from 1 to the limit of nodes
+pub record MayStart (r : PairRule) (n : ℕ) (l : Limits) : Type 0 where
+  pub within : isWithinTower l ≡ true
+  pub pair : pairRule r l ≡ true
+  pub low : 1 ≤ n
+  pub high : n ≤ l .nodes
+
 pub record StaysInRange : Type 0 where
   -- the starting table is in range
-  pub starts : (n : ℕ) → 1 ≤ n → n ≤ nodeLimit → inRange (start n) ≡ true
+  pub starts : (r : PairRule) (n : ℕ) (l : Limits) → MayStart r n l → inRange (startBy r n l) ≡ true
   -- an accepted event leaves a table in range (one that is not in range meets ground 1)
   pub keeps : (s : State) (e : Event) (u : State) (k : Mark) → step s e ≡ accepted u k → inRange u ≡ true
   -- so every table of a run is in range, and no run meets ground 1
-  pub runs : (n : ℕ) → 1 ≤ n → n ≤ nodeLimit → (es : List Event) → inRange (run n es) ≡ true
-  pub never-one : (n : ℕ) → 1 ≤ n → n ≤ nodeLimit → (es : List Event) (e : Event) → step (run n es) e ≡ refused 1 → ⊥
+  pub runs : (r : PairRule) (n : ℕ) (l : Limits) → MayStart r n l → (es : List Event) → inRange (runBy r n l es) ≡ true
+  pub never-one : (r : PairRule) (n : ℕ) (l : Limits) → MayStart r n l → (es : List Event) (e : Event) → step (runBy r n l es) e ≡ refused 1 → ⊥
 
 -- ── the traffic (T-05) ──
 
--- of every list of events from the starting table of n nodes, n from 1 to 16
-pub record TrafficAgrees (n : ℕ) : Type 0 where
+-- of every list of events from the starting table of n nodes with the limits l
+pub record TrafficAgrees (r : PairRule) (n : ℕ) (l : Limits) : Type 0 where
   -- "The records equal the counts taken from the accepted events of the run", each of the 16 rows of 16
-  pub sent-counted : (es : List Event) (a b : ℕ) → 1 ≤ a → a ≤ nodeLimit → 1 ≤ b → b ≤ nodeLimit → countAt (run n es .sent) a b ≡ sentIn n es a b
-  pub delivered-counted : (es : List Event) (a b : ℕ) → 1 ≤ a → a ≤ nodeLimit → 1 ≤ b → b ≤ nodeLimit → countAt (run n es .delivered) a b ≡ deliveredIn n es a b
-  pub lost-counted : (es : List Event) (a b : ℕ) → 1 ≤ a → a ≤ nodeLimit → 1 ≤ b → b ≤ nodeLimit → countAt (run n es .lost) a b ≡ lostIn n es a b
+  pub sent-counted : (es : List Event) (a b : ℕ) → 1 ≤ a → a ≤ nodeLimit → 1 ≤ b → b ≤ nodeLimit → countAt (runBy r n l es .sent) a b ≡ sentIn r n l es a b
+  pub delivered-counted : (es : List Event) (a b : ℕ) → 1 ≤ a → a ≤ nodeLimit → 1 ≤ b → b ≤ nodeLimit → countAt (runBy r n l es .delivered) a b ≡ deliveredIn r n l es a b
+  pub lost-counted : (es : List Event) (a b : ℕ) → 1 ≤ a → a ≤ nodeLimit → 1 ≤ b → b ≤ nodeLimit → countAt (runBy r n l es .lost) a b ≡ lostIn r n l es a b
   -- so a total is how many messages the accepted events sent, and how many accepted deliver and lose events there are
-  pub sent-total : (es : List Event) → total (run n es .sent) ≡ tally sendsAny (start n) es
-  pub delivered-total : (es : List Event) → total (run n es .delivered) ≡ tally deliversAny (start n) es
-  pub lost-total : (es : List Event) → total (run n es .lost) ≡ tally losesAny (start n) es
+  pub sent-total : (es : List Event) → total (runBy r n l es .sent) ≡ tally sendsAny (startBy r n l) es
+  pub delivered-total : (es : List Event) → total (runBy r n l es .delivered) ≡ tally deliversAny (startBy r n l) es
+  pub lost-total : (es : List Event) → total (runBy r n l es .lost) ≡ tally losesAny (startBy r n l) es
   -- "Sent is delivered plus lost plus those waiting, for each pair."
   pub adds-up : (es : List Event) (a b : ℕ) → 1 ≤ a → a ≤ n → 1 ≤ b → b ≤ n
-      → countAt (run n es .sent) a b ≡ countAt (run n es .delivered) a b + countAt (run n es .lost) a b + waiting (run n es .queue) a b
+      → countAt (runBy r n l es .sent) a b ≡ countAt (runBy r n l es .delivered) a b + countAt (runBy r n l es .lost) a b + waiting (runBy r n l es .queue) a b
   -- "From the starting table no event ever meets the new ground"
-  pub never-seventeen : (es : List Event) (e : Event) → step (run n es) e ≡ refused 17 → ⊥
+  pub never-seventeen : (es : List Event) (e : Event) → step (runBy r n l es) e ≡ refused 17 → ⊥
+
+-- ── T-08: for which tables this is claimed ──
+
+-- every run from the starting table of n nodes with the limits l: demand 3, where in the list each task comes from, the traffic, and the range
+pub record RunHolds (r : PairRule) (n : ℕ) (l : Limits) : Type 0 where
+  pub fixes : RunFixes r n l
+  pub from-list : TaskFromList r n l
+  pub traffic : TrafficAgrees r n l
+  pub in-range : (es : List Event) → inRange (runBy r n l es) ≡ true
+  pub never-one : (es : List Event) (e : Event) → step (runBy r n l es) e ≡ refused 1 → ⊥
+  -- "its two limits are part of the table's starting data": no event changes them
+  pub same-limits : (es : List Event) → runBy r n l es .limits ≡ l
+
+-- the table with the rule of the two pairs left out
+abbrev pub leftOut : State → State
+leftOut s = record { rule = LeftOut; n = s .n; limits = s .limits; nodes = s .nodes; queue = s .queue; sent = s .sent; delivered = s .delivered; lost = s .lost }
+
+pub record TowerAndStand : Type 0 where
+  -- "It is shown over the steps for any limits not above the tower's, with the rule of the two pairs left out."
+  pub any-limits : (n : ℕ) (l : Limits) → l .nodes ≤ 16 → l .messages ≤ 64 → 1 ≤ n → n ≤ l .nodes → RunHolds LeftOut n l
+  -- "Demand 3 now speaks of both": "The tower keeps 16 and 64.", and "Our practice stand has four cabinets and memory for 12 waiting messages." Its numbers are written out
+  -- here, so that the claim can be read without a definition of limits.
+  pub for-tower : (n : ℕ) → 1 ≤ n → n ≤ 16 → RunHolds TwoPairs n (record { nodes = 16; messages = 64 })
+  pub for-stand : (n : ℕ) → 1 ≤ n → n ≤ 4 → RunHolds TwoPairs n (record { nodes = 4; messages = 12 })
+  -- these are the first, read off: where the limits are one of the two pairs, each event does the same with the rule and without it, and so do lists of events
+  pub same-step : (s : State) (e : Event) → isTowerOrStand (s .limits) ≡ true → step (leftOut s) e ≡ changed leftOut (step s e)
+  pub same-run : (n : ℕ) (l : Limits) (es : List Event) → isTowerOrStand l ≡ true → runBy LeftOut n l es ≡ leftOut (run n l es)
+  pub same-history : (n : ℕ) (l : Limits) (es : List Event) → isTowerOrStand l ≡ true → historyBy LeftOut n l es ≡ history n l es
+  -- "no other pair is allowed": the table of the machine with other limits is not in range, and every event on it is refused with 1
+  pub no-other : (s : State) → s .rule ≡ TwoPairs → isTowerOrStand (s .limits) ≡ false → inRange s ≡ false
+  pub no-other-step : (s : State) (e : Event) → s .rule ≡ TwoPairs → isTowerOrStand (s .limits) ≡ false → step s e ≡ refused 1
 
 -- of every table in range, and of every accepted event on any table; a and b are any of the 16 rows and columns
 pub record TrafficRules : Type 0 where
@@ -251,6 +291,8 @@ TakesOut q (Lose a b) r = WithoutOldest a b q r
 -- from s to u: one record at most, at most one message out, and at most one in, behind the others; and of the counts that of what was sent, delivered or lost
 pub record ChangesLittle (s : State) (e : Event) (u : State) : Type 0 where
   pub same-n : u .n ≡ s .n
+  pub same-rule : u .rule ≡ s .rule
+  pub same-limits : u .limits ≡ s .limits
   pub same-length : length (u .nodes) ≡ length (s .nodes)
   pub others-kept : (j : ℕ) → 1 ≤ j → (j ≡ actor e → ⊥) → nodeAt u j ≡ nodeAt s j
   pub one-out : TakesOut (s .queue) e (remaining s e)
@@ -263,7 +305,7 @@ pub record ChangesLittle (s : State) (e : Event) (u : State) : Type 0 where
 pub record StepIsLocal : Type 0 where
   pub refused-nothing : (s : State) (e : Event) (r : ℕ) → step s e ≡ refused r → after s e ≡ s
   -- 01: "7 to 14 skip the event", 02, T-06: "Like 17 and any later ground of an event, it skips the event.": a run goes on as if a refused event were not in its list
-  pub refused-skips : (n : ℕ) (es : List Event) (e : Event) (fs : List Event) (r : ℕ) → step (run n es) e ≡ refused r → run n (es ++ (e ∷ fs)) ≡ run n (es ++ fs)
+  pub refused-skips : (n : ℕ) (l : Limits) (es : List Event) (e : Event) (fs : List Event) (r : ℕ) → step (run n l es) e ≡ refused r → run n l (es ++ (e ∷ fs)) ≡ run n l (es ++ fs)
   pub accepted-little : (s : State) (e : Event) (u : State) (k : Mark) → step s e ≡ accepted u k → ChangesLittle s e u
 
 -- ── 02, T-02: higher numbers first ──
@@ -363,7 +405,7 @@ pub record CallOrder : Type 0 where
       → ((whomStill (nodeAt s (actor e) .activity) ≡ 0) × (whomNow (nodeAt (after s e) (actor e) .activity) ≡ j))
       ⊎ (has (whomAside (nodeAt (after s e) (actor e) .activity)) j ≡ true)
   -- in every table of a run, those of the same set whom a node is still to call are below the one that it calls now; of an inviting node, those found
-  pub runs : (n : ℕ) (es : List Event) (i : ℕ) → Below (whomStill (nodeAt (run n es) i .activity)) (whomNow (nodeAt (run n es) i .activity))
+  pub runs : (n : ℕ) (l : Limits) (es : List Event) (i : ℕ) → Below (whomStill (nodeAt (run n l es) i .activity)) (whomNow (nodeAt (run n l es) i .activity))
 
 -- ── 02, T-03: an invitation that arrives twice ──
 
@@ -391,7 +433,9 @@ pub record NoPlainReply (s : State) (a b : ℕ) : Type 0 where
 -- yes, with the number of the call; since T-05 both are counted
 abbrev pub withPlainReply : State → ℕ → ℕ → State
 withPlainReply s a b = record {
+  rule = s .rule;
   n = s .n;
+  limits = s .limits;
   nodes = s .nodes;
   queue = withoutOldest a b (s .queue) ++ (replies b a (oldest a b (s .queue) .call) true ∷ []);
   sent = oneMore (s .sent) b a;
@@ -403,7 +447,9 @@ withPlainReply s a b = record {
 -- one and the activity x; counter, task and members are kept; that message is out, b's call m is behind the others, and both are counted
 abbrev pub withCall : State → ℕ → ℕ → Activity → Message → State
 withCall s a b x m = record {
+  rule = s .rule;
   n = s .n;
+  limits = s .limits;
   nodes = set (s .nodes) (b - 1)
       (record {
         status = Election;
@@ -458,9 +504,9 @@ pub record InvitationRules : Type 0 where
       → (nodeAt s b .coordinator ≡ b → nodeAt s b .members ≡ 0) → countAt (s .sent) b (ownerOf (oldest a b (s .queue) .group .number)) ≡ trafficEnd
       → step s (Deliver a b) ≡ refused 17
   -- so in every run, where 17 is never met: an invitation to the group that a node holds, where the node is not Down
-  pub runs : (n : ℕ) (es : List Event) (a b : ℕ)
-      → isDown (nodeAt (run n es) b .status) ≡ false → oldest a b (run n es .queue) .kind ≡ 3 → Holds (run n es) a b
-      → run n (es ++ (Deliver a b ∷ [])) ≡ withPlainReply (run n es) a b
+  pub runs : (n : ℕ) (l : Limits) (es : List Event) (a b : ℕ)
+      → isDown (nodeAt (run n l es) b .status) ≡ false → oldest a b (run n l es .queue) .kind ≡ 3 → Holds (run n l es) a b
+      → run n l (es ++ (Deliver a b ∷ [])) ≡ withPlainReply (run n l es) a b
 
 -- ── 02, T-04: recovery as the paper prints it ──
 
@@ -544,7 +590,9 @@ pub record RecoveryRules : Type 0 where
   -- delivery is out and counted
   pub same-table : (s : State) (e : Event) (u : State) → step s e ≡ accepted u Recovers
       → u ≡ record {
+        rule = s .rule;
         n = s .n;
+        limits = s .limits;
         nodes = set (s .nodes) (actor e - 1) (recovered (actor e) (nodeAt s (actor e)));
         queue = remaining s e;
         sent = s .sent;
@@ -584,8 +632,8 @@ checkGrounds s i =
     ∷ ground 18 (not (isNormal (nodeAt s i .status)) || not (eqb (nodeAt s i .coordinator) i))
     -- a call and a message are needed, but not with n = 1: "a call is needed, last call number 16,777,215"
     ∷ ground 13 (ltb 1 (s .n) && eqb (nodeAt s i .last .number) callEnd)
-    -- "a message is needed, 64 wait"
-    ∷ ground 14 (ltb 1 (s .n) && eqb (length (s .queue)) queueLimit)
+    -- "a message is needed, 64 wait"; by T-08, as many as the table's own limit says
+    ∷ ground 14 (ltb 1 (s .n) && eqb (length (s .queue)) (s .limits .messages))
     -- T-05: "a message must be sent and its pair's sent count is 33,554,430"
     ∷ ground 17 (ltb 1 (s .n) && eqb (countAt (s .sent) i (firstOther i)) trafficEnd)
     ∷ []
@@ -593,7 +641,9 @@ checkGrounds s i =
 -- "it asks every other cabinet in turn with kind 1": node i asks the first, in a new call, and has found none yet; the question is behind the other messages, and counted
 abbrev pub withQuestion : State → ℕ → State
 withQuestion s i = record {
+  rule = s .rule;
   n = s .n;
+  limits = s .limits;
   nodes = set (s .nodes) (i - 1)
       (record {
         status = nodeAt s i .status;
@@ -636,15 +686,15 @@ pub record CheckRules : Type 0 where
   pub passes : (s : State) (i : ℕ) (u : State) (k : Mark) → step s (Check i) ≡ accepted u k → (nodeAt s i .status ≡ Normal) × (nodeAt s i .coordinator ≡ i)
   -- "unless": such a check asks, where 13, 14 and 17 do not apply
   pub asks : (s : State) (i : ℕ) → CheckReaches s i → 1 < s .n → nodeAt s i .status ≡ Normal → nodeAt s i .coordinator ≡ i
-      → nodeAt s i .last .number < callEnd → length (s .queue) < queueLimit → MaySend s i (firstOther i) → step s (Check i) ≡ accepted (withQuestion s i) Plain
+      → nodeAt s i .last .number < callEnd → length (s .queue) < s .limits .messages → MaySend s i (firstOther i) → step s (Check i) ≡ accepted (withQuestion s i) Plain
   -- "With n = 1 such a check still passes without effect."
   pub one : (s : State) (i : ℕ) → CheckReaches s i → s .n ≡ 1 → nodeAt s i .status ≡ Normal → nodeAt s i .coordinator ≡ i → step s (Check i) ≡ accepted s Plain
   -- "Checks: 18, check at a cabinet that is not Normal or not its own coordinator": no other event meets it, and no other check
   pub eighteen : (s : State) (e : Event) → step s e ≡ refused 18
       → (e ≡ Check (actor e)) × CheckReaches s (actor e) × DoesNotLead s (actor e)
   -- "sent check events to members": in a run it is met at members alone. Another is the coordinator of the cabinet, which is in Reorganization or Normal
-  pub members-only : (n : ℕ) (es : List Event) (i : ℕ) → step (run n es) (Check i) ≡ refused 18
-      → (nodeAt (run n es) i .coordinator ≡ i → ⊥) × ((nodeAt (run n es) i .status ≡ Reorganization) ⊎ (nodeAt (run n es) i .status ≡ Normal))
+  pub members-only : (n : ℕ) (l : Limits) (es : List Event) (i : ℕ) → step (run n l es) (Check i) ≡ refused 18
+      → (nodeAt (run n l es) i .coordinator ≡ i → ⊥) × ((nodeAt (run n l es) i .status ≡ Reorganization) ⊎ (nodeAt (run n l es) i .status ≡ Normal))
   -- "The lists of T-01 are too short to meet this": they have at most seven events, and none of the first seven of a run meets it (that they "stay the same" is said of
   -- the lists themselves, by short_lists_text)
-  pub not-early : (n : ℕ) (es : List Event) (e : Event) → length es ≤ 6 → step (run n es) e ≡ refused 18 → ⊥
+  pub not-early : (n : ℕ) (l : Limits) (es : List Event) (e : Event) → length es ≤ 6 → step (run n l es) e ≡ refused 18 → ⊥

@@ -1,12 +1,13 @@
--- The history (01: book) beside a run, "fed n and the events alone".
+-- The history (01: book) beside a run, "fed n and the events alone"; T-08: "its book is fed the limits too".
 use Prim.Native.Nat.{ℕ, _+_}
-use mathlib.Core.List.{List, [], _∷_, _++_}
+use mathlib.Core.List.{List, [], _∷_}
 use lib.Dec.{eqb}
 use Rattle.model.specs.Pick.{pick}
 use Rattle.model.specs.Node.{groupOf}
-use Rattle.model.specs.State.{State, start}
+use Rattle.model.specs.Range.{PairRule}
+use Rattle.model.specs.State.{State, startBy, start}
 use Rattle.model.specs.Step.{actor, Result, refused, accepted, step, after}
-use Rattle.model.specs.declared.TaskNo.{TaskNo}
+use Rattle.model.specs.declared.Limits.{Limits}
 use Rattle.model.specs.declared.Mark.{Mark}
 use Rattle.model.specs.declared.Mark.the-variants.{Plain, Recovers, Merges}
 use Rattle.model.specs.declared.Event.{Event}
@@ -69,5 +70,9 @@ unfoldable pub historyFrom : State → History → List Event → History
 historyFrom s h [] = h
 historyFrom s h (e ∷ es) = historyFrom (after s e) (noted h e (step s e)) es
 
-abbrev pub history : ℕ → List Event → History
-history n es = historyFrom (start n) blank es
+-- fed n, the limits and the events: by the steps with the rule of the two pairs or without it, and by those of the machine
+abbrev pub historyBy : PairRule → ℕ → Limits → List Event → History
+historyBy r n l es = historyFrom (startBy r n l) blank es
+
+abbrev pub history : ℕ → Limits → List Event → History
+history n l es = historyFrom (start n l) blank es

@@ -1,13 +1,22 @@
 -- The ends of document 01's ranges, and of 02's, each named once.
 use Prim.Native.Nat.{ℕ}
+use Rattle.model.specs.declared.Limits.{Limits}
 
--- "n from 1 to 16"
+-- "n from 1 to 16": so many records a table has, whatever its limits are
 abbrev pub nodeLimit : ℕ
 nodeLimit = 16
 
--- "At most 64 messages wait"
+-- "At most 64 messages wait": so many places
 abbrev pub queueLimit : ℕ
 queueLimit = 64
+
+-- T-08: "The tower keeps 16 and 64."
+abbrev pub tower : Limits
+tower = record { nodes = nodeLimit; messages = queueLimit }
+
+-- T-08: "Our practice stand has four cabinets and memory for 12 waiting messages.": n from 1 to 4
+abbrev pub stand : Limits
+stand = record { nodes = 4; messages = 12 }
 
 -- "counter of groups, 0 to 1,048,575"
 abbrev pub counterEnd : ℕ

@@ -1,16 +1,41 @@
--- "A table is in range when ..": of one node's record, of one message and of one count. State puts them together.
+-- "A table is in range when ..": of the limits, of one node's record, of one message and of one count. State puts them together.
 use Prim.Native.Nat.{ℕ}
-use mathlib.Core.Bool.{Bool, true, false, not, _&&_, _||_}
+use mathlib.Core.Bool.{Bool, true, not, _&&_, _||_}
 use lib.Dec.{eqb, leb}
 use Rattle.node_set.specs.NodeSet.{has, within}
-use Rattle.model.specs.Limits.{counterEnd, callEnd, trafficEnd, tickEnd, taskLow, taskEnd}
+use Rattle.model.specs.Limits.{tower, stand, counterEnd, callEnd, trafficEnd, tickEnd, taskLow, taskEnd}
 use Rattle.model.specs.Counts.{senderAt, receiverAt}
 use Rattle.model.specs.Node.{isDown, isIdle, ownerOf, counterOf}
-use Rattle.model.specs.declared.Status.{Status}
+use Rattle.model.specs.declared.Limits.{Limits}
 use Rattle.model.specs.declared.Activity.{Activity}
 use Rattle.model.specs.declared.Activity.the-variants.{Idle, Asking, Waiting, Inviting, Collecting, Handing, Contacting, Forwarding, Accepting}
 use Rattle.model.specs.declared.Node.{Node}
 use Rattle.model.specs.declared.Message.{Message}
+
+-- ── T-08: a table's two limits ──
+
+-- the limits l are those of p
+abbrev pub sameLimits : Limits → Limits → Bool
+sameLimits p l = eqb (l .nodes) (p .nodes) && eqb (l .messages) (p .messages)
+
+-- "no other pair is allowed": the rule of the two pairs
+abbrev pub isTowerOrStand : Limits → Bool
+isTowerOrStand l = sameLimits tower l || sameLimits stand l
+
+-- "limits not above the tower's"
+abbrev pub isWithinTower : Limits → Bool
+isWithinTower l = leb (l .nodes) (tower .nodes) && leb (l .messages) (tower .messages)
+
+-- The machine has the rule of the two pairs. Demand 3 is also shown over the steps "with the rule of the two pairs left out".
+pub data PairRule : Type 0 where
+  TwoPairs : PairRule
+  LeftOut : PairRule
+
+abbrev pub pairRule : PairRule → Limits → Bool
+pairRule TwoPairs l = isTowerOrStand l
+pairRule LeftOut l = true
+
+-- ── nodes, messages and counts ──
 
 -- "all cabinet numbers are 1 to n"
 abbrev pub isNode : ℕ → ℕ → Bool

@@ -1,22 +1,27 @@
--- The table of document 01 as a state: n nodes, the waiting messages in the order sent and the counts of T-05; and what the code's table means as one.
+-- The table of document 01 as a state: n nodes, the limits of T-08, the waiting messages in the order sent and the counts of T-05, and beside them whether the rule of the two pairs
+-- is left out, which is no part of a table; and what the code's table means as a state.
 use Prim.Native.Nat.{ℕ, zero, suc, _+_, _-_}
 use mathlib.Core.Bool.{Bool, true, false, not, _&&_, _||_}
-use mathlib.Core.List.{List, [], _∷_, _++_}
+use mathlib.Core.List.{List, [], _∷_}
 use lib.Dec.{eqb, leb}
 use lib.ListN.{length, getD, replicate}
 use Rattle.model.specs.Pick.{pick}
 use Rattle.model.specs.Limits.{nodeLimit, queueLimit}
 use Rattle.model.specs.Counts.{countPlaces, countAt, oneMore, noCounts, one}
-use Rattle.model.specs.Range.{nodeInRange, messageInRange, countInRange}
-use Rattle.model.specs.declared.Status.{Status}
-use Rattle.model.specs.declared.Status.the-variants.{Down, Election, Reorganization, Normal}
+use Rattle.model.specs.Range.{PairRule, TwoPairs, pairRule, isWithinTower, nodeInRange, messageInRange, countInRange}
+use Rattle.model.specs.declared.Limits.{Limits}
+use Rattle.model.specs.declared.Status.the-variants.{Down}
 use Rattle.model.specs.declared.Activity.the-variants.{Idle}
 use Rattle.model.specs.declared.Node.{Node}
 use Rattle.model.specs.declared.Message.{Message}
 use Rattle.model.specs.declared.Table.{Table}
 
 pub record State : Type 0 where
+  -- T-08: whether its range has the rule of the two pairs. That of every table of the code has it (`view`); no event looks at it otherwise, and none changes it.
+  pub rule : PairRule
   pub n : ℕ
+  -- T-08: "its two limits are part of the table's starting data"
+  pub limits : Limits
   pub nodes : List Node
   pub queue : List Message
   -- T-05: "how many messages were sent, delivered and lost"
@@ -37,13 +42,21 @@ startingNode = record {
   activity = Idle;
 }
 
--- "Starting table: all Down and idle, every number 0, every set empty, no messages."
-abbrev pub start : ℕ → State
-start n = record { n = n; nodes = replicate n startingNode; queue = []; sent = noCounts; delivered = noCounts; lost = noCounts }
+-- "Starting table: all Down and idle, every number 0, every set empty, no messages." Its starting data are n and, by T-08, the limits.
+abbrev pub startBy : PairRule → ℕ → Limits → State
+startBy r n l = record { rule = r; n = n; limits = l; nodes = replicate n startingNode; queue = []; sent = noCounts; delivered = noCounts; lost = noCounts }
+
+-- that of the machine
+abbrev pub start : ℕ → Limits → State
+start n l = startBy TwoPairs n l
+
+-- "n from 1 to 16", and by T-08 to the table's own limit of nodes instead of 16
+abbrev pub isCount : ℕ → ℕ → Bool
+isCount limit n = leb 1 n && leb n limit
 
 -- 6: "n outside 1 to 16"
-abbrev pub wrongCount : ℕ → Bool
-wrongCount n = not (leb 1 n && leb n nodeLimit)
+abbrev pub wrongCount : ℕ → ℕ → Bool
+wrongCount limit n = not (isCount limit n)
 
 -- the record of node i, where i is 1 to n; place 0 reads node 1's record, as the numbers start at 1
 abbrev pub nodeAt : State → ℕ → Node
@@ -96,13 +109,16 @@ unfoldable pub countsOf : List Message → List ℕ
 countsOf [] = noCounts
 countsOf (m ∷ ms) = oneMore (countsOf ms) (m .sender) (m .receiver)
 
--- a table of n nodes, with messages among 1 to 16, in which all that was sent still waits
-abbrev pub allWaiting : ℕ → List Node → List Message → State
-allWaiting n cs q = record { n = n; nodes = cs; queue = q; sent = countsOf q; delivered = noCounts; lost = noCounts }
+-- a table of n nodes with the limits l, and with messages whose senders and receivers are 1 to 16, in which all that was sent still waits
+abbrev pub allWaitingBy : PairRule → ℕ → Limits → List Node → List Message → State
+allWaitingBy r n l cs q = record { rule = r; n = n; limits = l; nodes = cs; queue = q; sent = countsOf q; delivered = noCounts; lost = noCounts }
+
+abbrev pub allWaiting : ℕ → Limits → List Node → List Message → State
+allWaiting n l cs q = allWaitingBy TwoPairs n l cs q
 
 -- the table with its counts set aside: as if nothing had been delivered or lost
 abbrev pub countsAside : State → State
-countsAside s = allWaiting (s .n) (s .nodes) (s .queue)
+countsAside s = allWaitingBy (s .rule) (s .n) (s .limits) (s .nodes) (s .queue)
 
 -- ── in range ──
 
@@ -120,13 +136,12 @@ upTo (suc k) f = upTo k f && f (suc k)
 abbrev pub addsUp : State → ℕ → ℕ → Bool
 addsUp s a b = eqb (countAt (s .sent) a b) (countAt (s .delivered) a b + countAt (s .lost) a b + waiting (s .queue) a b)
 
--- 01: "A table is in range when all numbers are as above ..", of its n nodes and the waiting messages
-abbrev pub baseInRange : ℕ → List Node → List Message → Bool
-baseInRange n cs q =
-    leb 1 n
-    && leb n nodeLimit
+-- 01: "A table is in range when all numbers are as above ..", of its n nodes and the waiting messages, by the table's own limits l
+abbrev pub baseInRange : Limits → ℕ → List Node → List Message → Bool
+baseInRange l n cs q =
+    isCount (l .nodes) n
     && eqb (length cs) n
-    && leb (length q) queueLimit
+    && leb (length q) (l .messages)
     && every (nodeInRange n) 1 cs
     && every (λ k. messageInRange n) 1 q
 
@@ -142,9 +157,12 @@ trafficInRange s =
     && countsInRange (s .n) (s .lost)
     && upTo (s .n) (λ a. upTo (s .n) (λ b. addsUp s a b))
 
--- in range: by 01, and by T-05
+-- in range: by T-08, by 01, and by T-05. The rule of the two pairs is a conjunct by itself. Where it is left out, what is asked of the limits is that they are "not above the
+-- tower's"; where it is not, that follows from it.
 unfoldable pub inRange : State → Bool
-inRange s = baseInRange (s .n) (s .nodes) (s .queue) && trafficInRange s
+inRange s =
+    pairRule (s .rule) (s .limits)
+    && (isWithinTower (s .limits) && (baseInRange (s .limits) (s .n) (s .nodes) (s .queue) && trafficInRange s))
 
 -- ── the code's table ──
 
@@ -158,7 +176,9 @@ firstOf (suc k) d (x ∷ l) = x ∷ firstOf k d l
 -- has records or places, n or the number of waiting messages is out of range.
 abbrev pub view : Table → State
 view t = record {
+  rule = TwoPairs;
   n = t .n;
+  limits = t .limits;
   nodes = firstOf (t .n) startingNode (t .nodes);
   queue = firstOf (t .waiting) noMessage (t .messages);
   sent = t .sent;
@@ -166,10 +186,11 @@ view t = record {
   lost = t .lost;
 }
 
--- The table of a state. Nothing of it is free: past its n records stands the starting record, and past its waiting messages none.
+-- The table of a state; whether the rule of the two pairs is left out is not in it. Nothing of it is free: past its n records stands the starting record, and past its waiting messages none.
 abbrev pub tableOf : State → Table
 tableOf s = record {
   n = s .n;
+  limits = s .limits;
   nodes = firstOf nodeLimit startingNode (s .nodes);
   messages = firstOf queueLimit noMessage (s .queue);
   waiting = length (s .queue);

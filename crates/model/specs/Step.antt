@@ -2,16 +2,17 @@
 use Prim.Native.Nat.{ℕ, _+_, _-_}
 use mathlib.Core.Bool.{Bool, true, false, not, _&&_}
 use mathlib.Core.List.{List, [], _∷_, _++_}
-use lib.Dec.{eqb, leb, ltb}
+use lib.Dec.{eqb, ltb}
 use lib.ListN.{length, set}
 use Rattle.model.specs.Grounds.{Ground, ground, judged}
-use Rattle.model.specs.Limits.{queueLimit, counterEnd, callEnd, trafficEnd}
+use Rattle.model.specs.Limits.{counterEnd, callEnd, trafficEnd}
 use Rattle.model.specs.Counts.{countAt, oneMore}
 use Rattle.model.specs.Node.{isDown, isIdle, isWaiting, isCollecting, hasOpenCall}
 use Rattle.model.specs.Procedures.{stays}
 use Rattle.model.specs.React.{leads, react}
-use Rattle.model.specs.Range.{isNode, isPair, isGivenTask}
-use Rattle.model.specs.State.{State, start, nodeAt, waits, oldest, withoutOldest, countsAside, inRange}
+use Rattle.model.specs.Range.{PairRule, isNode, isPair, isGivenTask}
+use Rattle.model.specs.State.{State, startBy, start, nodeAt, waits, oldest, withoutOldest, countsAside, inRange}
+use Rattle.model.specs.declared.Limits.{Limits}
 use Rattle.model.specs.declared.Status.{Status}
 use Rattle.model.specs.declared.Activity.{Activity}
 use Rattle.model.specs.declared.Node.{Node}
@@ -100,7 +101,9 @@ withLost l (Lose a b) = oneMore l a b
 -- the state after an accepted event: one record stored, the message of a deliver or lose out, at most one message in, and both counted
 unfoldable pub effect : State → Event → State
 effect s e = record {
+  rule = s .rule;
   n = s .n;
+  limits = s .limits;
   nodes = set (s .nodes) (actor e - 1) (reactionTo s e .node);
   queue = remaining s e ++ sent (reactionTo s e .outgoing);
   sent = withSent (s .sent) (reactionTo s e .outgoing);
@@ -220,8 +223,8 @@ grounds s e =
     -- "ends of ranges"
     ∷ ground 12 (forms (reactionTo s e .mark) && eqb (nodeAt s (actor e) .counter) counterEnd)
     ∷ ground 13 (isCalling (reactionTo s e .outgoing) && eqb (nodeAt s (actor e) .last .number) callEnd)
-    -- "(a delivered one is already out)"
-    ∷ ground 14 (isSending (reactionTo s e .outgoing) && eqb (length (remaining s e)) queueLimit)
+    -- "(a delivered one is already out)"; T-08: "Grounds 1, 6 and 14 read the table's own limits."
+    ∷ ground 14 (isSending (reactionTo s e .outgoing) && eqb (length (remaining s e)) (s .limits .messages))
     -- T-05: "after 14"
     ∷ ground 17 (pairAtEnd (s .sent) (reactionTo s e .outgoing))
     ∷ []
@@ -242,20 +245,29 @@ abbrev pub kept : State → Result → State
 kept s (refused r) = s
 kept s (accepted u k) = u
 
+-- a result with its state changed by f
+abbrev pub changed : (State → State) → Result → Result
+changed f (refused r) = refused r
+changed f (accepted u k) = accepted (f u) k
+
 -- a result with the counts of T-05 set aside
 abbrev pub aside : Result → Result
-aside (refused r) = refused r
-aside (accepted u k) = accepted (countsAside u) k
+aside x = changed countsAside x
 
 abbrev pub after : State → Event → State
 after s e = kept s (step s e)
 
--- ── "A run is a list of these nine events, of any length, refused ones included, from the starting table of any n." ──
+-- ── "A run is a list of these nine events, of any length, refused ones included, from the starting table of any n.", and by T-08 of the tower or the stand;
+-- with the rule of the two pairs left out, of any limits not above the tower's ──
 
 unfoldable pub runFrom : State → List Event → State
 runFrom s [] = s
 runFrom s (e ∷ es) = runFrom (after s e) es
 
--- the table after a run
-abbrev pub run : ℕ → List Event → State
-run n es = runFrom (start n) es
+-- the table after a run, with the rule of the two pairs or without it
+abbrev pub runBy : PairRule → ℕ → Limits → List Event → State
+runBy r n l es = runFrom (startBy r n l) es
+
+-- and of the machine, which keeps it
+abbrev pub run : ℕ → Limits → List Event → State
+run n l es = runFrom (start n l) es

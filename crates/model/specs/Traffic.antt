@@ -1,13 +1,16 @@
 -- T-05: "the counts taken from the accepted events of the run". The steps say which events of a list are accepted and what they send. What is counted does not look at
--- the table's own counts; whether an event is accepted does, by 1 and 17, neither of which a run meets (`StaysInRange.never-one`, `TrafficAgrees.never-seventeen`).
+-- the table's own counts; whether an event is accepted does, by 1 and 17, neither of which a run meets that starts from a table in range (`StaysInRange.never-one`,
+-- `TrafficAgrees.never-seventeen`).
 use Prim.Native.Nat.{ℕ, _+_}
 use mathlib.Core.Bool.{_&&_}
 use mathlib.Core.List.{List, [], _∷_}
 use lib.Dec.{eqb}
 use lib.ListN.{length}
 use Rattle.model.specs.Counts.{one}
-use Rattle.model.specs.State.{State, start, waiting}
+use Rattle.model.specs.State.{State, startBy, waiting}
+use Rattle.model.specs.Range.{PairRule}
 use Rattle.model.specs.Step.{reactionTo, sent, Result, refused, accepted, step, after}
+use Rattle.model.specs.declared.Limits.{Limits}
 use Rattle.model.specs.declared.Event.{Event}
 use Rattle.model.specs.declared.Event.the-variants.{Crash, Recover, Check, Timeout, Tick, Expire, Finish, Deliver, Lose}
 
@@ -49,15 +52,15 @@ unfoldable pub tally : (State → Event → ℕ) → State → List Event → �
 tally f s [] = 0
 tally f s (e ∷ es) = ofAccepted (f s e) (step s e) + tally f (after s e) es
 
--- over the list alone, from the starting table of n nodes: messages sent from a to b, delivered and lost
-abbrev pub sentIn : ℕ → List Event → ℕ → ℕ → ℕ
-sentIn n es a b = tally (sends a b) (start n) es
+-- over n, the limits and the list alone, from the starting table: messages sent from a to b, delivered and lost
+abbrev pub sentIn : PairRule → ℕ → Limits → List Event → ℕ → ℕ → ℕ
+sentIn r n l es a b = tally (sends a b) (startBy r n l) es
 
-abbrev pub deliveredIn : ℕ → List Event → ℕ → ℕ → ℕ
-deliveredIn n es a b = tally (delivers a b) (start n) es
+abbrev pub deliveredIn : PairRule → ℕ → Limits → List Event → ℕ → ℕ → ℕ
+deliveredIn r n l es a b = tally (delivers a b) (startBy r n l) es
 
-abbrev pub lostIn : ℕ → List Event → ℕ → ℕ → ℕ
-lostIn n es a b = tally (loses a b) (start n) es
+abbrev pub lostIn : PairRule → ℕ → Limits → List Event → ℕ → ℕ → ℕ
+lostIn r n l es a b = tally (loses a b) (startBy r n l) es
 
 -- ── of all pairs together ──
 

@@ -88,10 +88,17 @@ pub struct Message {
     pub yes: bool,
 }
 
-// n nodes, and the waiting messages in the order sent. Records past n and places past `waiting` are no part of 01's table.
+// T-08: the most nodes that a table may have, and the most messages that may wait in it. "its two limits are part of the table's starting data"
+pub struct Limits {
+    pub nodes: u8,
+    pub messages: u8,
+}
+
+// n nodes, the table's two limits, and the waiting messages in the order sent. Records past n and places past `waiting` are no part of 01's table.
 // T-05: "for each ordered pair, how many messages were sent, delivered and lost", row by sender: a to b at (a - 1) * 16 + (b - 1).
 pub struct Table {
     pub n: u8,
+    pub limits: Limits,
     pub nodes: [Node; 16],
     pub messages: [Message; 64],
     pub waiting: u8,
@@ -145,9 +152,10 @@ pub struct Reaction {
     pub mark: Mark,
 }
 
-// What a starting table is answered with: it, or refusal 6.
+// What the starting data of a table are answered with: none, refusal 1 for limits that are none of T-08's two pairs, or refusal 6.
 pub enum StartAnswer {
     Started,
+    WrongLimits,
     WrongCount,
 }
 

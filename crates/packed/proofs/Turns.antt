@@ -10,6 +10,7 @@ use Rattle.model.specs.Claims.{BelowEnd}
 use Rattle.model.specs.State.{State, start, noMessage, inRange, firstOf, view}
 use Rattle.model.specs.Step.{actor, reactionTo, sent, pairAtEnd, effect, refused, accepted, step, kept, after}
 use Rattle.model.specs.Answers.{answerNumber, resultNumber}
+use Rattle.model.specs.declared.Limits.{Limits}
 use Rattle.model.specs.declared.Node.{Node}
 use Rattle.model.specs.declared.Table.{Table}
 use Rattle.model.specs.declared.Event.{Event}
@@ -32,24 +33,24 @@ use Rattle.packed.proofs.Laws.{held-long, within}
 
 -- ── before the first turn: where none waits, it makes no difference what the messages are ──
 
-pub same-start : (t : Table) (ws : List ℕ) → t .waiting ≡ 0 → seen (t .n) (t .nodes) ws (t .waiting) (t .sent) (t .delivered) (t .lost) ≡ view t
+pub same-start : (t : Table) (ws : List ℕ) → t .waiting ≡ 0 → seen (t .n) (t .limits) (t .nodes) ws (t .waiting) (t .sent) (t .delivered) (t .lost) ≡ view t
 unfolding firstOf
 same-start t ws h = rw h
 
-pub start-empty : (t : Table) (n : ℕ) → view t ≡ start n → t .waiting ≡ 0
-start-empty t n h = sym (first-length (t .waiting) noMessage (t .messages)) ∙ ap (λ (s : State). length (s .queue)) h
+pub start-empty : (t : Table) (n : ℕ) (lim : Limits) → view t ≡ start n lim → t .waiting ≡ 0
+start-empty t n lim h = sym (first-length (t .waiting) noMessage (t .messages)) ∙ ap (λ (s : State). length (s .queue)) h
 
 -- ── a turn ──
 
 -- what the loop keeps of the table
-pub record Ready (n : ℕ) (cs : List Node) (ws : List ℕ) (w : ℕ) (sent delivered lost : List ℕ) : Type 0 where
+pub record Ready (n : ℕ) (lim : Limits) (cs : List Node) (ws : List ℕ) (w : ℕ) (sent delivered lost : List ℕ) : Type 0 where
   pub words : length ws ≡ 256
   pub nodes : length cs ≡ 16
-  pub range : inRange (seen n cs ws w sent delivered lost) ≡ true
+  pub range : inRange (seen n lim cs ws w sent delivered lost) ≡ true
 
-module _ (n : ℕ) (cs : List Node) (ws : List ℕ) (w : ℕ) (sends delivers loses : List ℕ) (h : Ready n cs ws w sends delivers loses) (e : Event) where
+module _ (n : ℕ) (lim : Limits) (cs : List Node) (ws : List ℕ) (w : ℕ) (sends delivers loses : List ℕ) (h : Ready n lim cs ws w sends delivers loses) (e : Event) where
   abbrev t : Table
-  t = whole n cs ws w sends delivers loses
+  t = whole n lim cs ws w sends delivers loses
 
   z : Sized t
   z =
@@ -71,7 +72,7 @@ module _ (n : ℕ) (cs : List Node) (ws : List ℕ) (w : ℕ) (sends delivers lo
     pub rulable : Rulable ws n w (getD cs at d) e
     rulable = judging t z (h .range) e _ refl (within ws w e) at ha d _ refl noMessage _ refl
 
-    module _ (r : Ruling) (j : Ruled ws n w (getD cs at d) e r) where
+    module _ (r : Ruling) (j : Ruled ws n (lim .messages) w (getD cs at d) e r) where
       -- refused: its number, and the same state
       pub refused-turn : isAccepted (r .verdict .answer) ≡ false → (answerNumber (r .verdict .answer) ≡ resultNumber (step (view t) e)) × (view t ≡ after (view t) e)
       refused-turn q = let s = refuses t z (h .range) e _ (j .place) (j .reach) at ha d _ refl noMessage _ refl (r .verdict) (j .judged) (r .verdict .answer) refl q in (s .answer, s .table)
@@ -112,7 +113,7 @@ module _ (n : ℕ) (cs : List Node) (ws : List ℕ) (w : ℕ) (sends delivers lo
             -- the table after it
             abbrev next : Table
             next =
-                whole n (set cs at (r .verdict .reaction .node)) us v
+                whole n lim (set cs at (r .verdict .reaction .node)) us v
                 (raised sends (sentPlace (r .verdict .reaction .outgoing)) (sentBy (r .verdict .reaction .outgoing)))
                 (raised delivers (movedPlace e) (deliveredBy e))
                 (raised loses (movedPlace e) (lostBy e))
@@ -120,7 +121,7 @@ module _ (n : ℕ) (cs : List Node) (ws : List ℕ) (w : ℕ) (sends delivers lo
             pub next-is : view next ≡ effect (view t) e
             next-is =
                 let below = seated t z (h .range) e _ (j .place) (j .reach) at ha d _ refl noMessage _ refl (r .verdict) (j .judged) q in
-                state-is n _ _ _ (first-set n at _ cs (r .verdict .reaction .node) below (omega (arith, h .nodes, small t z (h .range) e .1))) x
+                state-is n lim _ _ _ (first-set n at _ cs (r .verdict .reaction .node) below (omega (arith, h .nodes, small t z (h .range) e .1))) x
                 ∙ stores t z (h .range) e _ (j .place) (j .reach) at ha d _ refl noMessage _ refl (r .verdict) (j .judged) q p
 
             pub accepted-turn : (0 ≡ resultNumber (step (view t) e)) × (view next ≡ after (view t) e)
@@ -131,6 +132,6 @@ module _ (n : ℕ) (cs : List Node) (ws : List ℕ) (w : ℕ) (sends delivers lo
             accepted-step = step-accepts ∙ ap (λ (s : State). accepted s (reactionTo (view t) e .mark)) (sym next-is)
 
             -- and the table is ready for the next turn
-            pub ready-again : length us ≡ 256 → Ready n (set cs at (r .verdict .reaction .node)) us v (next .sent) (next .delivered) (next .lost)
+            pub ready-again : length us ≡ 256 → Ready n lim (set cs at (r .verdict .reaction .node)) us v (next .sent) (next .delivered) (next .lost)
             ready-again k =
                 record { words = k; nodes = simp length-set (h .nodes); range = stays-in-range .keeps (view t) e (view next) (reactionTo (view t) e .mark) accepted-step }

@@ -59,7 +59,7 @@ messageAt ws k = getD (held ws) (k % 64) noMessage
 abbrev pub Rulable : List ℕ → ℕ → ℕ → Node → Event → Type 0
 Rulable ws n waiting c e = Judging n waiting (placeFor (queue ws waiting) e) c (messageAt ws (placeFor (queue ws waiting) e)) e
 
-pub record Ruled (ws : List ℕ) (n waiting : ℕ) (c : Node) (e : Event) (r : Ruling) : Type 0 where
+pub record Ruled (ws : List ℕ) (n limit waiting : ℕ) (c : Node) (e : Event) (r : Ruling) : Type 0 where
   pub place : r .place ≡ placeFor (queue ws waiting) e
   pub reach : r .place ≤ waiting
-  pub judged : Judged n waiting (r .place) c (messageAt ws (r .place)) e (r .verdict)
+  pub judged : Judged n limit waiting (r .place) c (messageAt ws (r .place)) e (r .verdict)

@@ -149,16 +149,16 @@ pub fn seat(e: Event) -> usize
     (machine::actor(e) as usize + 15) % 16
 }
 
-// The judgement of an event on a node's record c, with its message as it stands in q.
-pub fn rule(q: &[u32; WORDS], n: u8, waiting: u8, c: Node, e: Event) -> Ruling
+// The judgement of an event on a node's record c, with its message as it stands in q; limit is how many messages may wait.
+pub fn rule(q: &[u32; WORDS], n: u8, limit: u8, waiting: u8, c: Node, e: Event) -> Ruling
     requires { ⌜ (length (now q) ≡ 256) × (waiting ≤ 64) × spec.Rulable (now q) n waiting c e ⌝ }
-    ensures { λ r. ⌜ spec.Ruled (now (q .entry)) n waiting c e r ⌝ }
+    ensures { λ r. ⌜ spec.Ruled (now (q .entry)) n limit waiting c e r ⌝ }
 {
     let k = place_for(q, waiting, e);
     let m = message_at(q, k);
     Ruling {
         place: k,
-        verdict: machine::judge(n, waiting, k, c, m, e),
+        verdict: machine::judge(n, limit, waiting, k, c, m, e),
     }
 }
 

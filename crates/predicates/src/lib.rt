@@ -1,13 +1,15 @@
-// Tests that both machines use, of a status, a node's number, a set of nodes and a task, and the answer to a number of nodes: definitions of model's specs/Node, specs/Range
-// and specs/State as functions.
+// Definitions of model's specs as functions that several crates use: tests of a status, a node's number, a set of nodes, a task and a table's limits, and the answer to a number
+// of nodes. The two pairs of limits (T-08) are named here, and nowhere else in the code.
 ghost use mathlib.Core.Path.{_≡_};
 ghost use Prim.Native.Nat.{_≤_};
+ghost use Rattle.model.specs.Limits as limits;
 ghost use Rattle.model.specs.Limits.{nodeLimit};
 ghost use Rattle.model.specs.Node.{isDown, isElection, isReorganization, isNormal, isActive};
 ghost use Rattle.model.specs.Pick.{pick};
 ghost use Rattle.model.specs.State.{wrongCount};
 ghost use Rattle.model.specs.Answers.{startNumber};
-ghost use Rattle.model.specs.Range.{isNode, isOther, isSetOfOthers, isGivenTask};
+ghost use Rattle.model.specs.Range.{sameLimits, isTowerOrStand, isNode, isOther, isSetOfOthers, isGivenTask};
+use model::Limits;
 use model::StartAnswer;
 use model::Status;
 use model::TaskNo;
@@ -98,14 +100,51 @@ pub fn is_given_task(t: TaskNo) -> bool
     (TASK_LOW <= t.number) & (t.number <= TASK_END)
 }
 
-// Refusal 6, where there is no such number of nodes.
-pub fn start_answer(n: u8) -> StartAnswer
-    ensures { λ r. ⌜ startNumber r ≡ pick (wrongCount n) 6 0 ⌝ }
+// The limits of the tower.
+pub fn tower() -> Limits
+    ensures { λ r. ⌜ r ≡ limits.tower ⌝ }
 {
-    if n < 1 {
-        return StartAnswer::WrongCount;
+    Limits {
+        nodes: 16,
+        messages: 64,
     }
-    if 16 < n {
+}
+
+// The limits of the practice stand.
+pub fn stand() -> Limits
+    ensures { λ r. ⌜ r ≡ limits.stand ⌝ }
+{
+    Limits {
+        nodes: 4,
+        messages: 12,
+    }
+}
+
+fn same_limits(p: Limits, l: Limits) -> bool
+    ensures { λ r. ⌜ r ≡ sameLimits p l ⌝ }
+{
+    (l.nodes == p.nodes) & (l.messages == p.messages)
+}
+
+// "no other pair is allowed"
+pub fn is_tower_or_stand(l: Limits) -> bool
+    ensures { λ r. ⌜ r ≡ isTowerOrStand l ⌝ }
+{
+    same_limits(tower(), l) | same_limits(stand(), l)
+}
+
+// Whether n is outside 1 to the limit.
+pub fn wrong_count(limit: u8, n: u8) -> bool
+    ensures { λ r. ⌜ r ≡ wrongCount limit n ⌝ }
+{
+    !((1 <= n) & (n <= limit))
+}
+
+// Refusal 6, where n is outside 1 to the limit.
+pub fn start_answer(limit: u8, n: u8) -> StartAnswer
+    ensures { λ r. ⌜ startNumber r ≡ pick (wrongCount limit n) 6 0 ⌝ }
+{
+    if wrong_count(limit, n) {
         return StartAnswer::WrongCount;
     }
     StartAnswer::Started

@@ -1,24 +1,24 @@
 -- How long the text of a list can be, and what a buffer of a given length then holds.
 use Prim.Native.Nat.{ℕ, _+_, _*_, _≤_, _<_}
 use native.Mathlib.Omega.{arith}
-use mathlib.Core.Path.{_≡_, refl, sym, _∙_, ap}
+use mathlib.Core.Path.{_≡_, refl, sym, _∙_}
 use mathlib.Core.Bool.{Bool, true, false}
 use mathlib.Core.List.{List, [], _∷_, _++_}
 use lib.ListN.{length, take, drop, length-append, length-drop}
 use lib.Seq.{take-append-seam}
-use lib.Dec.{eqb, leb}
-use borrow.Author.Needs.{needs}
+use lib.Dec.{leb}
 use borrow.Author.Tests.{le-leb, leb-true, leb-false}
-use Rattle.model.specs.Pick.{pick, pick-true, pick-false, by-test}
-use Rattle.model.specs.State.{State, start, inRange}
-use Rattle.model.specs.Grounds.{Ground, judged}
-use Rattle.model.specs.Step.{grounds, Result, refused, accepted, step, after, runFrom, run}
+use Rattle.model.specs.Pick.{pick-true, pick-false, by-test}
+use Rattle.model.specs.State.{State, start}
+use Rattle.model.specs.Step.{step, after, run}
 use Rattle.model.specs.Answers.{resultNumber}
+use Rattle.model.specs.Range.{TwoPairs}
+use Rattle.model.specs.Claims.{MayStart}
+use Rattle.model.specs.declared.Limits.{Limits}
 use Rattle.model.specs.declared.Event.{Event}
-use Rattle.model.specs.declared.Mark.{Mark}
 use Rattle.model.proofs.Refusals.{result-small}
 use Rattle.model.proofs.Fields.{in-range-size}
-use Rattle.model.proofs.InRange.{stays-in-range}
+use Rattle.model.proofs.InRange.{start-small, stays-in-range}
 use Rattle.event_list.specs.declared.Stop.{Stop}
 use Rattle.event_list.specs.declared.Stop.the-variants.{TooLong, CutShort, WrongTag, WrongLength, WrongCount}
 use Rattle.event_list.specs.declared.First.{First}
@@ -31,7 +31,7 @@ use Rattle.listing.specs.Lines.{cabinetsLine, refusedLine, stoppedLine, tableLi
 use Rattle.listing.specs.Printing.{shown, printed, joined}
 use Rattle.listing.proofs.Lengths.{cabinets-long, refused-long, stopped-long, table-long, joined-append, joined-one}
 use Rattle.listing.proofs.Printing.{printed-whole, printed-no-room}
-use Rattle.run_list.specs.Text.{noteLines, refusedLines, endingLines, runLines, linesOf, textOf, Printed, textLimit, TextFits, Whole}
+use Rattle.run_list.specs.Text.{noteLines, refusedLines, endingLines, linesOf, textOf, Printed, textLimit, TextFits, Whole}
 use Rattle.run_list.proofs.Laws.{left, lines-failed, lines-begun}
 
 -- ── numbers of refusals have two digits at most ──
@@ -65,21 +65,21 @@ unfolding joined
 ending-long m complete h i = omega arith
 ending-long m (stopped b s) h i = let k = h b s refl in rw (joined-one (stoppedLine b (stopNumber s))) (stopped-long b (stopNumber s) (omega arith) (stop-small s))
 
-run-table-long : (n : ℕ) (vs : List Event) → 1 ≤ n → n ≤ 16 → length (joined (tableLines (run n vs))) ≤ 34 * 16 + 12 + 53
-run-table-long n vs h i =
-    let g = stays-in-range .runs n h i vs in
-    let t = table-long (run n vs) g in
-    let z = in-range-size (run n vs) g .1 in
+run-table-long : (n : ℕ) (lim : Limits) (vs : List Event) → MayStart TwoPairs n lim → length (joined (tableLines (run n lim vs))) ≤ 34 * 16 + 12 + 53
+run-table-long n lim vs m =
+    let g = stays-in-range .runs TwoPairs n lim m vs in
+    let t = table-long (run n lim vs) g in
+    let z = in-range-size (run n lim vs) g .1 in
     omega arith
 
-left-long : (l : List ℕ) (n : ℕ) → 1 ≤ n → n ≤ 16 → 4 ≤ length l → length l ≤ 65536 → length (joined (left l (start n) 4 1)) ≤ 17 * 16384 + (34 * 16 + 12 + 53)
-left-long l n h i j k =
+left-long : (l : List ℕ) (n : ℕ) (lim : Limits) → MayStart TwoPairs n lim → 4 ≤ length l → length l ≤ 65536 → length (joined (left l (start n lim) 4 1)) ≤ 17 * 16384 + (34 * 16 + 12 + 53)
+left-long l n lim m j k =
     let r = rest l 4 in
     let f = reads-all .few l 4 j in
-    let a = refusals-long (start n) 1 (r .events) (omega arith) in
+    let a = refusals-long (start n lim) 1 (r .events) (omega arith) in
     let b = ending-long (length l) (r .ending) (reads-all .before l 4) k in
-    let c = run-table-long n (r .events) h i in
-    rw (joined-append (refusedLines (start n) 1 (r .events)) (endingLines (r .ending) ++ tableLines (run n (r .events))), joined-append (endingLines (r .ending)) (tableLines (run n (r .events)))) (omega arith)
+    let c = run-table-long n lim (r .events) m in
+    rw (joined-append (refusedLines (start n lim) 1 (r .events)) (endingLines (r .ending) ++ tableLines (run n lim (r .events))), joined-append (endingLines (r .ending)) (tableLines (run n lim (r .events)))) (omega arith)
 
 -- ── the whole ──
 
@@ -89,11 +89,11 @@ text-fits l = by (firstOf l) refl
   where
     by : (x : First) → x ≡ firstOf l → length (textOf l) ≤ textLimit
     by (First.Stopped s) i = rw (lines-failed l i refl, joined-one (stoppedLine 0 (stopNumber s))) (let h = stopped-long 0 (stopNumber s) (omega arith) (stop-small s) in omega arith)
-    by (First.Nodes n) i =
+    by (First.Nodes n lim) i =
         let g = first-good l i refl in
-        let c = cabinets-long n (g .3) in
-        let r = left-long l n (g .2) (g .3) (g .0) (g .1) in
-        rw (lines-begun l i refl, joined-append (cabinetsLine n ∷ []) (left l (start n) 4 1), joined-one (cabinetsLine n)) (omega arith)
+        let c = cabinets-long n (start-small n lim (g .2)) in
+        let r = left-long l n lim (g .2) (g .0) (g .1) in
+        rw (lines-begun l i refl, joined-append (cabinetsLine n ∷ []) (left l (start n lim) 4 1), joined-one (cabinetsLine n)) (omega arith)
 
 -- Lines printed from the start of a buffer are what `Printed` says.
 pub printed-holds : (l b o : List ℕ) (a : Put) → shown a o ≡ printed b 0 (linesOf l) → Printed l b o a

@@ -1,17 +1,17 @@
 -- The lines that are left at a field, by what is read there, and those of a whole list, by its first field.
-use Prim.Native.Nat.{ℕ, _+_, _≤_}
+use Prim.Native.Nat.{ℕ, _+_}
 use native.Mathlib.Omega.{arith}
 use mathlib.Core.Path.{_≡_, refl, sym, _∙_, ap}
-use mathlib.Core.Bool.{Bool, true, false}
+use mathlib.Core.Bool.{Bool, true}
 use lib.Dec.{eqb}
 use lib.ListN.{length, getD}
 use mathlib.Core.List.{List, [], _∷_, _++_, append-assoc}
-use borrow.Author.Tests.{le-leb}
-use Rattle.model.specs.Limits.{nodeLimit}
+use Rattle.model.specs.Range.{TwoPairs}
 use Rattle.model.specs.Pick.{pick, pick-true}
-use Rattle.model.specs.State.{State, start, wrongCount, noMessage, inRange, view}
+use Rattle.model.specs.State.{State, start, noMessage, inRange, view}
 use Rattle.model.specs.Step.{step, after, runFrom}
 use Rattle.model.specs.Answers.{resultNumber}
+use Rattle.model.specs.declared.Limits.{Limits}
 use Rattle.model.specs.declared.Table.{Table}
 use Rattle.model.specs.declared.Event.{Event}
 use Rattle.model.proofs.InRange.{stays-in-range}
@@ -34,7 +34,7 @@ use Rattle.run_list.specs.Text.{noteLines, refusedLines, runLines, lines
 use Rattle.run_list.specs.declared.Heading.the-variants as Heading
 
 -- the lines of a table do not depend on what its messages are
-pub same-lines : (t : Table) (ws : List ℕ) → tableLines (view t) ≡ tableLines (seen (t .n) (t .nodes) ws (t .waiting) (t .sent) (t .delivered) (t .lost))
+pub same-lines : (t : Table) (ws : List ℕ) → tableLines (view t) ≡ tableLines (seen (t .n) (t .limits) (t .nodes) ws (t .waiting) (t .sent) (t .delivered) (t .lost))
 unfolding tableLines totalLines
 same-lines t ws = rw (first-length (t .waiting) noMessage (t .messages), first-length (t .waiting) noMessage (held ws)) refl
 
@@ -74,16 +74,13 @@ module _ (l : List ℕ) {x : First} (i : x ≡ firstOf l) where
   unfolding linesOf
   lines-failed f = rw (reading-failed l i f)
 
-  module _ {n : ℕ} (f : x ≡ First.Nodes n) where
-    pub lines-begun : linesOf l ≡ cabinetsLine n ∷ left l (start n) 4 1
+  module _ {n : ℕ} {lim : Limits} (f : x ≡ First.Nodes n lim) where
+    pub lines-begun : linesOf l ≡ cabinetsLine n ∷ left l (start n lim) 4 1
     unfolding linesOf
     lines-begun = rw (reading-begun l i f)
 
-    pub count-right : wrongCount n ≡ false
-    count-right = let g = first-good l i f in rw (le-leb 1 n (g .2), le-leb n nodeLimit (g .3))
-
-    pub start-in-range : inRange (start n) ≡ true
-    start-in-range = let g = first-good l i f in stays-in-range .starts n (g .2) (g .3)
+    pub start-in-range : inRange (start n lim) ≡ true
+    start-in-range = stays-in-range .starts TwoPairs n lim (first-good l i f .2)
 
 -- ── behind the heading ──
 
@@ -97,25 +94,25 @@ headed-ended l b o a h = by (firstOf l) refl
   where
     by : (x : First) → x ≡ firstOf l → shown a o ≡ printed b 0 (linesOf l)
     by (First.Stopped s) i = h .line ∙ rw (← i, lines-failed l i refl)
-    by (First.Nodes n) i =
-        let e : [] ≡ pick (eqb (putNumber a) 0) (n ∷ []) [] = h .nodes ∙ rw (← i) in
-        let z = answer-room a (λ q. omega (arith, ap length (e ∙ ap (λ (t : Bool). pick t (n ∷ []) []) q ∙ pick-true (n ∷ []) []))) in
+    by (First.Nodes n lim) i =
+        let e : [] ≡ pick (eqb (putNumber a) 0) (start n lim ∷ []) [] = h .starts ∙ rw (← i) in
+        let z = answer-room a (λ q. omega (arith, ap length (e ∙ ap (λ (t : Bool). pick t (start n lim ∷ []) []) q ∙ pick-true (start n lim ∷ []) []))) in
         let w : shown a o ≡ printed b 0 (cabinetsLine n ∷ []) = h .line ∙ rw (← i) in
-        ap (λ (x : Put). shown x o) z ∙ sym (rw (lines-begun l i refl) (then-refused b o 0 a (cabinetsLine n ∷ []) (left l (start n) 4 1) w z))
+        ap (λ (x : Put). shown x o) z ∙ sym (rw (lines-begun l i refl) (then-refused b o 0 a (cabinetsLine n ∷ []) (left l (start n lim) 4 1) w z))
 
 -- where one does, the first field is good, and what is printed behind the line is the rest of all lines
-pub record Follows (l b o : List ℕ) (n p : ℕ) : Type 0 where
-  pub first : firstOf l ≡ First.Nodes n
-  pub behind : printed o p (left l (start n) 4 1) ≡ printed b 0 (linesOf l)
+pub record Follows (l b o : List ℕ) (n : ℕ) (lim : Limits) (p : ℕ) : Type 0 where
+  pub first : firstOf l ≡ First.Nodes n lim
+  pub behind : printed o p (left l (start n lim) 4 1) ≡ printed b 0 (linesOf l)
 
-pub headed-nodes : (l b o : List ℕ) (n p : ℕ) → Headed l b o (Heading.Nodes n p) → Follows l b o n p
-headed-nodes l b o n p h = by (firstOf l) refl
+pub headed-nodes : (l b o : List ℕ) (n : ℕ) (lim : Limits) (p : ℕ) → Headed l b o (Heading.Nodes n lim p) → Follows l b o n lim p
+headed-nodes l b o n lim p h = by (firstOf l) refl
   where
-    by : (x : First) → x ≡ firstOf l → Follows l b o n p
-    by (First.Stopped s) i = let e : n ∷ [] ≡ [] = h .nodes ∙ rw (← i) (pick-true [] []) in absurd (omega (arith, ap length e))
-    by (First.Nodes k) i =
-        let d : n ∷ [] ≡ k ∷ [] = h .nodes ∙ rw (← i) (pick-true (k ∷ []) []) in
-        let e : n ≡ k = ap (λ (x : List ℕ). getD x 0 0) d in
-        let f : firstOf l ≡ First.Nodes n = sym i ∙ ap First.Nodes (sym e) in
+    by : (x : First) → x ≡ firstOf l → Follows l b o n lim p
+    by (First.Stopped s) i = let e : start n lim ∷ [] ≡ [] = h .starts ∙ rw (← i) (pick-true [] []) in absurd (omega (arith, ap length e))
+    by (First.Nodes k m) i =
+        let d : start n lim ∷ [] ≡ start k m ∷ [] = h .starts ∙ rw (← i) (pick-true (start k m ∷ []) []) in
+        let e : start n lim ≡ start k m = ap (λ (x : List State). getD x 0 (start n lim)) d in
+        let f : firstOf l ≡ First.Nodes n lim = sym i ∙ ap (λ (j : ℕ). First.Nodes j m) (sym (ap (λ (s : State). s .n) e)) ∙ ap (First.Nodes n) (sym (ap (λ (s : State). s .limits) e)) in
         let w : shown (Put.Next p) o ≡ printed b 0 (cabinetsLine n ∷ []) = h .line ∙ rw f in
-        record { first = f; behind = rw (lines-begun l refl f) (sym (then-next b o 0 p (Put.Next p) (cabinetsLine n ∷ []) (left l (start n) 4 1) w refl)) }
+        record { first = f; behind = rw (lines-begun l refl f) (sym (then-next b o 0 p (Put.Next p) (cabinetsLine n ∷ []) (left l (start n lim) 4 1) w refl)) }

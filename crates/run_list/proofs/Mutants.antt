@@ -9,20 +9,21 @@ use lib.ListN.{length, getD, drop, length-append}
 use borrow.Author.Tests.{le-leb, ltb-true}
 use Rattle.model.specs.Pick.{pick, by-test, pick-true}
 use lib.Count.{onesIn, ones, leadingZeros}
-use Rattle.model.specs.Range.{activityInRange, nodeInRange, messageInRange}
+use Rattle.model.specs.Limits.{tower}
 use Rattle.model.specs.React.{react}
-use Rattle.model.specs.State.{nodeAt, every, inRange}
+use Rattle.model.specs.State.{nodeAt}
 use Rattle.model.specs.Grounds.{judged}
-use Rattle.model.specs.Step.{reactionTo, remaining, effect, grounds, step, runFrom, run}
+use Rattle.model.specs.Step.{reactionTo, remaining, effect, grounds, run}
 use Rattle.model.specs.Answers.{statusNumber}
+use Rattle.model.specs.declared.Limits.{Limits}
 use Rattle.model.specs.declared.Node.{Node}
-use Rattle.event_list.specs.Format.{lengthOf, cutShort, checked, eventOf, nextAt, nodesOf, firstOf, readFrom, rest, Reading, begun, reading}
+use Rattle.event_list.specs.Format.{lengthOf, cutShort, checked, eventOf, nextAt, limitsOf, nodesOf, firstOf, readFrom, rest, Reading, begun, reading}
 use Rattle.listing.specs.Decimal.{digits, decimal}
 use Rattle.listing.specs.Lines.{row, cabinetsLine, refusedLine, stoppedLine, nodeLine, messagesLine, nodeLines, tableLines, totalLine, totalLines}
 use Rattle.model.specs.Counts.{total}
 use Rattle.listing.specs.Printing.{joined}
 use Rattle.listing.specs.declared.Put.the-variants.{Next, NoRoom}
-use Rattle.run_list.specs.Text.{noteLines, refusedLines, linesOf, textOf}
+use Rattle.run_list.specs.Text.{noteLines, textOf}
 use Rattle.event_list.specs.Cases.{nodes, recover}
 use Rattle.listing.specs.Ascii.{bytes}
 use Rattle.run_list.specs.Cases.{k10-list}
@@ -40,8 +41,8 @@ record Texts : Type 0 where
   stopped : textOf (nodes 2 ++ (0x11 ∷ [])) ≡ bytes "cabinets 2\nstopped 4 3\n1 0 0 0 0 0 0\n2 0 0 0 0 0 0\nmessages 0\nsent 0\ndelivered 0\nlost 0\n"
 
 texts : Texts
-unfolding pick onesIn ones leadingZeros react reactionTo remaining effect grounds judged lengthOf cutShort checked eventOf nextAt nodesOf firstOf readFrom rest reading digits decimal row cabinetsLine refusedLine stoppedLine nodeLine messagesLine totalLine totalLines total nodeLines tableLines joined noteLines
-texts = record { refused = quick-text (nodes 2 ++ (recover 1 ++ recover 1)) 2 refl (omega arith) (omega arith) (omega arith); stopped = quick-text (nodes 2 ++ (0x11 ∷ [])) 2 refl (omega arith) (omega arith) (omega arith) }
+unfolding pick onesIn ones leadingZeros react reactionTo remaining effect grounds judged lengthOf cutShort checked eventOf nextAt limitsOf nodesOf firstOf readFrom rest reading digits decimal row cabinetsLine refusedLine stoppedLine nodeLine messagesLine totalLine totalLines total nodeLines tableLines joined noteLines
+texts = record { refused = quick-text (nodes 2 ++ (recover 1 ++ recover 1)) 2 tower refl (omega arith); stopped = quick-text (nodes 2 ++ (0x11 ∷ [])) 2 tower refl (omega arith) }
 
 -- the buffer begins with the text x
 record Begins (o x : List ℕ) : Type 0 where
@@ -142,10 +143,10 @@ counted-same i c k p y z e =
     q .line ∙ ap (λ (w : List ℕ). beforeCount i c ++ (w ++ (10 ∷ []))) (digits-end (q .number) k z y (append-cancel-left (beforeCount i c) _ _ f))
 
 -- the text of a list up to the line of node i, that line, and the rest
-text-parts : (l : List ℕ) (n : ℕ) (r : Reading) (i : ℕ) → reading l ≡ begun n r → 1 ≤ i → i ≤ n
-    → textOf l ≡ joined (linesBefore n r i) ++ (nodeLine i (nodeAt (run n (r .events)) i) ++ joined (linesBehind n r i))
+text-parts : (l : List ℕ) (n : ℕ) (lim : Limits) (r : Reading) (i : ℕ) → reading l ≡ begun n lim r → 1 ≤ i → i ≤ n
+    → textOf l ≡ joined (linesBefore n lim r i) ++ (nodeLine i (nodeAt (run n lim (r .events)) i) ++ joined (linesBehind n lim r i))
 unfolding joined
-text-parts l n r i e low high = ap joined (behind l n r e .node-line i low high) ∙ joined-parts (linesBefore n r i) (nodeLine i (nodeAt (run n (r .events)) i) ∷ linesBehind n r i)
+text-parts l n lim r i e low high = ap joined (behind l n lim r e .node-line i low high) ∙ joined-parts (linesBefore n lim r i) (nodeLine i (nodeAt (run n lim (r .events)) i) ∷ linesBehind n lim r i)
 
 pub no-mutant-text : NoMutantText
 no-mutant-text =
@@ -154,12 +155,12 @@ no-mutant-text =
       same-table = λ o y h e. let t = begins _ o _ h (list-cases .k10) in apart o _ _ 13 51 48 (t .whole) e refl refl (λ z. omega arith);
       idles = λ o y h e. let t = begins _ o _ h (list-cases .k10) in apart o _ _ 15 50 49 (t .whole) e refl refl (λ z. omega arith);
       idles-last = λ o y h e. let t = begins _ o _ h (list-cases .k10) in apart o _ _ 30 51 50 (t .whole) e refl refl (λ z. omega arith);
-      thin-air = λ l o y n r i k e low high h f d.
+      thin-air = λ l o y n lim r i k e low high h f d.
           let t = begins l o (textOf l) h refl in
-          let x = text-parts l n r i e low high in
-          d (counted-same i (nodeAt (run n (r .events)) i) k (joined (linesBefore n r i)) y (joined (linesBehind n r i) ++ t .behind)
-          (ap (λ (w : List ℕ). joined (linesBefore n r i) ++ w) (sym (append-assoc (nodeLine i (nodeAt (run n (r .events)) i)) (joined (linesBehind n r i)) (t .behind)))
-          ∙ sym (append-assoc (joined (linesBefore n r i)) (nodeLine i (nodeAt (run n (r .events)) i) ++ joined (linesBehind n r i)) (t .behind))
+          let x = text-parts l n lim r i e low high in
+          d (counted-same i (nodeAt (run n lim (r .events)) i) k (joined (linesBefore n lim r i)) y (joined (linesBehind n lim r i) ++ t .behind)
+          (ap (λ (w : List ℕ). joined (linesBefore n lim r i) ++ w) (sym (append-assoc (nodeLine i (nodeAt (run n lim (r .events)) i)) (joined (linesBehind n lim r i)) (t .behind)))
+          ∙ sym (append-assoc (joined (linesBefore n lim r i)) (nodeLine i (nodeAt (run n lim (r .events)) i) ++ joined (linesBehind n lim r i)) (t .behind))
           ∙ ap (λ (w : List ℕ). w ++ t .behind) (sym x)
           ∙ sym (t .whole)
           ∙ f));

@@ -10,9 +10,11 @@ use Rattle.model.specs.Pick.{pick, by-test}
 use Rattle.model.specs.State.{State, start}
 use Rattle.model.specs.Step.{step, after, runFrom, run}
 use Rattle.model.specs.Answers.{resultNumber}
+use Rattle.model.specs.Range.{TwoPairs}
+use Rattle.model.specs.declared.Limits.{Limits}
 use Rattle.model.specs.declared.Event.{Event}
 use Rattle.model.specs.declared.Node.{Node}
-use Rattle.model.proofs.InRange.{stays-in-range}
+use Rattle.model.proofs.InRange.{start-small, stays-in-range}
 use Rattle.event_list.specs.declared.Stop.{Stop}
 use Rattle.event_list.specs.declared.Stop.the-variants.{TooLong, CutShort, WrongTag, WrongLength, WrongCount}
 use Rattle.event_list.specs.declared.First.{First}
@@ -157,12 +159,12 @@ small-ending : (m : ℕ) (x : Ending) → m ≤ 65536 → ((b : ℕ) (s : Stop) 
 small-ending m complete h f = tt
 small-ending m (stopped b s) h f = let k = f b s refl in omega arith
 
-begun-sized : (l : List ℕ) (n : ℕ) (r : Reading) → reading l ≡ begun n r → Sized r
-begun-sized l n r e = by (firstOf l) refl
+begun-sized : (l : List ℕ) (n : ℕ) (lim : Limits) (r : Reading) → reading l ≡ begun n lim r → Sized r
+begun-sized l n lim r e = by (firstOf l) refl
   where
     by : (x : First) → x ≡ firstOf l → Sized r
     by (First.Stopped s) i = let f = reading-failed l i refl in let z : _≡_ {A = ℕ} 0 1 = cc in absurd (omega arith)
-    by (First.Nodes m) i =
+    by (First.Nodes m j) i =
         let g = first-good l i refl in
         let f = reading-begun l i refl in
         let k : rest l 4 ≡ r = cc in
@@ -185,31 +187,31 @@ run-lines s e r =
 noted-high : (a : List Refusal) (x : Ending) → Each High (map noted a ++ endingLines x)
 noted-high a x = each-append High (map noted a) (endingLines x) (each-map Refuses High (λ y h. omega arith) (map noted a) (map-refuses a)) (ending-high x)
 
-read-same : (l k : List ℕ) (n m : ℕ) (r q : Reading) → reading l ≡ begun n r → reading k ≡ begun m q → textOf l ≡ textOf k → SameText n r m q
-read-same l k n m r q e f t =
-    let b = behind l n r e in
-    let c = behind k m q f in
-    let g = begun-sized l n r e in
-    let h = begun-sized k m q f in
-    let i = stays-in-range .runs n (b .low) (b .high) (r .events) in
-    let j = stays-in-range .runs m (c .low) (c .high) (q .events) in
+read-same : (l k : List ℕ) (n m : ℕ) (x x′ : Limits) (r q : Reading) → reading l ≡ begun n x r → reading k ≡ begun m x′ q → textOf l ≡ textOf k → SameText n x r m x′ q
+read-same l k n m x x′ r q e f t =
+    let b = behind l n x r e in
+    let c = behind k m x′ q f in
+    let g = begun-sized l n x r e in
+    let h = begun-sized k m x′ q f in
+    let i = stays-in-range .runs TwoPairs n x (b .starts) (r .events) in
+    let j = stays-in-range .runs TwoPairs m x′ (c .starts) (q .events) in
     let w =
-    joined-same (cabinetsLine n ∷ runLines (start n) 1 r) (cabinetsLine m ∷ runLines (start m) 1 q) (cabinets-line n, run-lines (start n) 1 r) (cabinets-line m, run-lines (start m) 1 q)
+    joined-same (cabinetsLine n ∷ runLines (start n x) 1 r) (cabinetsLine m ∷ runLines (start m x′) 1 q) (cabinets-line n, run-lines (start n x) 1 r) (cabinets-line m, run-lines (start m x′) 1 q)
     (sym (b .text) ∙ t ∙ c .text)
     in
-    let a1 = refusals (start n) 1 (r .events) in
-    let a2 = refusals (start m) 1 (q .events) in
+    let a1 = refusals (start n x) 1 (r .events) in
+    let a2 = refusals (start m x′) 1 (q .events) in
     let y =
     parted High (map noted a1 ++ endingLines (r .ending)) (map noted a2 ++ endingLines (q .ending)) (noted-high a1 (r .ending)) (noted-high a2 (q .ending))
-    (table-low (run n (r .events))) (table-low (run m (q .events)))
-    (sym (run-parts (start n) 1 r) ∙ tail-eq-of-cons-eq w ∙ run-parts (start m) 1 q)
+    (table-low (run n x (r .events))) (table-low (run m x′ (q .events)))
+    (sym (run-parts (start n x) 1 r) ∙ tail-eq-of-cons-eq w ∙ run-parts (start m x′) 1 q)
     in
     let z = parted Refuses (map noted a1) (map noted a2) (map-refuses a1) (map-refuses a2) (ending-stops (r .ending)) (ending-stops (q .ending)) (y .0) in
     record {
-      nodes = lines-determine .cabinets n m (omega arith) (omega arith) (head-eq-of-cons-eq w);
-      refused = map-same a1 a2 (refusals-small (start n) 1 (r .events) (omega arith)) (refusals-small (start m) 1 (q .events) (omega arith)) (z .0);
+      nodes = lines-determine .cabinets n m (omega (arith, start-small n x (b .starts))) (omega (arith, start-small m x′ (c .starts))) (head-eq-of-cons-eq w);
+      refused = map-same a1 a2 (refusals-small (start n x) 1 (r .events) (omega arith)) (refusals-small (start m x′) 1 (q .events) (omega arith)) (z .0);
       ending = ending-same (r .ending) (q .ending) (g .ending) (h .ending) (z .1);
-      table = table-same (run n (r .events)) (run m (q .events)) (table-small (run n (r .events)) i) (table-small (run m (q .events)) j) (y .1);
+      table = table-same (run n x (r .events)) (run m x′ (q .events)) (table-small (run n x (r .events)) i) (table-small (run m x′ (q .events)) j) (y .1);
     }
 
 -- where the whole list or the first field failed
@@ -227,12 +229,12 @@ failed-same l k s t e f h =
     let j = stop-small t in
     stop-same s t (lines-determine .stopped 0 (stopNumber s) 0 (stopNumber t) (omega arith) (omega arith) (omega arith) (omega arith) (head-eq-of-cons-eq w) .1)
 
-failed-apart : (l k : List ℕ) (s : Stop) (m : ℕ) (q : Reading) → reading l ≡ failed s → reading k ≡ begun m q → textOf l ≡ textOf k → ⊥
+failed-apart : (l k : List ℕ) (s : Stop) (m : ℕ) (x : Limits) (q : Reading) → reading l ≡ failed s → reading k ≡ begun m x q → textOf l ≡ textOf k → ⊥
 unfolding stoppedLine cabinetsLine
-failed-apart l k s m q e f h =
+failed-apart l k s m x q e f h =
     let w =
-    joined-same (stoppedLine 0 (stopNumber s) ∷ []) (cabinetsLine m ∷ runLines (start m) 1 q) (stopped-line 0 (stopNumber s), tt) (cabinets-line m, run-lines (start m) 1 q)
-    (sym (failed-text l s e) ∙ h ∙ behind k m q f .text)
+    joined-same (stoppedLine 0 (stopNumber s) ∷ []) (cabinetsLine m ∷ runLines (start m x) 1 q) (stopped-line 0 (stopNumber s), tt) (cabinets-line m, run-lines (start m x) 1 q)
+    (sym (failed-text l s e) ∙ h ∙ behind k m x q f .text)
     in
     let z = ap (λ (x : List ℕ). getD x 0 0) (head-eq-of-cons-eq w) in
     omega arith

@@ -7,6 +7,7 @@ use lib.ListN.{length}
 use Rattle.model.specs.State.{nodeAt}
 use Rattle.model.specs.Step.{run}
 use Rattle.model.specs.Answers.{statusNumber}
+use Rattle.model.specs.declared.Limits.{Limits}
 use Rattle.model.specs.declared.Node.{Node}
 use Rattle.event_list.specs.Format.{Reading, begun, reading}
 use Rattle.listing.specs.Lines.{nodeLine}
@@ -43,11 +44,11 @@ pub record NoMutantText : Type 0 where
   pub idles : (o y : List ℕ) → Holds k10-list o → o ≡ bytes "cabinets 2\n1 3 1" ++ y → ⊥
   -- nor one that works on all events but the last, in which node 2 turns from Reorganization to Normal
   pub idles-last : (o y : List ℕ) → Holds k10-list o → o ≡ bytes "cabinets 2\n1 3 2 33 100 1 0\n2 2" ++ y → ⊥
-  -- "one that prints a member count out of thin air": of any list l that says n and r, and any node i, no number k stands where the count of i's members stands,
+  -- "one that prints a member count out of thin air": of any list l that says n, limits and r, and any node i, no number k stands where the count of i's members stands,
   -- before the line's end, but the one in i's own line, whose last field is that count (listing/specs/Lines: nodeLine)
-  pub thin-air : (l o y : List ℕ) (n : ℕ) (r : Reading) (i k : ℕ) → reading l ≡ begun n r → 1 ≤ i → i ≤ n → Holds l o
-      → o ≡ joined (linesBefore n r i) ++ (beforeCount i (nodeAt (run n (r .events)) i) ++ (decimal k ++ (10 ∷ y)))
-      → (nodeLine i (nodeAt (run n (r .events)) i) ≡ beforeCount i (nodeAt (run n (r .events)) i) ++ (decimal k ++ (10 ∷ [])) → ⊥) → ⊥
+  pub thin-air : (l o y : List ℕ) (n : ℕ) (lim : Limits) (r : Reading) (i k : ℕ) → reading l ≡ begun n lim r → 1 ≤ i → i ≤ n → Holds l o
+      → o ≡ joined (linesBefore n lim r i) ++ (beforeCount i (nodeAt (run n lim (r .events)) i) ++ (decimal k ++ (10 ∷ y)))
+      → (nodeLine i (nodeAt (run n lim (r .events)) i) ≡ beforeCount i (nodeAt (run n lim (r .events)) i) ++ (decimal k ++ (10 ∷ [])) → ⊥) → ⊥
   -- for one: node 2 has one member, and no other number k stands there
   pub thin-one : (o y : List ℕ) (k : ℕ) → Holds k10-list o → o ≡ bytes "cabinets 2\n1 3 2 33 100 1 0\n2 3 2 33 100 2 " ++ (decimal k ++ (10 ∷ y)) → (k ≡ 1 → ⊥) → ⊥
   -- nor one that counts events from 0, that gives the next ground's number, or that stops at another offset: the second recovery is refused with 9, and the field

@@ -8,6 +8,7 @@ use Rattle.model.specs.Pick.{pick}
 use Rattle.model.specs.State.{State, start}
 use Rattle.model.specs.Step.{step, after, run}
 use Rattle.model.specs.Answers.{resultNumber}
+use Rattle.model.specs.declared.Limits.{Limits}
 use Rattle.model.specs.declared.Event.{Event}
 use Rattle.event_list.specs.declared.Stop.{Stop}
 use Rattle.event_list.specs.Format.{Reading, failed, begun, reading}
@@ -24,18 +25,18 @@ unfoldable pub refusals : State → ℕ → List Event → List Refusal
 refusals s e [] = []
 refusals s e (v ∷ vs) = pick (eqb (resultNumber (step s v)) 0) [] (record { event = e; number = resultNumber (step s v) } ∷ []) ++ refusals (after s v) (e + 1) vs
 
--- all that the texts of two lists show is equal, where these have n and m nodes and say r and q behind the first field
-pub record SameText (n : ℕ) (r : Reading) (m : ℕ) (q : Reading) : Type 0 where
+-- all that the texts of two lists show is equal, where these have n and m nodes with the limits x and y, which are not shown, and say r and q behind the first field
+pub record SameText (n : ℕ) (x : Limits) (r : Reading) (m : ℕ) (y : Limits) (q : Reading) : Type 0 where
   pub nodes : n ≡ m
-  pub refused : refusals (start n) 1 (r .events) ≡ refusals (start m) 1 (q .events)
+  pub refused : refusals (start n x) 1 (r .events) ≡ refusals (start m y) 1 (q .events)
   pub ending : r .ending ≡ q .ending
   -- the last table, "the table so far"
-  pub table : SameTable (run n (r .events)) (run m (q .events))
+  pub table : SameTable (run n x (r .events)) (run m y (q .events))
 
 -- Of any bytes l and k:
 pub record TextDetermines : Type 0 where
-  pub read : (l k : List ℕ) (n m : ℕ) (r q : Reading) → reading l ≡ begun n r → reading k ≡ begun m q → textOf l ≡ textOf k → SameText n r m q
+  pub read : (l k : List ℕ) (n m : ℕ) (x y : Limits) (r q : Reading) → reading l ≡ begun n x r → reading k ≡ begun m y q → textOf l ≡ textOf k → SameText n x r m y q
   -- where the whole list or the first field failed: by the same refusal
   pub refused : (l k : List ℕ) (s t : Stop) → reading l ≡ failed s → reading k ≡ failed t → textOf l ≡ textOf k → s ≡ t
   -- and such a text is no text of the others
-  pub apart : (l k : List ℕ) (s : Stop) (m : ℕ) (q : Reading) → reading l ≡ failed s → reading k ≡ begun m q → textOf l ≡ textOf k → ⊥
+  pub apart : (l k : List ℕ) (s : Stop) (m : ℕ) (y : Limits) (q : Reading) → reading l ≡ failed s → reading k ≡ begun m y q → textOf l ≡ textOf k → ⊥

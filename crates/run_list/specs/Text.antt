@@ -42,7 +42,7 @@ abbrev pub listedLines : Listed → List (List ℕ)
 -- "if the whole list or the first field failed, that line is all that is printed, without `cabinets n`"; both fail at offset 0
 listedLines (failed s) = stoppedLine 0 (stopNumber s) ∷ []
 -- "It prints `cabinets n`; .. (e counts events from 1 ..)"
-listedLines (begun n r) = cabinetsLine n ∷ runLines (start n) 1 r
+listedLines (begun n lim r) = cabinetsLine n ∷ runLines (start n lim) 1 r
 
 -- the lines that are printed for a list
 unfoldable pub linesOf : List ℕ → List (List ℕ)
@@ -83,24 +83,24 @@ pub record Whole (l b o : List ℕ) (r : ℕ) : Type 0 where
 -- by what the first field says: its line
 abbrev pub firstLine : First → List ℕ
 firstLine (First.Stopped s) = stoppedLine 0 (stopNumber s)
-firstLine (First.Nodes n) = cabinetsLine n
+firstLine (First.Nodes n lim) = cabinetsLine n
 
--- and the number of nodes of the run behind it, where one follows
-abbrev pub firstNodes : First → List ℕ
-firstNodes (First.Stopped s) = []
-firstNodes (First.Nodes n) = n ∷ []
+-- and the starting table of the run behind it, where one follows
+abbrev pub firstStart : First → List State
+firstStart (First.Stopped s) = []
+firstStart (First.Nodes n lim) = start n lim ∷ []
 
--- of an answer: what printing the line answers, and the number of nodes of the run behind it, where one follows
+-- of an answer: what printing the line answers, and the starting table of the run behind it, where one follows
 abbrev pub headingPut : Heading → Put
 headingPut (Heading.Ended a) = a
-headingPut (Heading.Nodes n p) = Next p
+headingPut (Heading.Nodes n lim p) = Next p
 
-abbrev pub headingNodes : Heading → List ℕ
-headingNodes (Heading.Ended a) = []
-headingNodes (Heading.Nodes n p) = n ∷ []
+abbrev pub headingStart : Heading → List State
+headingStart (Heading.Ended a) = []
+headingStart (Heading.Nodes n lim p) = start n lim ∷ []
 
 -- What printing the first line of the list l into a buffer that held b answers, h, and leaves there, o. A run follows where the first field is good and its line
 -- has room.
 pub record Headed (l b o : List ℕ) (h : Heading) : Type 0 where
   pub line : shown (headingPut h) o ≡ printed b 0 (firstLine (firstOf l) ∷ [])
-  pub nodes : headingNodes h ≡ pick (eqb (putNumber (headingPut h)) 0) (firstNodes (firstOf l)) []
+  pub starts : headingStart h ≡ pick (eqb (putNumber (headingPut h)) 0) (firstStart (firstOf l)) []

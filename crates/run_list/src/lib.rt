@@ -5,6 +5,7 @@ use event_list::Next;
 use event_list::Stop;
 use listing::Put;
 use model::Answer;
+use model::Limits;
 use model::Table;
 ghost use mathlib.Core.Path.{_≡_};
 ghost use mathlib.Core.Bool.{true};
@@ -20,10 +21,10 @@ ghost use Rattle.listing.specs.Printing.{shown, printed};
 ghost use Rattle.run_list.specs.Text.{noteLines, runLines, linesOf, Printed, Headed, Whole};
 
 // What is printed before the first event: all of it, where the first field failed or a line has no room; or the line of n nodes, behind which
-// what comes next is printed from the offset on.
+// what comes next, with these limits, is printed from the offset on.
 pub enum Heading {
     Ended(Put),
-    Nodes(u8, usize),
+    Nodes(u8, Limits, usize),
 }
 
 // The first line of list's text, written into out from its start.
@@ -37,9 +38,9 @@ pub fn put_heading(list: &[u8], out: &mut [u8]) -> Heading
             0,
             event_list::stop_number(s),
         )),
-        First::Nodes(n) => match listing::put_cabinets(out, 0, n) {
+        First::Nodes(n, limits) => match listing::put_cabinets(out, 0, n) {
             Put::NoRoom => Heading::Ended(Put::NoRoom),
-            Put::Next(at) => Heading::Nodes(n, at),
+            Put::Next(at) => Heading::Nodes(n, limits, at),
         },
     }
 }
@@ -68,7 +69,7 @@ pub fn stop(out: &mut [u8], at: usize, b: u32, s: Stop, t: Table) -> Put
 // The events of list behind its first field, run from the starting table start, and all that is printed of them. The table stands in this function's own local and its
 // messages in q; the functions that it calls take a node, a message and numbers, so no table is copied. No event of a run meets 17, so it is not tested.
 fn run(list: &[u8], out: &mut [u8], from: usize, start: Table) -> Put
-    requires { ⌜ (4 ≤ length (now list)) × (length (now list) ≤ 65536) × (inRange (view start) ≡ true) × (view start ≡ state.start (start .n)) ⌝ }
+    requires { ⌜ (4 ≤ length (now list)) × (length (now list) ≤ 65536) × (inRange (view start) ≡ true) × (view start ≡ state.start (start .n) (start .limits)) ⌝ }
     ensures { λ a. ⌜ shown a (now (out .exit)) ≡ printed (now (out .entry)) from (runLines (view start) 1 (rest (now (list .entry)) 4)) ⌝ }
 {
     let mut t = start;
@@ -84,7 +85,7 @@ fn run(list: &[u8], out: &mut [u8], from: usize, start: Table) -> Put
                 let waiting = t.waiting;
                 let i = packed::seat(event);
                 let c = t.nodes[i];
-                let ruling = packed::rule(&q, t.n, waiting, c, event);
+                let ruling = packed::rule(&q, t.n, t.limits.messages, waiting, c, event);
                 let verdict = ruling.verdict;
                 let answer = verdict.answer;
                 if machine::is_accepted(answer) {
@@ -121,8 +122,8 @@ fn print_lines(list: &[u8], out: &mut [u8]) -> Put
 {
     match put_heading(list, out) {
         Heading::Ended(a) => a,
-        Heading::Nodes(n, at) => {
-            let begun = machine::starting(n);
+        Heading::Nodes(n, limits, at) => {
+            let begun = machine::starting(n, limits);
             let t = begun.table;
             run(list, out, at, t)
         }

@@ -2,12 +2,13 @@
 use Prim.Native.Nat.{ℕ, _≤_}
 use mathlib.Core.List.{List}
 use Rattle.model.specs.Limits.{nodeLimit}
+use Rattle.model.specs.declared.Limits.{Limits}
 use Rattle.model.specs.declared.Table.{Table}
 use Rattle.model.specs.declared.Event.{Event}
 use Rattle.machine.specs.Folded as Folded
 use Rattle.machine.specs.Folded.{Folded}
-use Rattle.machine.specs.Claims.{CodeRuns}
-use Rattle.machine.proofs.Runs.{chain-runs, chain-fixes, chain-traffic}
+use Rattle.machine.specs.Claims.{CodeRuns, CodeFixes}
+use Rattle.machine.proofs.Runs.{chain-runs, chain-fixes, chain-both}
 use Rattle.session.specs.Applied.{Applied, none, more, SessionFixes}
 
 applied-folds : (t : Table) (es : List Event) (u : Table) → Applied t es u → Folded t es u
@@ -18,5 +19,8 @@ applied-folds t es u (more s a) = Folded.more s (applied-folds _ _ _ a)
 pub session-runs : CodeRuns Applied
 session-runs = chain-runs Applied applied-folds
 
-pub session-fixes : (n : ℕ) → n ≤ nodeLimit → SessionFixes n
-session-fixes n h = record { folds = applied-folds; runs = session-runs; fixes = chain-fixes Applied applied-folds n h; traffic = λ l. chain-traffic Applied applied-folds n l h }
+pub session-fixed : (n : ℕ) (l : Limits) → n ≤ nodeLimit → CodeFixes Applied n l
+session-fixed = chain-fixes Applied applied-folds
+
+pub session-fixes : SessionFixes
+session-fixes = record { folds = applied-folds; runs = session-runs; both = chain-both Applied applied-folds }

@@ -1,12 +1,11 @@
 -- "The rig keeps one table for a whole session and applies each event to it": calls of `apply` on one lent table, and demand 3 and T-05 of them.
-use Prim.Native.Nat.{ℕ, _≤_}
 use mathlib.Core.List.{List, [], _∷_}
 use Rattle.model.specs.declared.Table.{Table}
 use Rattle.model.specs.declared.Event.{Event}
 use Rattle.model.specs.declared.Answer.{Answer}
 use Rattle.machine.specs.Stepped.{Stepped}
 use Rattle.machine.specs.Folded.{Folded}
-use Rattle.machine.specs.Claims.{CodeRuns, CodeFixes, CodeTraffic}
+use Rattle.machine.specs.Claims.{CodeRuns, CodeTowerAndStand}
 
 -- From what the table held first, t, by a call for each event, to what it holds then, u. "Each event gets the table that the one before returned or left, and
 -- nobody else writes it."
@@ -15,13 +14,11 @@ pub data Applied : Table → List Event → Table → Type 0 where
   -- one call with the event e, which found the table t, answered a and left the table v, as `apply` promises; and the calls after it
   more : {t : Table} {e : Event} {a : Answer} {v : Table} {es : List Event} {u : Table} → Stepped t e (record { answer = a; table = v }) → Applied v es u → Applied t (e ∷ es) u
 
--- What is claimed of a session with n nodes. The proof is in proofs/Sessions.
-pub record SessionFixes (n : ℕ) : Type 0 where
+-- What is claimed of a session. The proof is in proofs/Sessions.
+pub record SessionFixes : Type 0 where
   -- its calls are steps of the machine
   pub folds : (t : Table) (es : List Event) (u : Table) → Applied t es u → Folded t es u
   -- what the table holds from call to call is in the model's run
   pub runs : CodeRuns Applied
-  -- and demand 3, whole, holds of it
-  pub fixes : CodeFixes Applied n
-  -- and so does T-05
-  pub traffic : 1 ≤ n → CodeTraffic Applied n
+  -- and demand 3, whole, and T-05 hold of it, in the tower and in the stand
+  pub both : CodeTowerAndStand Applied

@@ -50,8 +50,8 @@ fn print_lines(list: &[u8], out: &mut [u8]) -> Put
 {
     match run_list::put_heading(list, out) {
         Heading::Ended(a) => a,
-        Heading::Nodes(n, at) => {
-            let begun = machine::starting(n);
+        Heading::Nodes(n, limits, at) => {
+            let begun = machine::starting(n, limits);
             let t = begun.table;
             run(list, out, at, t)
         }

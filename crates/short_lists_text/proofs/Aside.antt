@@ -11,6 +11,7 @@ use Rattle.model.specs.declared.Mark.{Mark}
 use Rattle.model.specs.declared.Event.{Event}
 use Rattle.model.proofs.InRange.{stays-in-range}
 use Rattle.model.proofs.Waiting.{waiting-in}
+use Rattle.model.proofs.Fields.{in-range-pair}
 use Rattle.model.proofs.Aside.{Room, room-after, waiting-small, in-range-base, resultAside, aside-result}
 use Rattle.short_lists_text.specs.Rows.{concatMap}
 use Rattle.short_lists_text.specs.Lists.{alphabet, continued, listsFrom}
@@ -57,4 +58,9 @@ same-lists (suc m) s u c h i =
 pub lists-aside : (m : ℕ) (s : State) → m + 64 < trafficEnd → HasRoom m s → listsFrom m s ≡ listsFrom m (countsAside s)
 lists-aside m s l h =
     let b = in-range-base s (h .range) in
-    same-lists m s (countsAside s) refl h (record { range = waiting-in (s .n) (s .nodes) (s .queue) b; room = λ k. omega (arith, l, waiting-small (s .n) (s .nodes) (s .queue) b k) })
+    let p = in-range-pair s (h .range) in
+    same-lists m s (countsAside s) refl h
+    (record {
+      range = waiting-in (s .rule) (s .n) (s .limits) (s .nodes) (s .queue) p (b .0) (b .1);
+      room = λ k. omega (arith, l, waiting-small (s .rule) (s .n) (s .limits) (s .nodes) (s .queue) p (b .0) (b .1) k);
+    })

@@ -5,6 +5,7 @@ use mathlib.Core.Path.{_≡_, refl, sym, _∙_, ap}
 use mathlib.Core.List.{List, [], _∷_, _++_, append-nil, append-assoc, map}
 use lib.ListN.{length}
 use borrow.Author.Tests.{le-leb}
+use Rattle.model.specs.Limits.{tower}
 use Rattle.model.specs.Pick.{pick-true}
 use Rattle.model.specs.State.{start}
 use Rattle.listing.specs.Decimal.{decimal}
@@ -25,9 +26,9 @@ unfolding joined
 joined-last [] x = append-nil x
 joined-last (y ∷ xs) x = ap (λ (l : List ℕ). y ++ l) (joined-last xs x) ∙ sym (append-assoc y (joined xs) x)
 
-text-lines : (n k : ℕ) → 1 ≤ n → n ≤ 3 → k ≤ 7 → textOf (n ∷ k ∷ []) ≡ joined (map listLine (listsFrom k (start n))) ++ countLine (length (listsFrom k (start n)))
+text-lines : (n k : ℕ) → 1 ≤ n → n ≤ 3 → k ≤ 7 → textOf (n ∷ k ∷ []) ≡ joined (map listLine (listsFrom k (start n tower))) ++ countLine (length (listsFrom k (start n tower)))
 unfolding textOf fits
-text-lines n k p q h = rw (le-leb 1 n p, le-leb n 3 q, le-leb k 7 h, pick-true) (joined-last (map listLine (listsFrom k (start n))) (countLine (length (listsFrom k (start n)))))
+text-lines n k p q h = rw (le-leb 1 n p, le-leb n 3 q, le-leb k 7 h, pick-true) (joined-last (map listLine (listsFrom k (start n tower))) (countLine (length (listsFrom k (start n tower)))))
 
 pub counts : Counts
-counts = record { lines = text-lines; last = λ n k p q h. is-count (length (listsFrom k (start n))) (few-lists .few n k p q h); any = λ ls h. is-count (length ls) h }
+counts = record { lines = text-lines; last = λ n k p q h. is-count (length (listsFrom k (start n tower))) (few-lists .few n k p q h); any = λ ls h. is-count (length ls) h }

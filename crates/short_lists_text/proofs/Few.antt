@@ -6,6 +6,7 @@ use mathlib.Core.Path.{_≡_, refl, ap}
 use mathlib.Core.List.{List, [], _∷_, map}
 use lib.Count.{onesIn, ones, leadingZeros}
 use lib.ListN.{length, length-append, length-map}
+use Rattle.model.specs.Limits.{tower}
 use Rattle.model.specs.Pick.{pick}
 use Rattle.model.specs.Procedures.{inviteNext, merges, handNext, finishes, forwardNext, askedAll, askAt, askAfter}
 use Rattle.model.specs.React.{checked, timedOut, ticked, expired, resumed, onAreYouCoordinator, onAreYouThere, onInvitation, onAccept, onReady, onReply, received, react}
@@ -59,9 +60,9 @@ lists-within (suc k) s a b =
 -- one event is accepted for each node, its recovery
 module _ (later : State → List (List Event)) where
   abbrev recovered : ℕ → ℕ → List (List Event)
-  recovered n i = map (λ l. Recover i ∷ l) (later (effect (start n) (Recover i)))
+  recovered n i = map (λ l. Recover i ∷ l) (later (effect (start n tower) (Recover i)))
 
-  first-events : (n : ℕ) → 1 ≤ n → n ≤ 3 → concatMap (λ e. continued e (step (start n) e) later) (alphabet n) ≡ concatMap (recovered n) (nodesOf n)
+  first-events : (n : ℕ) → 1 ≤ n → n ≤ 3 → concatMap (λ e. continued e (step (start n tower) e) later) (alphabet n) ≡ concatMap (recovered n) (nodesOf n)
   unfolding pick onesIn ones leadingZeros inviteNext merges handNext finishes forwardNext askedAll askAt askAfter checked timedOut ticked expired resumed onAreYouCoordinator onAreYouThere onInvitation onAccept onReady onReply received react activityInRange nodeInRange messageInRange countInRange waits oldest withoutOldest howMany every upTo countsInRange trafficInRange inRange reactionTo remaining effect grounds judged step upFrom without pairsOf alphabet
   first-events zero p q = absurd (omega arith)
   first-events (suc zero) p q = refl
@@ -74,13 +75,13 @@ unfolding upFrom
 nodes-long k zero = refl
 nodes-long k (suc c) = ap suc (nodes-long (suc k) c)
 
-few : (n k : ℕ) → 1 ≤ n → n ≤ 3 → k ≤ 7 → length (listsFrom k (start n)) < 2 ^ 32
+few : (n k : ℕ) → 1 ≤ n → n ≤ 3 → k ≤ 7 → length (listsFrom k (start n tower)) < 2 ^ 32
 unfolding listsFrom effect
 few n zero p q h = omega arith
 few n (suc k) p q h =
     let r =
     rows-long (recovered (listsFrom k) n) (33 ^ k)
-    (λ i. rw (length-map (listsFrom k (effect (start n) (Recover i))) (λ l. Recover i ∷ l)) (lists-within k (effect (start n) (Recover i)) p q)) (nodesOf n)
+    (λ i. rw (length-map (listsFrom k (effect (start n tower) (Recover i))) (λ l. Recover i ∷ l)) (lists-within k (effect (start n tower) (Recover i)) p q)) (nodesOf n)
     in
     let m : 33 ^ k ≤ 33 ^ 6 = pow-le-pow-right {n = 33} (omega arith) {i = k} {j = 6} (omega arith) in
     let t : length (nodesOf n) * 33 ^ k ≤ 3 * 33 ^ k = mul-le-mul-right (33 ^ k) (omega (arith, nodes-long 1 n)) in

@@ -5,6 +5,7 @@ use mathlib.Core.Path.{_≡_, refl, _∙_, ap, ap₂, subst}
 use mathlib.Core.List.{List, [], _∷_, _++_, map}
 use lib.ListN.{length, length-append}
 use borrow.Author.Tests.{eqb-true, le-leb}
+use Rattle.model.specs.Limits.{tower}
 use Rattle.model.specs.Pick.{pick, by-test}
 use Rattle.model.specs.State.{State, start}
 use Rattle.model.specs.Step.{Result, refused, accepted, step, kept, runFrom, run}
@@ -22,25 +23,25 @@ same-rows f g h [] = refl
 same-rows f g h (x ∷ xs) = ap₂ (λ (a b : _). a ++ b) (h x) (same-rows f g h xs)
 
 -- after the events es
-from-run : (n m : ℕ) (es : List Event) → length es + m ≤ 7 → formerLists m (run n es) ≡ listsFrom m (run n es)
+from-run : (n m : ℕ) (es : List Event) → length es + m ≤ 7 → formerLists m (run n tower es) ≡ listsFrom m (run n tower es)
 unfolding formerLists listsFrom runFrom
 from-run n zero es h = refl
-from-run n (suc m) es h = same-rows _ _ (λ e. each e (step (run n es) e) refl (from-run n m (es ++ (e ∷ [])) (omega (arith, h, length-append es (e ∷ []))))) (alphabet (run n es .n))
+from-run n (suc m) es h = same-rows _ _ (λ e. each e (step (run n tower es) e) refl (from-run n m (es ++ (e ∷ [])) (omega (arith, h, length-append es (e ∷ []))))) (alphabet (run n tower es .n))
   where
-    each : (e : Event) (x : Result) → step (run n es) e ≡ x → formerLists m (run n (es ++ (e ∷ []))) ≡ listsFrom m (run n (es ++ (e ∷ [])))
-        → continued e (formerResult (run n es) x) (formerLists m) ≡ continued e x (listsFrom m)
+    each : (e : Event) (x : Result) → step (run n tower es) e ≡ x → formerLists m (run n tower (es ++ (e ∷ []))) ≡ listsFrom m (run n tower (es ++ (e ∷ [])))
+        → continued e (formerResult (run n tower es) x) (formerLists m) ≡ continued e x (listsFrom m)
     each e (refused r) q f =
         by-test (λ (y : Result). continued e y (formerLists m) ≡ [])
-        (λ t. absurd (check-rules .not-early n es e (omega (arith, h)) (q ∙ ap refused (eqb-true r 18 t)))) (λ _. refl)
+        (λ t. absurd (check-rules .not-early n tower es e (omega (arith, h)) (q ∙ ap refused (eqb-true r 18 t)))) (λ _. refl)
     each e (accepted u k) q f =
         ap (map (λ l. e ∷ l))
-        (subst (λ (s : State). formerLists m s ≡ listsFrom m s) (run-append (start n) es (e ∷ []) ∙ ap (kept (run n es)) q) f)
+        (subst (λ (s : State). formerLists m s ≡ listsFrom m s) (run-append (start n tower) es (e ∷ []) ∙ ap (kept (run n tower es)) q) f)
 
-lists : (n m : ℕ) → m ≤ 7 → formerLists m (start n) ≡ listsFrom m (start n)
+lists : (n m : ℕ) → m ≤ 7 → formerLists m (start n tower) ≡ listsFrom m (start n tower)
 unfolding runFrom
 lists n m h = from-run n m [] (omega (arith, h))
 
-texts : (n m : ℕ) → 1 ≤ n → n ≤ 3 → m ≤ 7 → textOf (n ∷ m ∷ []) ≡ joined (linesOf (formerLists m (start n)))
+texts : (n m : ℕ) → 1 ≤ n → n ≤ 3 → m ≤ 7 → textOf (n ∷ m ∷ []) ≡ joined (linesOf (formerLists m (start n tower)))
 unfolding textOf fits pick
 texts n m l h k = rw (le-leb 1 n l, le-leb n 3 h, le-leb m 7 k, lists n m k)
 

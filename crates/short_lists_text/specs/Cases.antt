@@ -2,6 +2,7 @@
 use mathlib.Core.Bool.{true}
 use mathlib.Core.Path.{_≡_}
 use mathlib.Core.List.{[], _∷_, _++_, map}
+use Rattle.model.specs.Limits.{tower}
 use Rattle.model.specs.Step.{run}
 use Rattle.model.specs.declared.Event.the-variants.{Crash, Recover, Check, Timeout, Tick, Expire, Finish, Deliver, Lose}
 use Rattle.listing.specs.Ascii.{bytes}
@@ -48,12 +49,12 @@ pub record TextCases : Type 0 where
   pub words : listLine (Crash 1 ∷ Recover 2 ∷ Check 3 ∷ Timeout 1 ∷ Tick 2 ∷ Expire 3 ∷ Finish 1 (record { number = onlyTask }) ∷ Deliver 1 2 ∷ Lose 2 3 ∷ [])
       ≡ bytes "crash 1, recover 2, check 3, timeout 1, tick 2, expire 3, finish 1 100, deliver 1 2, lose 2 3\n"
   -- where a message waits for each pair of three nodes
-  pub pairs : joined (linesOf (listsFrom 1 (run 3 (Recover 1 ∷ Recover 2 ∷ Recover 3 ∷ Check 1 ∷ Expire 1 ∷ Check 2 ∷ Expire 2 ∷ Check 3 ∷ Expire 3 ∷ [])))) ≡
+  pub pairs : joined (linesOf (listsFrom 1 (run 3 tower (Recover 1 ∷ Recover 2 ∷ Recover 3 ∷ Check 1 ∷ Expire 1 ∷ Check 2 ∷ Expire 2 ∷ Check 3 ∷ Expire 3 ∷ [])))) ≡
       bytes "crash 1\ncrash 2\ncrash 3\nexpire 1\nexpire 2\nexpire 3\ndeliver 1 2\ndeliver 1 3\ndeliver 2 1\ndeliver 2 3\n"
       ++ bytes "deliver 3 1\ndeliver 3 2\nlose 1 2\nlose 1 3\nlose 2 1\nlose 2 3\nlose 3 1\nlose 3 2\nlists 18\n"
   -- where a node collects, and where one waits
-  pub finish : joined (linesOf (listsFrom 1 (run 2 (Recover 1 ∷ Recover 2 ∷ Check 2 ∷ Deliver 2 1 ∷ Deliver 1 2 ∷ Expire 2 ∷ [])))) ≡ bytes "crash 1\ncrash 2\ncheck 1\ntimeout 1\nfinish 2 100\ndeliver 2 1\nlose 2 1\nlists 7\n"
-  pub tick : joined (linesOf (listsFrom 1 (run 2 (Recover 1 ∷ Recover 2 ∷ Check 1 ∷ Deliver 1 2 ∷ Deliver 2 1 ∷ [])))) ≡ bytes "crash 1\ncrash 2\ncheck 2\ntimeout 2\ntick 1\nlists 5\n"
+  pub finish : joined (linesOf (listsFrom 1 (run 2 tower (Recover 1 ∷ Recover 2 ∷ Check 2 ∷ Deliver 2 1 ∷ Deliver 1 2 ∷ Expire 2 ∷ [])))) ≡ bytes "crash 1\ncrash 2\ncheck 1\ntimeout 1\nfinish 2 100\ndeliver 2 1\nlose 2 1\nlists 7\n"
+  pub tick : joined (linesOf (listsFrom 1 (run 2 tower (Recover 1 ∷ Recover 2 ∷ Check 1 ∷ Deliver 1 2 ∷ Deliver 2 1 ∷ [])))) ≡ bytes "crash 1\ncrash 2\ncheck 2\ntimeout 2\ntick 1\nlists 5\n"
   -- 16 is not met at the ends of the ranges, and is met just outside them: `Refuses` has all inputs
   pub most : fits (3 ∷ 7 ∷ []) ≡ true
   pub least : fits (1 ∷ 0 ∷ []) ≡ true

@@ -6,6 +6,7 @@ use mathlib.Core.Logic.{_⊎_}
 use mathlib.Core.List.{List, [], _∷_, _++_, map}
 use lib.Dec.{eqb}
 use lib.ListN.{length, take}
+use Rattle.model.specs.Limits.{tower}
 use Rattle.model.specs.Pick.{pick}
 use Rattle.model.specs.State.{State, start}
 use Rattle.model.specs.Step.{Result, refused, accepted, step, runFrom}
@@ -90,7 +91,7 @@ pub record OrderIs : Type 0 where
 
 -- "n from 1 to 3 and a length from 0 to 7": the lists are fewer than 2 ^ 32
 pub record FewLists : Type 0 where
-  pub few : (n m : ℕ) → 1 ≤ n → n ≤ 3 → m ≤ 7 → length (listsFrom m (start n)) < 2 ^ 32
+  pub few : (n m : ℕ) → 1 ≤ n → n ≤ 3 → m ≤ 7 → length (listsFrom m (start n tower)) < 2 ^ 32
 
 -- l is the line `lists k`: the word, a space, digits that denote k, and the line's end
 pub record IsCount (k : ℕ) (l : List ℕ) : Type 0 where
@@ -101,9 +102,9 @@ pub record IsCount (k : ℕ) (l : List ℕ) : Type 0 where
 -- the text of every input that is allowed
 pub record Counts : Type 0 where
   -- the line of each list, in their order, and a last one
-  pub lines : (n m : ℕ) → 1 ≤ n → n ≤ 3 → m ≤ 7 → textOf (n ∷ m ∷ []) ≡ joined (map listLine (listsFrom m (start n))) ++ countLine (length (listsFrom m (start n)))
+  pub lines : (n m : ℕ) → 1 ≤ n → n ≤ 3 → m ≤ 7 → textOf (n ∷ m ∷ []) ≡ joined (map listLine (listsFrom m (start n tower))) ++ countLine (length (listsFrom m (start n tower)))
   -- "a last line `lists k` gives their count"
-  pub last : (n m : ℕ) → 1 ≤ n → n ≤ 3 → m ≤ 7 → IsCount (length (listsFrom m (start n))) (countLine (length (listsFrom m (start n))))
+  pub last : (n m : ℕ) → 1 ≤ n → n ≤ 3 → m ≤ 7 → IsCount (length (listsFrom m (start n tower))) (countLine (length (listsFrom m (start n tower))))
   -- the same of any lists, where they are fewer than 2 ^ 32: a printed number has at most ten digits
   pub any : (ls : List (List Event)) → length ls < 2 ^ 32 → IsCount (length ls) (countLine (length ls))
 
@@ -180,7 +181,7 @@ formerLists zero s = [] ∷ []
 formerLists (suc m) s = concatMap (λ e. continued e (formerResult s (step s e)) (formerLists m)) (alphabet (s .n))
 
 pub record ListsStay : Type 0 where
-  -- up to seven events, for every n
-  pub lists : (n m : ℕ) → m ≤ 7 → formerLists m (start n) ≡ listsFrom m (start n)
+  -- up to seven events, for every n, in the tower
+  pub lists : (n m : ℕ) → m ≤ 7 → formerLists m (start n tower) ≡ listsFrom m (start n tower)
   -- and so all that is printed of them
-  pub texts : (n m : ℕ) → 1 ≤ n → n ≤ 3 → m ≤ 7 → textOf (n ∷ m ∷ []) ≡ joined (linesOf (formerLists m (start n)))
+  pub texts : (n m : ℕ) → 1 ≤ n → n ≤ 3 → m ≤ 7 → textOf (n ∷ m ∷ []) ≡ joined (linesOf (formerLists m (start n tower)))

@@ -4,9 +4,9 @@ use mathlib.Core.Bool.{Bool, _&&_}
 use mathlib.Core.List.{List, [], _∷_, _++_, map}
 use lib.ListN.{length, getD}
 use lib.Dec.{eqb, leb}
+use Rattle.model.specs.Limits.{tower}
 use Rattle.model.specs.Pick.{pick}
 use Rattle.model.specs.State.{start}
-use Rattle.model.specs.declared.TaskNo.{TaskNo}
 use Rattle.model.specs.declared.Event.{Event}
 use Rattle.model.specs.declared.Event.the-variants.{Crash, Recover, Check, Timeout, Tick, Expire, Finish, Deliver, Lose}
 use Rattle.listing.specs.Ascii.{bytes}
@@ -82,7 +82,7 @@ fits l = eqb (length l) 2 && leb 1 (getD l 0 0) && leb (getD l 0 0) 3 && leb (ge
 abbrev pub refusalText : List ℕ
 refusalText = stoppedLine 0 16
 
--- all that is printed for the input l: "print every list of exactly that many events that the machine accepts one after another from the starting table"; 16 is
--- looked at "before anything is printed"
+-- all that is printed for the input l: "print every list of exactly that many events that the machine accepts one after another from the starting table", the tower's
+-- (T-08); 16 is looked at "before anything is printed"
 unfoldable pub textOf : List ℕ → List ℕ
-textOf l = pick (fits l) (joined (linesOf (listsFrom (getD l 1 0) (start (getD l 0 0))))) refusalText
+textOf l = pick (fits l) (joined (linesOf (listsFrom (getD l 1 0) (start (getD l 0 0) tower)))) refusalText

@@ -9,7 +9,7 @@ use Rattle.model.specs.declared.Table.{Table}
 use Rattle.number_bytes.specs.Bytes.{bytes, all}
 use Rattle.number_bytes.proofs.Numbers.{length-bytes}
 use Rattle.number_bytes.proofs.Records.{all-long}
-use Rattle.table_bytes.specs.Bytes.{partsBytes, nodeBytes, messageBytes, size, encoded, Fits}
+use Rattle.table_bytes.specs.Bytes.{limitsBytes, partsBytes, nodeBytes, messageBytes, size, encoded, Fits}
 
 pub node-long : (c : Node) → length (nodeBytes c) ≡ 29
 unfolding bytes partsBytes nodeBytes
@@ -51,6 +51,9 @@ module _ (t : Table) where
   abbrev pub toDelivered : List ℕ
   toDelivered = toSent ++ all (bytes 4) (t .delivered)
 
+  abbrev pub toLost : List ℕ
+  toLost = toDelivered ++ all (bytes 4) (t .lost)
+
   module _ (h : Lengths t) where
     pub nodes-end : length toNodes ≡ 465
     nodes-end = rw (length-append, length-bytes, all-long nodeBytes 29 node-long, h .nodes)
@@ -67,6 +70,9 @@ module _ (t : Table) where
     pub delivered-end : length toDelivered ≡ 3410
     delivered-end = counts-end toSent 2386 (t .delivered) sent-end (h .delivered)
 
+    pub lost-end : length toLost ≡ 4434
+    lost-end = counts-end toDelivered 3410 (t .lost) delivered-end (h .lost)
+
     pub encoded-size : length (encoded t) ≡ size
-    unfolding encoded
-    encoded-size = counts-end toDelivered 3410 (t .lost) delivered-end (h .lost)
+    unfolding encoded limitsBytes
+    encoded-size = rw (length-append, lost-end, length-append, length-bytes, length-bytes)

@@ -1,10 +1,12 @@
 -- A table that fits is read back from its bytes: the claims `ReadBack`.
-use Prim.Native.Nat.{ℕ, _≤_}
+use Prim.Native.Nat.{ℕ, _≤_, _<_}
 use mathlib.Core.Path.{_≡_, refl, _∙_, ap}
 use mathlib.Core.List.{List, [], _++_, append-assoc, append-nil}
 use lib.ListN.{length, drop}
+use lib.Seq.{drop-append-seam}
 use Rattle.model.specs.Pick.{pick}
 use Rattle.model.specs.Answers.{statusNumber}
+use Rattle.model.specs.declared.Limits.{Limits}
 use Rattle.model.specs.declared.Activity.{Activity}
 use Rattle.model.specs.declared.Activity.the-variants.{Idle, Asking, Waiting, Inviting, Collecting, Handing, Contacting, Forwarding, Accepting}
 use Rattle.model.specs.declared.Node.{Node}
@@ -13,9 +15,9 @@ use Rattle.model.specs.declared.Table.{Table}
 use Rattle.number_bytes.specs.Bytes.{number, bytes, many, all, Each, written, yesNumber}
 use Rattle.number_bytes.proofs.Numbers.{read, one-back, number-at, length-bytes, written-over}
 use Rattle.number_bytes.proofs.Records.{all-long, many-back, status-back, status-small, yes-back, yes-small}
-use Rattle.table_bytes.specs.Bytes.{partsOf, activityOf, nodeOf, messageOf, countOf, decoded, partsBytes, nodeBytes, messageBytes, size, encoded, Stored, recordsSize, RecordsStored, NodeFits, MessageFits, CountFits, Fits}
+use Rattle.table_bytes.specs.Bytes.{partsOf, activityOf, nodeOf, messageOf, countOf, limitsOf, decoded, partsBytes, nodeBytes, messageBytes, limitsBytes, size, encoded, Stored, recordsSize, RecordsStored, NodeFits, MessageFits, CountFits, Fits}
 use Rattle.table_bytes.specs.Claims.{ReadBack}
-use Rattle.table_bytes.proofs.Records.{node-long, message-long, lengths, toNodes, toMessages, toWaiting, toSent, toDelivered, nodes-end, messages-end, waiting-end, sent-end, delivered-end, encoded-size}
+use Rattle.table_bytes.proofs.Records.{node-long, message-long, lengths, toNodes, toMessages, toWaiting, toSent, toDelivered, toLost, nodes-end, messages-end, waiting-end, sent-end, delivered-end, lost-end, encoded-size}
 
 -- ── the records ──
 activity-back : (a : Activity) → activityOf (partsOf a) ≡ a
@@ -50,10 +52,19 @@ count-back x h l = read 4 x h
 counts-back : (n : ℕ) (a xs : List ℕ) → length a ≡ n → (length xs ≡ 256) × Each CountFits xs → (l : List ℕ) → many countOf 4 256 (drop n (a ++ (all (bytes 4) xs ++ l))) ≡ xs
 counts-back = many-back countOf (bytes 4) 4 (length-bytes 4) CountFits count-back 256
 
+limits-read : (x : Limits) → (x .nodes < 256) × (x .messages < 256) → (l : List ℕ) → limitsOf (limitsBytes x ++ l) ≡ x
+unfolding number bytes limitsOf limitsBytes
+limits-read x h l = rw (read 1 (x .nodes) (h .0), read 1 (x .messages) (h .1))
+
 -- ── the table ──
-table-is : (t : Table) {n w : ℕ} {xs : List Node} {qs : List Message} {ss ds ls : List ℕ} → n ≡ t .n → xs ≡ t .nodes → qs ≡ t .messages → w ≡ t .waiting → ss ≡ t .sent → ds ≡ t .delivered → ls ≡ t .lost
-    → _≡_ {A = Table} (record { n = n; nodes = xs; messages = qs; waiting = w; sent = ss; delivered = ds; lost = ls }) t
-table-is t a b c d e f g = rw (a, b, c, d, e, f, g)
+
+-- what comes behind the first n elements
+drop-behind : (a b : List ℕ) (n : ℕ) → length a ≡ n → drop n (a ++ b) ≡ b
+drop-behind a b n e = rw (← e) (drop-append-seam a b)
+
+table-is : (t : Table) {n w : ℕ} {lim : Limits} {xs : List Node} {qs : List Message} {ss ds ls : List ℕ} → n ≡ t .n → lim ≡ t .limits → xs ≡ t .nodes → qs ≡ t .messages → w ≡ t .waiting → ss ≡ t .sent → ds ≡ t .delivered → ls ≡ t .lost
+    → _≡_ {A = Table} (record { n = n; limits = lim; nodes = xs; messages = qs; waiting = w; sent = ss; delivered = ds; lost = ls }) t
+table-is t a i b c d e f g = rw (a, i, b, c, d, e, f, g)
 
 module _ (t : Table) (h : Fits t) (l : List ℕ) where
   n-back : number 1 (encoded t ++ l) 0 ≡ t .n
@@ -63,37 +74,43 @@ module _ (t : Table) (h : Fits t) (l : List ℕ) where
   nodes-back : many nodeOf 29 16 (drop 1 (encoded t ++ l)) ≡ t .nodes
   unfolding encoded
   nodes-back =
-      rw (append-assoc, append-assoc, append-assoc, append-assoc, append-assoc, append-assoc)
+      rw (append-assoc, append-assoc, append-assoc, append-assoc, append-assoc, append-assoc, append-assoc)
       (many-back nodeOf nodeBytes 29 node-long NodeFits node-back 16 1 (bytes 1 (t .n)) (t .nodes) (length-bytes 1 (t .n)) (h .nodes) _)
 
   messages-back : many messageOf 14 64 (drop 465 (encoded t ++ l)) ≡ t .messages
   unfolding encoded
   messages-back =
-      rw (append-assoc, append-assoc, append-assoc, append-assoc, append-assoc)
+      rw (append-assoc, append-assoc, append-assoc, append-assoc, append-assoc, append-assoc)
       (many-back messageOf messageBytes 14 message-long MessageFits message-back 64 465 (toNodes t) (t .messages) (nodes-end t (lengths t h)) (h .messages) _)
 
   waiting-back : number 1 (encoded t ++ l) 1361 ≡ t .waiting
   unfolding encoded
   waiting-back =
-      rw (append-assoc, append-assoc, append-assoc, append-assoc, number-at 1 (toMessages t) _ 1361 (messages-end t (lengths t h)))
+      rw (append-assoc, append-assoc, append-assoc, append-assoc, append-assoc, number-at 1 (toMessages t) _ 1361 (messages-end t (lengths t h)))
       (one-back (t .waiting) (h .waiting) _)
 
   sent-back : many countOf 4 256 (drop 1362 (encoded t ++ l)) ≡ t .sent
   unfolding encoded
-  sent-back = rw (append-assoc, append-assoc, append-assoc) (counts-back 1362 (toWaiting t) (t .sent) (waiting-end t (lengths t h)) (h .sent) _)
+  sent-back = rw (append-assoc, append-assoc, append-assoc, append-assoc) (counts-back 1362 (toWaiting t) (t .sent) (waiting-end t (lengths t h)) (h .sent) _)
 
   delivered-back : many countOf 4 256 (drop 2386 (encoded t ++ l)) ≡ t .delivered
   unfolding encoded
-  delivered-back = rw (append-assoc, append-assoc) (counts-back 2386 (toSent t) (t .delivered) (sent-end t (lengths t h)) (h .delivered) _)
+  delivered-back = rw (append-assoc, append-assoc, append-assoc) (counts-back 2386 (toSent t) (t .delivered) (sent-end t (lengths t h)) (h .delivered) _)
 
   lost-back : many countOf 4 256 (drop 3410 (encoded t ++ l)) ≡ t .lost
   unfolding encoded
-  lost-back = rw append-assoc (counts-back 3410 (toDelivered t) (t .lost) (delivered-end t (lengths t h)) (h .lost) _)
+  lost-back = rw (append-assoc, append-assoc) (counts-back 3410 (toDelivered t) (t .lost) (delivered-end t (lengths t h)) (h .lost) _)
+
+  limits-back : limitsOf (drop 4434 (encoded t ++ l)) ≡ t .limits
+  unfolding encoded
+  limits-back =
+      rw append-assoc
+      (ap limitsOf (drop-behind (toLost t) (limitsBytes (t .limits) ++ l) 4434 (lost-end t (lengths t h))) ∙ limits-read (t .limits) (h .limits) l)
 
   -- also where more bytes come after them
   decode-more : decoded (encoded t ++ l) ≡ t
   unfolding decoded
-  decode-more = table-is t n-back nodes-back messages-back waiting-back sent-back delivered-back lost-back
+  decode-more = table-is t n-back limits-back nodes-back messages-back waiting-back sent-back delivered-back lost-back
 
 decode-encode : (t : Table) → Fits t → decoded (encoded t) ≡ t
 decode-encode t h = rw (← append-nil (encoded t)) (decode-more t h [])

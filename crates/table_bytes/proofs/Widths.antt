@@ -89,10 +89,13 @@ counts-fit xs {vs} g = array-fits (u32-field .row) (u32-field .into) CountFits (
 
 pub table-fits : (t : Table) {vs : List Val} → Is (struct.row table.the-type) t vs → Fits t
 table-fits t g =
-    let f = g .1 .1 in
+    let k = g .1 .1 in
+    let f = k .1 in
     let h = f .1 .1 .1 in
+    let m = f .0 .1 .1 in
     record {
-      n = f .0 .1;
+      n = k .0 .1;
+      limits = (m .0 .1, m .1 .0 .1);
       nodes = array-fits (node.the-field .row) (node.the-field .into) NodeFits (λ c vs g. node-fits c {vs = vs} g) 16 (t .nodes) (f .1 .0);
       messages = array-fits (message.the-field .row) (message.the-field .into) MessageFits (λ m vs g. message-fits m {vs = vs} g) 64 (t .messages) (f .1 .1 .0);
       waiting = h .0 .1;

@@ -1,10 +1,11 @@
--- A table as 4,434 bytes, and the table of any bytes. Numbers have their high byte first.
---   table     n 1, 16 nodes of 29 bytes, 64 messages of 14 bytes, waiting 1, then sent, delivered and lost, each of 256 counts of 4 bytes
+-- A table as 4,436 bytes, and the table of any bytes. Numbers have their high byte first.
+--   table     n 1, 16 nodes of 29 bytes, 64 messages of 14 bytes, waiting 1, then sent, delivered and lost, each of 256 counts of 4 bytes, then limits
 --   node      status 1, counter 4, group 4, coordinator 1, task 2, members 2, last 4, activity 11
 --   activity  tag 1, set 2, former 2, node 1, caller 1, call 4; what an activity does not have is 0
 --             set is found or rest; node is asked, ticks or now
 --   message   sender 1, receiver 1, kind 1, call 4, group 4, task 2, yes 1
 --   counts    that from node a to node b is at place (a - 1) * 16 + (b - 1): `pairPlace` of crate model
+--   limits    nodes 1, messages 1
 -- Numbers, records of one size and what a status byte means are in `number_bytes/specs/Bytes`. That a table is read back from its bytes is claimed in Claims.
 use Prim.Native.Nat.{ℕ, _%_, _≤_, _<_}
 use mathlib.Core.Path.{_≡_}
@@ -13,6 +14,7 @@ use lib.Dec.{eqb}
 use lib.ListN.{length, drop}
 use Rattle.model.specs.Pick.{pick}
 use Rattle.model.specs.Answers.{statusNumber}
+use Rattle.model.specs.declared.Limits.{Limits}
 use Rattle.model.specs.declared.Activity.{Activity}
 use Rattle.model.specs.declared.Activity.the-variants.{Idle, Asking, Waiting, Inviting, Collecting, Handing, Contacting, Forwarding, Accepting}
 use Rattle.model.specs.declared.Node.{Node}
@@ -81,10 +83,15 @@ messageOf l = record {
 abbrev pub countOf : List ℕ → ℕ
 countOf l = number 4 l 0
 
+-- a table's limits (02, T-08)
+unfoldable pub limitsOf : List ℕ → Limits
+limitsOf l = record { nodes = number 1 l 0; messages = number 1 l 1 }
+
 -- the table of any bytes, in range or not
 unfoldable pub decoded : List ℕ → Table
 decoded l = record {
   n = number 1 l 0;
+  limits = limitsOf (drop 4434 l);
   nodes = many nodeOf 29 16 (drop 1 l);
   messages = many messageOf 14 64 (drop 465 l);
   waiting = number 1 l 1361;
@@ -108,14 +115,17 @@ messageBytes m =
     bytes 1 (m .sender) ++ bytes 1 (m .receiver) ++ bytes 1 (m .kind) ++ bytes 4 (m .call .number) ++ bytes 4 (m .group .number)
     ++ bytes 2 (m .task .number) ++ bytes 1 (yesNumber (m .yes))
 
+unfoldable pub limitsBytes : Limits → List ℕ
+limitsBytes l = bytes 1 (l .nodes) ++ bytes 1 (l .messages)
+
 -- how many they are
 abbrev pub size : ℕ
-size = 4434
+size = 4436
 
 unfoldable pub encoded : Table → List ℕ
 encoded t =
     bytes 1 (t .n) ++ all nodeBytes (t .nodes) ++ all messageBytes (t .messages) ++ bytes 1 (t .waiting)
-    ++ all (bytes 4) (t .sent) ++ all (bytes 4) (t .delivered) ++ all (bytes 4) (t .lost)
+    ++ all (bytes 4) (t .sent) ++ all (bytes 4) (t .delivered) ++ all (bytes 4) (t .lost) ++ limitsBytes (t .limits)
 
 -- What writing the table t into a buffer that held b leaves there, o.
 pub record Stored (t : Table) (b o : List ℕ) : Type 0 where
@@ -173,6 +183,7 @@ CountFits x = x < 4294967296
 
 pub record Fits (t : Table) : Type 0 where
   pub n : t .n < 256
+  pub limits : (t .limits .nodes < 256) × (t .limits .messages < 256)
   pub nodes : (length (t .nodes) ≡ 16) × Each NodeFits (t .nodes)
   pub messages : (length (t .messages) ≡ 64) × Each MessageFits (t .messages)
   pub waiting : t .waiting < 256

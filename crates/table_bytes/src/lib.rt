@@ -1,16 +1,18 @@
-// A table as 4,434 bytes, and the table of any bytes: a form in which any table at all, in range or not, can be handed in.
+// A table as 4,436 bytes, and the table of any bytes: a form in which any table at all, in range or not, can be handed in.
 // Numbers have their high byte first.
-//   table     n 1, 16 nodes of 29 bytes, 64 messages of 14 bytes, waiting 1, then sent, delivered and lost, each of 256 counts of 4 bytes
+//   table     n 1, 16 nodes of 29 bytes, 64 messages of 14 bytes, waiting 1, then sent, delivered and lost, each of 256 counts of 4 bytes, then limits
 //   node      status 1, counter 4, group 4, coordinator 1, task 2, members 2, last 4, activity 11
 //   activity  tag 1, set 2, former 2, node 1, caller 1, call 4; what an activity does not have is 0
 //             set is found or rest; node is asked, ticks or now
 //   message   sender 1, receiver 1, kind 1, call 4, group 4, task 2, yes 1
 //   counts    that from node a to node b is at place (a - 1) * 16 + (b - 1)
+//   limits    nodes 1, messages 1
 // Reading takes status modulo 4, tag modulo 9 (0 Idle .. 8 Accepting) and yes modulo 2; every other number as it stands, in range or not.
 // What is read and written is in specs/Bytes.
 use model::Activity;
 use model::CallNo;
 use model::GroupNo;
+use model::Limits;
 use model::Message;
 use model::Node;
 use model::Table;
@@ -31,7 +33,7 @@ ghost use Rattle.number_bytes.specs.Bytes.{bytes, many, all, written};
 ghost use Rattle.table_bytes.specs.Bytes as spec;
 
 // How long a table's bytes are, and those of eight records.
-pub const SIZE: usize = 4434;
+pub const SIZE: usize = 4436;
 
 pub const RECORDS_SIZE: usize = 232;
 
@@ -187,7 +189,17 @@ fn counts_of(s: &[u8]) -> [u32; 256]
     all
 }
 
-// The table of any bytes. What a list is too short for is 0; what comes after 4,434 bytes is not looked at.
+// The limits that start s.
+fn limits_of(s: &[u8]) -> Limits
+    ensures { λ r. ⌜ r ≡ spec.limitsOf (now (s .entry)) ⌝ }
+{
+    Limits {
+        nodes: one(s, 0),
+        messages: one(s, 1),
+    }
+}
+
+// The table of any bytes. What a list is too short for is 0; what comes after 4,436 bytes is not looked at.
 pub fn decode(bytes: &[u8]) -> Table
     ensures { λ r. ⌜ r ≡ spec.decoded (now (bytes .entry)) ⌝ }
 {
@@ -195,6 +207,7 @@ pub fn decode(bytes: &[u8]) -> Table
     let messages = messages_of(from(bytes, 465));
     Table {
         n: one(bytes, 0),
+        limits: limits_of(from(bytes, 4434)),
         nodes: nodes,
         messages: messages,
         waiting: one(bytes, 1361),
@@ -310,6 +323,14 @@ fn put_counts(out: &mut [u8], at: usize, counts: [u32; 256])
     }
 }
 
+fn put_limits(out: &mut [u8], at: usize, limits: Limits)
+    requires { ⌜ at ≤ 5000 ⌝ }
+    ensures { λ _. ⌜ now (out .exit) ≡ written (now (out .entry)) at (spec.limitsBytes limits) ⌝ }
+{
+    put_one(out, at, limits.nodes);
+    put_one(out, at + 1, limits.messages)
+}
+
 // The bytes of t over the start of out, and what is behind them stays; where out is shorter, as many as it has room for.
 pub fn encode(t: Table, out: &mut [u8])
     ensures { λ _. ⌜ spec.Stored t (now (out .entry)) (now (out .exit)) ⌝ }
@@ -317,13 +338,15 @@ pub fn encode(t: Table, out: &mut [u8])
     let sent = t.sent;
     let delivered = t.delivered;
     let lost = t.lost;
+    let limits = t.limits;
     put_one(out, 0, t.n);
     put_nodes(out, t);
     put_messages(out, t);
     put_one(out, 1361, t.waiting);
     put_counts(out, 1362, sent);
     put_counts(out, 2386, delivered);
-    put_counts(out, 3410, lost)
+    put_counts(out, 3410, lost);
+    put_limits(out, 4434, limits)
 }
 
 // The bytes of eight records, such as `machine::recovery` answers, one after another over the start of out, as `encode` writes those of a table.

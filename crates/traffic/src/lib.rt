@@ -5,7 +5,9 @@ ghost use lib.Dec.{eqb};
 ghost use lib.ListN.{length};
 ghost use mathlib.Core.List.{[]};
 ghost use Rattle.model.specs.Counts.{countAt, listed, rowsOf};
+ghost use Rattle.model.specs.Limits.{tower};
 ghost use Rattle.model.specs.Range as range;
+ghost use Rattle.model.specs.Range.{TwoPairs};
 ghost use Rattle.model.specs.State.{noMessage, firstOf, upTo};
 ghost use Rattle.model.specs.State as state;
 ghost use Rattle.traffic.specs.Rows.{entry, raised, oneMoreIn, usedOf, mostAt, allInRange, adding};
@@ -186,7 +188,7 @@ pub fn adds_up(
 }
 
 // T-05: "A table is in range only if that holds, a count that stands for no pair of its n cabinets is 0, and no count is above 33,554,430." By the parts of a table, so
-// that no whole one is copied; its nodes don't matter.
+// that no whole one is copied; its nodes and its limits don't matter.
 pub fn traffic_in_range(
     n: u8,
     messages: [Message; 64],
@@ -196,7 +198,7 @@ pub fn traffic_in_range(
     lost: &[u32; 256],
 ) -> bool
     requires { ⌜ n ≤ 16 ⌝ }
-    ensures { λ r. ⌜ r ≡ state.trafficInRange (record { n = n; nodes = []; queue = firstOf waiting noMessage messages; sent = now (sent .entry); delivered = now (delivered .entry); lost = now (lost .entry) }) ⌝ }
+    ensures { λ r. ⌜ r ≡ state.trafficInRange (record { rule = TwoPairs; n = n; limits = tower; nodes = []; queue = firstOf waiting noMessage messages; sent = now (sent .entry); delivered = now (delivered .entry); lost = now (lost .entry) }) ⌝ }
 {
     let rows = waiting_rows(messages, waiting);
     counts_in_range(n, sent, delivered, lost) & adds_up(n, sent, delivered, lost, &rows)

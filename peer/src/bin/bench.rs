@@ -9,7 +9,7 @@
 use peer::drive::{full_run, Manner, FULL, QUIET, REFUSED};
 use peer::ending::ended;
 use peer::list::{read_list, write_list, MAX_LIST};
-use peer::machine::Event;
+use peer::machine::{Event, TOWER};
 use peer::numbers::Numbers;
 use peer::print::run_list;
 use peer::proved::{fold, Library, Proved};
@@ -55,8 +55,8 @@ fn bench(library: &impl Library, rounds: usize) -> (u64, u64) {
     let mut cases = Vec::new();
     for n in [2, 5, 16] {
         for (name, manner) in MANNERS {
-            let events = full_run(n, manner, &mut Numbers::new(u64::from(n)));
-            let list = write_list(n, &events);
+            let events = full_run(n, TOWER, manner, &mut Numbers::new(u64::from(n)));
+            let list = write_list(n, TOWER, &events);
             if agree(library, &list, &mut out) {
                 passed += 1;
             } else {
@@ -150,7 +150,7 @@ fn cut(case: &Case, limit: usize) -> Vec<u8> {
         bytes += peer::drive::field_bytes(event);
         bytes <= limit
     });
-    write_list(case.n, &fitting.copied().collect::<Vec<_>>())
+    write_list(case.n, TOWER, &fitting.copied().collect::<Vec<_>>())
 }
 
 fn agree(library: &impl Library, list: &[u8], out: &mut [u8]) -> bool {

@@ -43,6 +43,6 @@ fn difference(library: &impl Library, case: &ListCase) -> Option<String> {
     }
     list_difference(library, &case.list).or_else(|| {
         let list = read_list(&case.list).ok()?;
-        run_difference(library, list.n, &list.events, None).map(|found| found.words)
+        run_difference(library, list.n, list.limits, &list.events, None).map(|found| found.words)
     })
 }

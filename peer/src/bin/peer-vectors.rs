@@ -50,7 +50,7 @@ fn list_difference(case: &ListCase) -> Option<String> {
         ));
     }
     let list = read_list(&case.list).ok()?;
-    let words = check_run(list.n, &list.events).err()?;
+    let words = check_run(list.n, list.limits, &list.events).err()?;
     Some(format!("list {}: {words}", case.name))
 }
 

@@ -4,8 +4,8 @@ use peer::numbers::Numbers;
 use peer::proved::{TableBytes, TABLE_BYTES};
 
 /// The k-th form: cut short or with bytes behind it, and some with other remainders of status and activity.
-/// What is cut off is cleared in the bytes themselves too, as it is read as zeros; half of the time it is
-/// zeros already, so that the table stays in range.
+/// What is cut off is cleared in the bytes themselves too, as it is read as zeros. Half of the time nothing is
+/// cut off but zeros at the end; a table in range has none there, since its limits stand last.
 pub fn in_another_form(k: u32, bytes: &mut TableBytes, numbers: &mut Numbers) -> Vec<u8> {
     let mut given = bytes.to_vec();
     if k.is_multiple_of(2) {

@@ -1,22 +1,19 @@
--- The tag decides ground 4, its length ground 5; `nodes_of` decides 6.
-use borrow.Author.Tests.{eq-eqb, ne-eqb}
+-- The tag decides ground 4 and the limits; `counted` decides 5 and 6.
+use borrow.Author.Tests.{ne-eqb}
 use borrow.Author.Needs.{needs}
 use Rattle.model.specs.Pick.{pick}
-use Rattle.event_list.specs.Format.{lengthOf}
-use Rattle.event_list.specs.Parts.{firstIn}
+use Rattle.event_list.specs.Format.{limitsOf, lengthOf}
+use Rattle.event_list.specs.Parts.{countedIn, firstIn}
 use Rattle.event_list.proofs.first_in.Statement.{statement}
 use Rattle.event_list.proofs.first_in.Tie as tie
 
 pub first-in-spec : {M : Type 1} → statement M
-unfolding firstIn lengthOf pick
+unfolding countedIn firstIn limitsOf lengthOf pick
 first-in-spec =
     tie.close
     (tie.spec
-    (λ c. simp (c .before .match .keys1, ne-eqb _ _ (c .if1 .taken)))
-    (λ c κs. search needs)
-    (λ c κs. search needs)
-    (λ c.
-    let b = c .before in
-    rw (c .nodes-of .ensures, b .before .before .match .keys1, eq-eqb _ _ (b .before .if1 .left), b .byte .ensures))
-    (λ c. rw (c .match .keys2))
-    (λ c. simp (ne-eqb _ _ (c .match .rest .0 .1))))
+    (search needs) (λ c κs. search needs) (search needs) (λ c κs. search needs)
+    (λ c. rw (c .counted .ensures, c .before .tower .ensures, c .before .before .match .keys1))
+    (λ c. rw (c .counted2 .ensures, c .before .stand .ensures, c .before .before .match .keys2))
+    (λ c. rw (c .match .keys3))
+    (λ c. simp (ne-eqb _ _ (c .match .rest .0 .1), ne-eqb _ _ (c .match .rest .0 .0 .1))))

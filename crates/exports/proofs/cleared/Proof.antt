@@ -7,7 +7,7 @@ use Rattle.exports.proofs.cleared.Tie as tie
 
 returns : tie.Need-returns
 returns c =
-    let m = c .before .before .before in
+    let m = c .before .before .before .before in
     let t = m .before .before .args .t in
     rw (m .cleared-messages .ensures, m .before .cleared-nodes .ensures, first-length (t .waiting) noMessage (t .messages))
 

@@ -4,6 +4,7 @@ use borrow.Author.Tests.{not-true, not-false}
 use native.Mathlib.Omega.{arith}
 use mathlib.Core.Logic.{inr}
 use mathlib.Core.Path.{_≡_, refl, sym, _∙_}
+use Rattle.model.specs.Limits.{tower}
 use Rattle.model.specs.declared.Event.the-variants.{Crash}
 use Rattle.packed.proofs.Turns.{few, rulable}
 use Rattle.list_search.specs.Stack.{sizeOf}
@@ -61,25 +62,25 @@ array-copy-out-e c =
     omega (arith, w, q, m, c .if1 .left)
 
 -- v: where it was judged
-rule-requires : tie.Need-rule-requires Inv-loop μ-loop
+rule-requires : tie.Need-rule-in-tower-requires Inv-loop μ-loop
 rule-requires c κs =
     let l = c .before .before .before .before .before .loop in
     let h = ready _ _ _ (l .inv .0 .top) in
-    (h .words, few _ _ _ _ _ _ _ h (Crash 0), rulable _ _ _ _ _ _ _ h _ _ (c .before .before .seat .ensures .0) _)
+    (h .words, few _ tower _ _ _ _ _ _ h (Crash 0), rulable _ tower _ _ _ _ _ _ h _ _ (c .before .before .seat .ensures .0) _)
 
 -- it is refused
 loop-less-2 : tie.Need-loop-less-2 Inv-loop μ-loop
 loop-less-2 c =
     let v = c .before in
     let l = v .before .before .before .before .before .before .before .before .loop in
-    turned-less (l .inv .0) _ (l .inv .1) (v .before .before .before .before .before .before .before .if1 .left) (l .inv .2 .each _) (v .before .before .before .before .before .seat .ensures .0) _ (v .before .before .rule .ensures)
+    turned-less (l .inv .0) _ (l .inv .1) (v .before .before .before .before .before .before .before .if1 .left) (l .inv .2 .each _) (v .before .before .before .before .before .seat .ensures .0) _ (v .before .before .rule-in-tower .ensures)
     (sym (v .is-accepted .ensures) ∙ not-true _ (c .if3 .taken))
 
 loop-again-2 : tie.Need-loop-again-2 Inv-loop μ-loop
 loop-again-2 c =
     let v = c .before in
     let l = v .before .before .before .before .before .before .before .before .loop in (
-      turned-down (l .inv .0) _ (l .inv .1) (v .before .before .before .before .before .before .before .if1 .left) (l .inv .2 .each _) (v .before .before .before .before .before .seat .ensures .0) _ (v .before .before .rule .ensures)
+      turned-down (l .inv .0) _ (l .inv .1) (v .before .before .before .before .before .before .before .if1 .left) (l .inv .2 .each _) (v .before .before .before .before .before .seat .ensures .0) _ (v .before .before .rule-in-tower .ensures)
           (sym (v .is-accepted .ensures) ∙ not-true _ (c .if3 .taken)),
       l .inv .1,
       l .inv .2,
@@ -96,7 +97,7 @@ add-given : tie.Need-add-given Inv-loop μ-loop
 add-given c =
     let v = c .before .before .before .before .before .before .before in
     let l = v .before .before .before .before .before .before .before .before .loop in
-    let z = count-one (l .inv .0) _ (l .inv .1) (v .before .before .before .before .before .before .before .if1 .left) (l .inv .2 .each _) (v .before .before .before .before .before .seat .ensures .0) _ (v .before .before .rule .ensures)
+    let z = count-one (l .inv .0) _ (l .inv .1) (v .before .before .before .before .before .before .before .if1 .left) (l .inv .2 .each _) (v .before .before .before .before .before .seat .ensures .0) _ (v .before .before .rule-in-tower .ensures)
     (sym (v .is-accepted .ensures) ∙ not-false _ (c .before .before .before .before .before .before .if3 .left)) (c .before .before .before .before .before .if4 .taken) in
     search needs
 
@@ -104,14 +105,14 @@ loop-less-3 : tie.Need-loop-less-3 Inv-loop μ-loop
 loop-less-3 c =
     let v = c .before .before .before .before .before .before .before .before in
     let l = v .before .before .before .before .before .before .before .before .loop in
-    listed-less (l .inv .0) _ (l .inv .1) (v .before .before .before .before .before .before .before .if1 .left) (l .inv .2 .each _) (v .before .before .before .before .before .seat .ensures .0) _ (v .before .before .rule .ensures)
+    listed-less (l .inv .0) _ (l .inv .1) (v .before .before .before .before .before .before .before .if1 .left) (l .inv .2 .each _) (v .before .before .before .before .before .seat .ensures .0) _ (v .before .before .rule-in-tower .ensures)
     (sym (v .is-accepted .ensures) ∙ not-false _ (c .before .before .before .before .before .before .before .if3 .left)) (c .before .before .before .before .before .before .if4 .taken)
 
 loop-again-3 : tie.Need-loop-again-3 Inv-loop μ-loop
 loop-again-3 c =
     let v = c .before .before .before .before .before .before .before .before in
     let l = v .before .before .before .before .before .before .before .before .loop in (
-      listed (l .inv .0) _ (l .inv .1) (v .before .before .before .before .before .before .before .if1 .left) (l .inv .2 .each _) (v .before .before .before .before .before .seat .ensures .0) _ (v .before .before .rule .ensures)
+      listed (l .inv .0) _ (l .inv .1) (v .before .before .before .before .before .before .before .if1 .left) (l .inv .2 .each _) (v .before .before .before .before .before .seat .ensures .0) _ (v .before .before .rule-in-tower .ensures)
           (sym (v .is-accepted .ensures) ∙ not-false _ (c .before .before .before .before .before .before .before .if3 .left)) (c .before .before .before .before .before .before .if4 .taken) (c .before .before .before .put-line .ensures .0) (omega (arith, c .if5 .taken)),
       l .inv .1,
       l .inv .2,
@@ -125,7 +126,7 @@ returns-2 : tie.Need-returns-2 Inv-loop μ-loop
 returns-2 c =
     let v = c .before .before .before .before .before .before .before .before in
     let l = v .before .before .before .before .before .before .before .before .loop in
-    listed-more (l .inv .0) _ (l .inv .1) (v .before .before .before .before .before .before .before .if1 .left) (l .inv .2 .each _) (v .before .before .before .before .before .seat .ensures .0) _ (v .before .before .rule .ensures)
+    listed-more (l .inv .0) _ (l .inv .1) (v .before .before .before .before .before .before .before .if1 .left) (l .inv .2 .each _) (v .before .before .before .before .before .seat .ensures .0) _ (v .before .before .rule-in-tower .ensures)
     (sym (v .is-accepted .ensures) ∙ not-false _ (c .before .before .before .before .before .before .before .if3 .left)) (c .before .before .before .before .before .before .if4 .taken) (c .before .before .before .put-line .ensures .0) _ refl (c .before .before .before .put-line .ensures .1)
 
 -- it is accepted, and others follow
@@ -135,9 +136,9 @@ exchange-requires c κs =
     let l = v .before .before .before .before .before .before .before .before .loop in
     let h = ready _ _ _ (l .inv .0 .top) in (
       h .words,
-      few _ _ _ _ _ _ _ h (Crash 0),
-      v .before .before .rule .ensures .reach,
-      room-for (l .inv .0) _ (l .inv .1) (v .before .before .before .before .before .before .before .if1 .left) (l .inv .2 .each _) (v .before .before .before .before .before .seat .ensures .0) _ (v .before .before .rule .ensures)
+      few _ tower _ _ _ _ _ _ h (Crash 0),
+      v .before .before .rule-in-tower .ensures .reach,
+      room-for (l .inv .0) _ (l .inv .1) (v .before .before .before .before .before .before .before .if1 .left) (l .inv .2 .each _) (v .before .before .before .before .before .seat .ensures .0) _ (v .before .before .rule-in-tower .ensures)
           (sym (v .is-accepted .ensures) ∙ not-false _ (c .before .before .before .before .if3 .left)),
     )
 
@@ -150,14 +151,14 @@ loop-less-4 : tie.Need-loop-less-4 Inv-loop μ-loop
 loop-less-4 c =
     let v = c .before .before .before .before .before .before .before .before in
     let l = v .before .before .before .before .before .before .before .before .loop in
-    raised-less (l .inv .0) _ (l .inv .1) (v .before .before .before .before .before .before .before .if1 .left) (l .inv .2 .each _) (v .before .before .before .before .before .seat .ensures .0) _ (v .before .before .rule .ensures)
+    raised-less (l .inv .0) _ (l .inv .1) (v .before .before .before .before .before .before .before .if1 .left) (l .inv .2 .each _) (v .before .before .before .before .before .seat .ensures .0) _ (v .before .before .rule-in-tower .ensures)
     (sym (v .is-accepted .ensures) ∙ not-false _ (c .before .before .before .before .before .before .before .if3 .left)) (c .before .before .before .before .before .before .if4 .left) _ _ (c .before .before .exchange .ensures .2) (c .before .before .exchange .ensures .0) (c .extend .ensures .1)
 
 loop-again-4 : tie.Need-loop-again-4 Inv-loop μ-loop
 loop-again-4 c =
     let v = c .before .before .before .before .before .before .before .before in
     let l = v .before .before .before .before .before .before .before .before .loop in (
-      raised (l .inv .0) _ (l .inv .1) (v .before .before .before .before .before .before .before .if1 .left) (l .inv .2 .each _) (v .before .before .before .before .before .seat .ensures .0) _ (v .before .before .rule .ensures)
+      raised (l .inv .0) _ (l .inv .1) (v .before .before .before .before .before .before .before .if1 .left) (l .inv .2 .each _) (v .before .before .before .before .before .seat .ensures .0) _ (v .before .before .rule-in-tower .ensures)
           (sym (v .is-accepted .ensures) ∙ not-false _ (c .before .before .before .before .before .before .before .if3 .left)) (c .before .before .before .before .before .before .if4 .left) _ _ (c .before .before .exchange .ensures .2) (c .before .before .exchange .ensures .0) (c .extend .ensures .1) (c .extend .ensures .2),
       l .inv .1,
       l .inv .2,

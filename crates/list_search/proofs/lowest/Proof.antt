@@ -9,7 +9,7 @@ use Rattle.list_search.proofs.lowest.Tie as tie
 
 returns : tie.Need-returns
 returns c =
-    let s = c .before .before .before .before .starting .ensures in
+    let s = rw (c .before .before .before .before .before .tower .ensures) at (c .before .before .before .before .starting .ensures) in
     record {
       state = lowest-state _ _ _ (s .exact) (s .table);
       nodes = ap (λ (t : Table). length (t .nodes)) (s .exact);
@@ -20,4 +20,4 @@ returns c =
     }
 
 pub lowest-spec : {M : Type 1} → statement M
-lowest-spec = tie.close (tie.spec (λ c κs. search needs) (λ c κs. search needs) (λ c κs. search needs) returns)
+lowest-spec = tie.close (tie.spec (λ c κs. search needs) (λ c κs. search needs) (λ c κs. search needs) (λ c κs. search needs) returns)

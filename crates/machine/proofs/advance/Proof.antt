@@ -1,10 +1,10 @@
 -- `advance` meets its contract: the judgement of the event, by proofs/Judged, with the record and the message as read from the table.
 use borrow.Author.Needs.{needs}
-use borrow.Author.Tests.{not-true, not-false, ltb-true}
+use borrow.Author.Tests.{not-false, ltb-true}
 use native.Mathlib.Omega.{arith}
 use Prim.Native.Nat.{ℕ, _+_, _%_}
 use lib.ListN.{getD}
-use mathlib.Core.Path.{_≡_, refl, sym, _∙_, ap}
+use mathlib.Core.Path.{refl, sym, _∙_, ap}
 use Rattle.machine.proofs.Laws.{sized}
 use Rattle.machine.proofs.Places.{small, counts-small, left-is, place-below}
 use Rattle.machine.proofs.Judged.{halted, judging, seated, room, accepts, last-refused, verdict-accepted, pair-below}
@@ -35,6 +35,11 @@ returns c =
     let t = o .args .t1 in
     last-refused t (sized t (o .good .0)) (o .pre) (o .args .e) _ (p .place-for .ensures .0) (p .place-for .ensures .1) _ (ap (λ (i : ℕ). (i + 15) % 16) (a .actor .ensures)) _ _ refl _ _ refl _ (j .judge .ensures)
     _ (ap (λ (i : ℕ). getD (t .sent) i 0) (n .sent-place .ensures .0)) (w .with-last .result) (w .with-last .ensures) (halted (w .with-last .result) (c .before .is-accepted .ensures) (c .if1 .taken))
+
+cast-left-of : tie.Need-cast-left-of
+cast-left-of c =
+    let o = c .before .before .before .before .before .before .before .before .before .before .before .before in
+    record { fits = omega (arith, small (o .args .t1) (sized (o .args .t1) (o .good .0)) (o .pre) (o .args .e) .2) }
 
 left-of-requires : tie.Need-left-of-requires
 left-of-requires c κs q =
@@ -108,7 +113,7 @@ advance-spec =
     (λ c κs. search needs)
     (λ c κs. search needs)
     returns
-    (λ c. search needs)
+    cast-left-of
     left-of-requires
     stored-requires
     returns-2)

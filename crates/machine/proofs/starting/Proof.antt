@@ -14,4 +14,4 @@ starting-spec =
     (λ c κs. search needs)
     (λ c.
     let e = c .blank .ensures in
-    record { answer = c .before .start-answer .ensures; exact = e; table = ap view e ∙ start-is _ }))
+    record { answer = c .before .begun-answer .ensures; exact = e; table = ap view e ∙ start-is _ _ }))

@@ -3,13 +3,13 @@ use borrow.Author.Needs.{needs}
 use mathlib.Core.Path.{_≡_, refl, sym, _∙_}
 use mathlib.Core.Bool.{Bool}
 use mathlib.Core.List.{List, []}
-use Prim.Native.Nat.{ℕ}
+use Rattle.model.specs.State.{State}
 use Rattle.model.specs.Pick.{pick, pick-true, pick-false, by-test}
 use Rattle.run_list.proofs.put_heading.Statement.{statement}
 use Rattle.run_list.proofs.put_heading.Tie as tie
 
-pick-same : (t : Bool) (a : List ℕ) → pick t a a ≡ a
-pick-same t a = by-test (λ (x : List ℕ). x ≡ a) (λ _. refl) (λ _. refl)
+pick-same : (t : Bool) (a : List State) → pick t a a ≡ a
+pick-same t a = by-test (λ (x : List State). x ≡ a) (λ _. refl) (λ _. refl)
 
 returns : tie.Need-returns
 returns c =
@@ -17,7 +17,7 @@ returns c =
     let m = w .before .before .before .before in
     let f = m .before .before in
     let i = sym (f .first-of .ensures) ∙ m .s .given .1 in
-    record { line = w .put-stopped .ensures ∙ rw (i, w .before .stop-number .ensures); nodes = rw i (sym (pick-same _ [])) }
+    record { line = w .put-stopped .ensures ∙ rw (i, w .before .stop-number .ensures); starts = rw i (sym (pick-same _ [])) }
 
 returns-2 : tie.Need-returns-2
 returns-2 c =
@@ -25,7 +25,7 @@ returns-2 c =
     let m = w .before .before .before in
     let f = m .before .before in
     let i = sym (f .first-of .ensures) ∙ m .n .given .1 in
-    record { line = rw i (rw (c .enum-told .given .1) at (w .put-cabinets .ensures)); nodes = sym (pick-false _ []) }
+    record { line = rw i (rw (c .enum-told .given .1) at (w .put-cabinets .ensures)); starts = sym (pick-false _ []) }
 
 returns-3 : tie.Need-returns-3
 returns-3 c =
@@ -33,7 +33,7 @@ returns-3 c =
     let m = w .before .before .before in
     let f = m .before .before in
     let i = sym (f .first-of .ensures) ∙ m .n .given .1 in
-    record { line = rw i (rw (c .before .at .given .1) at (w .put-cabinets .ensures)); nodes = rw i (sym (pick-true _ [])) }
+    record { line = rw i (rw (c .before .at .given .1) at (w .put-cabinets .ensures)); starts = rw i (sym (pick-true _ [])) }
 
 pub put-heading-spec : {M : Type 1} → statement M
 put-heading-spec =

@@ -1,30 +1,29 @@
 -- `run_list::run` meets its contract. The invariant: the table, with its messages as words, is in range, and what is left, printed from p on, is all of it
 -- printed from the start.
 use borrow.Author.Needs.{needs}
-use borrow.Author.Tests.{not-true}
-use Prim.Native.Nat.{ℕ, _≤_, _-_}
+use Prim.Native.Nat.{_≤_, _-_}
 use native.Mathlib.Omega.{arith}
 use denote.Ref.{now}
 use mathlib.Core.Path.{_≡_, refl, sym, _∙_, ap, subst}
-use mathlib.Core.Bool.{true}
-use mathlib.Core.List.{List, [], _∷_}
+use mathlib.Core.List.{[], _∷_}
 use lib.ListN.{length}
 use Rattle.model.specs.State.{view}
 use Rattle.model.specs.Step.{runFrom}
 use Rattle.model.proofs.Fields.{in-range-size}
+use Rattle.model.specs.Range.{TwoPairs}
 use Rattle.model.proofs.Traffic.{SentWithin, start-within, run-within}
 use Rattle.machine.proofs.Laws.{sized}
 use Rattle.packed.specs.Seen.{seen}
 use Rattle.packed.proofs.Turns.{same-start, start-empty, Ready, few, counted, counts-low, rulable, refused-turn, has-room, within-below, accepted-turn, ready-again}
 use Rattle.event_list.proofs.Reading.{next-past}
-use Rattle.listing.specs.Printing.{Print, printed}
+use Rattle.listing.specs.Printing.{printed}
 use Rattle.run_list.proofs.Laws.{same-lines, left, left-done, left-stopped, left-quiet, turn-next, turn-refused}
 use Rattle.run_list.proofs.run.Statement.{statement}
 use Rattle.run_list.proofs.run.Tie as tie
 
 abbrev Inv-loop : tie.InvT-loop
 Inv-loop list out₀ from t₀ q₀ at₀ e₀ p₀ out t q at e p =
-    (e ≤ at) × (at ≤ length list) × Ready (t .n) (t .nodes) q (t .waiting) (t .sent) (t .delivered) (t .lost) × SentWithin (seen (t .n) (t .nodes) q (t .waiting) (t .sent) (t .delivered) (t .lost)) × (length out ≡ length out₀) × (printed out p (left list (seen (t .n) (t .nodes) q (t .waiting) (t .sent) (t .delivered) (t .lost)) at e) ≡ printed out₀ from (left list (view t₀) 4 1))
+    (e ≤ at) × (at ≤ length list) × Ready (t .n) (t .limits) (t .nodes) q (t .waiting) (t .sent) (t .delivered) (t .lost) × SentWithin (seen (t .n) (t .limits) (t .nodes) q (t .waiting) (t .sent) (t .delivered) (t .lost)) × (length out ≡ length out₀) × (printed out p (left list (seen (t .n) (t .limits) (t .nodes) q (t .waiting) (t .sent) (t .delivered) (t .lost)) at e) ≡ printed out₀ from (left list (view t₀) 4 1))
 
 -- An event takes at least four bytes.
 abbrev μ-loop : tie.MeasureT-loop
@@ -35,11 +34,11 @@ loop-holds c =
     let o = c .before .before .before in
     let s = o .args in
     let b = o .pre .3 in
-    let same = same-start (s .start) (c .none .result) (start-empty (s .start) (s .start .n) b) in (
+    let same = same-start (s .start) (c .none .result) (start-empty (s .start) (s .start .n) (s .start .limits) b) in (
       omega arith,
       o .pre .0,
       record { words = c .none .ensures; nodes = sized (s .start) (o .good .1 .1 .1 .0) .nodes; range = rw same (o .pre .2) },
-      subst SentWithin (sym (same ∙ b)) (start-within (s .start .n) (in-range-size (view (s .start)) (o .pre .2) .1)),
+      subst SentWithin (sym (same ∙ b)) (start-within TwoPairs (s .start .n) (s .start .limits) (in-range-size (view (s .start)) (o .pre .2) .1)),
       refl,
       rw same,
     )
@@ -53,7 +52,7 @@ returns c =
     let l = v .before .loop in
     let t = l .t in
     let s = v .before .before .before .before .before .args in
-    k .put-table .ensures ∙ rw (same-lines t (l .q), ← left-done (now (s .list)) (seen (t .n) (t .nodes) (l .q) (t .waiting) (t .sent) (t .delivered) (t .lost)) (l .at) (l .e) (v .event-at .ensures) (m .enum-told .given .1)) (l .inv .5)
+    k .put-table .ensures ∙ rw (same-lines t (l .q), ← left-done (now (s .list)) (seen (t .n) (t .limits) (t .nodes) (l .q) (t .waiting) (t .sent) (t .delivered) (t .lost)) (l .at) (l .e) (v .event-at .ensures) (m .enum-told .given .1)) (l .inv .5)
 
 -- a refusal of the list
 returns-2 : tie.Need-returns-2 Inv-loop μ-loop
@@ -64,7 +63,7 @@ returns-2 c =
     let l = v .before .loop in
     let t = l .t in
     let s = v .before .before .before .before .before .args in
-    k .stop .ensures ∙ rw (same-lines t (l .q), ← left-stopped (now (s .list)) (seen (t .n) (t .nodes) (l .q) (t .waiting) (t .sent) (t .delivered) (t .lost)) (l .at) (l .e) (v .event-at .ensures) (m .s .given .1)) (l .inv .5)
+    k .stop .ensures ∙ rw (same-lines t (l .q), ← left-stopped (now (s .list)) (seen (t .n) (t .limits) (t .nodes) (l .q) (t .waiting) (t .sent) (t .delivered) (t .lost)) (l .at) (l .e) (v .event-at .ensures) (m .s .given .1)) (l .inv .5)
 
 rule-requires : tie.Need-rule-requires Inv-loop μ-loop
 rule-requires c κs =
@@ -73,7 +72,7 @@ rule-requires c κs =
     let l = m .before .before .before .loop in
     let h = l .inv .2 in
     let e = m .event .given .0 .0 in
-    (h .words, few _ _ _ _ _ _ _ h e, rulable _ _ _ _ _ _ _ h e _ (a .seat .ensures .0) _)
+    (h .words, few _ _ _ _ _ _ _ _ h e, rulable _ _ _ _ _ _ _ _ h e _ (a .seat .ensures .0) _)
 
 -- an event that is accepted
 exchange-requires : tie.Need-exchange-requires Inv-loop μ-loop
@@ -85,7 +84,7 @@ exchange-requires c κs =
     let l = m .before .before .before .loop in
     let h = l .inv .2 in
     let yes = sym (i .before .is-accepted .ensures) ∙ i .if1 .taken in
-    (h .words, few _ _ _ _ _ _ _ h (m .event .given .0 .0), r .rule .ensures .reach, has-room _ _ _ _ _ _ _ h _ _ (a .seat .ensures .0) _ _ (r .rule .ensures) yes)
+    (h .words, few _ _ _ _ _ _ _ _ h (m .event .given .0 .0), r .rule .ensures .reach, has-room _ _ _ _ _ _ _ _ h _ _ (a .seat .ensures .0) _ _ (r .rule .ensures) yes)
 
 mul-t : tie.Need-mul-t Inv-loop μ-loop
 mul-t c =
@@ -93,7 +92,7 @@ mul-t c =
     let l = m .before .before .before .loop in
     let h = l .inv .2 in
     let e = m .event .given .0 .0 in
-    omega (arith, c .sent-place .ensures .1, counted _ _ _ _ _ _ _ h e .0)
+    omega (arith, c .sent-place .ensures .1, counted _ _ _ _ _ _ _ _ h e .0)
 
 element-copy-out-t : tie.Need-element-copy-out-t Inv-loop μ-loop
 element-copy-out-t c =
@@ -101,7 +100,7 @@ element-copy-out-t c =
     let l = m .before .before .before .loop in
     let h = l .inv .2 in
     let e = m .event .given .0 .0 in
-    omega (arith, c .sent-place .ensures .1, counted _ _ _ _ _ _ _ h e .0)
+    omega (arith, c .sent-place .ensures .1, counted _ _ _ _ _ _ _ _ h e .0)
 
 add-t : tie.Need-add-t Inv-loop μ-loop
 add-t c =
@@ -109,7 +108,7 @@ add-t c =
     let l = m .before .before .before .loop in
     let h = l .inv .2 in
     let e = m .event .given .0 .0 in
-    omega (arith, c .sent-by .ensures .1, counts-low _ _ _ _ _ _ _ h e .0 (c .before .before .sent-place .result))
+    omega (arith, c .sent-by .ensures .1, counts-low _ _ _ _ _ _ _ _ h e .0 (c .before .before .sent-place .result))
 
 mul-t-2 : tie.Need-mul-t-2 Inv-loop μ-loop
 mul-t-2 c =
@@ -117,7 +116,7 @@ mul-t-2 c =
     let l = m .before .before .before .loop in
     let h = l .inv .2 in
     let e = m .event .given .0 .0 in
-    omega (arith, c .before .before .sent-place .ensures .1, counted _ _ _ _ _ _ _ h e .0)
+    omega (arith, c .before .before .sent-place .ensures .1, counted _ _ _ _ _ _ _ _ h e .0)
 
 element-write-t : tie.Need-element-write-t Inv-loop μ-loop
 element-write-t c =
@@ -125,7 +124,7 @@ element-write-t c =
     let l = m .before .before .before .loop in
     let h = l .inv .2 in
     let e = m .event .given .0 .0 in
-    omega (arith, c .before .before .sent-place .ensures .1, counted _ _ _ _ _ _ _ h e .0)
+    omega (arith, c .before .before .sent-place .ensures .1, counted _ _ _ _ _ _ _ _ h e .0)
 
 mul-t-3 : tie.Need-mul-t-3 Inv-loop μ-loop
 mul-t-3 c =
@@ -133,7 +132,7 @@ mul-t-3 c =
     let l = m .before .before .before .loop in
     let h = l .inv .2 in
     let e = m .event .given .0 .0 in
-    omega (arith, c .moved-place .ensures .1, counted _ _ _ _ _ _ _ h e .1)
+    omega (arith, c .moved-place .ensures .1, counted _ _ _ _ _ _ _ _ h e .1)
 
 element-copy-out-t-2 : tie.Need-element-copy-out-t-2 Inv-loop μ-loop
 element-copy-out-t-2 c =
@@ -141,7 +140,7 @@ element-copy-out-t-2 c =
     let l = m .before .before .before .loop in
     let h = l .inv .2 in
     let e = m .event .given .0 .0 in
-    omega (arith, c .moved-place .ensures .1, counted _ _ _ _ _ _ _ h e .1)
+    omega (arith, c .moved-place .ensures .1, counted _ _ _ _ _ _ _ _ h e .1)
 
 add-t-2 : tie.Need-add-t-2 Inv-loop μ-loop
 add-t-2 c =
@@ -149,7 +148,7 @@ add-t-2 c =
     let l = m .before .before .before .loop in
     let h = l .inv .2 in
     let e = m .event .given .0 .0 in
-    omega (arith, c .delivered-by .ensures .1, counts-low _ _ _ _ _ _ _ h e .1 (c .before .before .moved-place .result))
+    omega (arith, c .delivered-by .ensures .1, counts-low _ _ _ _ _ _ _ _ h e .1 (c .before .before .moved-place .result))
 
 mul-t-4 : tie.Need-mul-t-4 Inv-loop μ-loop
 mul-t-4 c =
@@ -157,7 +156,7 @@ mul-t-4 c =
     let l = m .before .before .before .loop in
     let h = l .inv .2 in
     let e = m .event .given .0 .0 in
-    omega (arith, c .before .before .moved-place .ensures .1, counted _ _ _ _ _ _ _ h e .1)
+    omega (arith, c .before .before .moved-place .ensures .1, counted _ _ _ _ _ _ _ _ h e .1)
 
 element-write-t-2 : tie.Need-element-write-t-2 Inv-loop μ-loop
 element-write-t-2 c =
@@ -165,7 +164,7 @@ element-write-t-2 c =
     let l = m .before .before .before .loop in
     let h = l .inv .2 in
     let e = m .event .given .0 .0 in
-    omega (arith, c .before .before .moved-place .ensures .1, counted _ _ _ _ _ _ _ h e .1)
+    omega (arith, c .before .before .moved-place .ensures .1, counted _ _ _ _ _ _ _ _ h e .1)
 
 mul-t-5 : tie.Need-mul-t-5 Inv-loop μ-loop
 mul-t-5 c =
@@ -173,7 +172,7 @@ mul-t-5 c =
     let l = m .before .before .before .loop in
     let h = l .inv .2 in
     let e = m .event .given .0 .0 in
-    omega (arith, c .before .before .moved-place .ensures .1, counted _ _ _ _ _ _ _ h e .2)
+    omega (arith, c .before .before .moved-place .ensures .1, counted _ _ _ _ _ _ _ _ h e .2)
 
 element-copy-out-t-3 : tie.Need-element-copy-out-t-3 Inv-loop μ-loop
 element-copy-out-t-3 c =
@@ -181,7 +180,7 @@ element-copy-out-t-3 c =
     let l = m .before .before .before .loop in
     let h = l .inv .2 in
     let e = m .event .given .0 .0 in
-    omega (arith, c .before .before .moved-place .ensures .1, counted _ _ _ _ _ _ _ h e .2)
+    omega (arith, c .before .before .moved-place .ensures .1, counted _ _ _ _ _ _ _ _ h e .2)
 
 add-t-3 : tie.Need-add-t-3 Inv-loop μ-loop
 add-t-3 c =
@@ -189,7 +188,7 @@ add-t-3 c =
     let l = m .before .before .before .loop in
     let h = l .inv .2 in
     let e = m .event .given .0 .0 in
-    omega (arith, c .lost-by .ensures .1, counts-low _ _ _ _ _ _ _ h e .2 (c .before .before .before .before .moved-place .result))
+    omega (arith, c .lost-by .ensures .1, counts-low _ _ _ _ _ _ _ _ h e .2 (c .before .before .before .before .moved-place .result))
 
 mul-t-6 : tie.Need-mul-t-6 Inv-loop μ-loop
 mul-t-6 c =
@@ -197,7 +196,7 @@ mul-t-6 c =
     let l = m .before .before .before .loop in
     let h = l .inv .2 in
     let e = m .event .given .0 .0 in
-    omega (arith, c .before .before .before .before .moved-place .ensures .1, counted _ _ _ _ _ _ _ h e .2)
+    omega (arith, c .before .before .before .before .moved-place .ensures .1, counted _ _ _ _ _ _ _ _ h e .2)
 
 element-write-t-3 : tie.Need-element-write-t-3 Inv-loop μ-loop
 element-write-t-3 c =
@@ -205,7 +204,7 @@ element-write-t-3 c =
     let l = m .before .before .before .loop in
     let h = l .inv .2 in
     let e = m .event .given .0 .0 in
-    omega (arith, c .before .before .before .before .moved-place .ensures .1, counted _ _ _ _ _ _ _ h e .2)
+    omega (arith, c .before .before .before .before .moved-place .ensures .1, counted _ _ _ _ _ _ _ _ h e .2)
 
 -- what `search` needs stands too far back for it, here and in add-e-2
 add-e : tie.Need-add-e Inv-loop μ-loop
@@ -242,13 +241,13 @@ loop-again c =
     let x = f .exchange .ensures in
     let yes = sym (i .before .is-accepted .ensures) ∙ i .if1 .taken in
     let e = m .event .given .0 .0 in
-    let low = within-below _ _ _ _ _ _ _ (h .2) e _ (a .seat .ensures .0) _ _ (r .rule .ensures) yes (h .3) in
-    let t = accepted-turn _ _ _ _ _ _ _ (h .2) e _ (a .seat .ensures .0) _ _ (r .rule .ensures) yes low _ _ (x .2) in
+    let low = within-below _ _ _ _ _ _ _ _ (h .2) e _ (a .seat .ensures .0) _ _ (r .rule .ensures) yes (h .3) in
+    let t = accepted-turn _ _ _ _ _ _ _ _ (h .2) e _ (a .seat .ensures .0) _ _ (r .rule .ensures) yes low _ _ (x .2) in
     let z = next-past list (l .at) (v .event-at .ensures) (m .event .given .1) in
     let o = h .0 in (
       omega arith,
       z .1,
-      rw (p, b, k, d, y) (ready-again _ _ _ _ _ _ _ (h .2) e _ (a .seat .ensures .0) _ _ (r .rule .ensures) yes low _ _ (x .2) (x .0)),
+      rw (p, b, k, d, y) (ready-again _ _ _ _ _ _ _ _ (h .2) e _ (a .seat .ensures .0) _ _ (r .rule .ensures) yes low _ _ (x .2) (x .0)),
       rw (p, b) (subst SentWithin (sym (t .1)) (run-within _ (e ∷ []) (h .3))),
       h .4,
       rw (p, b, k, d, y) (ap (printed (l .out) (l .p)) (sym (left-quiet list _ (l .at) (l .e) (v .event-at .ensures) (m .event .given .1) 0 (t .0) _ (t .1) refl)) ∙ h .5),
@@ -265,7 +264,7 @@ returns-3 c =
     let v = m .before .before in
     let l = v .before .loop in
     let list = now (v .before .before .before .before .before .args .list) in
-    let t = refused-turn _ _ _ _ _ _ _ (l .inv .2) _ _ (a .seat .ensures .0) _ _ (r .rule .ensures) (sym (i .before .is-accepted .ensures) ∙ i .if1 .left) in
+    let t = refused-turn _ _ _ _ _ _ _ _ (l .inv .2) _ _ (a .seat .ensures .0) _ _ (r .rule .ensures) (sym (i .before .is-accepted .ensures) ∙ i .if1 .left) in
     sym
     (turn-refused list _ (l .at) (l .e) (v .event-at .ensures) (m .event .given .1) _ (t .0) _ (t .1) _ _ _ _ (w .note .ensures) (c .enum-told2 .given .1))
     ∙ l .inv .5
@@ -292,7 +291,7 @@ loop-again-2 c =
     let l = v .before .loop in
     let list = now (v .before .before .before .before .before .args .list) in
     let h = l .inv in
-    let t = refused-turn _ _ _ _ _ _ _ (h .2) _ _ (a .seat .ensures .0) _ _ (r .rule .ensures) (sym (i .before .is-accepted .ensures) ∙ i .if1 .left) in
+    let t = refused-turn _ _ _ _ _ _ _ _ (h .2) _ _ (a .seat .ensures .0) _ _ (r .rule .ensures) (sym (i .before .is-accepted .ensures) ∙ i .if1 .left) in
     let z = next-past list (l .at) (v .event-at .ensures) (m .event .given .1) in
     let low = h .0 in (
       omega arith,

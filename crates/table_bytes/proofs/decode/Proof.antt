@@ -10,15 +10,18 @@ returns c =
     let d = c .before .before in
     let s = d .before .before in
     let w = s .before .before in
-    let m = w .before .before in
+    let k = w .before in
+    let m = k .before .before .before in
     let n = m .before .before in
-    rw (c .counts-of3 .ensures, c .before .from5 .ensures, d .counts-of2 .ensures, d .before .from4 .ensures, s .counts-of .ensures, s .before .from3 .ensures)
-    (rw (w .one2 .ensures, w .before .one .ensures, m .messages-of .ensures, m .before .from2 .ensures, n .nodes-of .ensures, n .before .from .ensures))
+    rw (c .counts-of3 .ensures, c .before .from6 .ensures, d .counts-of2 .ensures, d .before .from5 .ensures, s .counts-of .ensures, s .before .from4 .ensures)
+    (rw (w .one2 .ensures, k .limits-of .ensures, k .before .from3 .ensures, k .before .before .one .ensures, m .messages-of .ensures, m .before .from2 .ensures, n .nodes-of .ensures, n .before .from .ensures))
 
 pub decode-spec : {M : Type 1} → statement M
 decode-spec =
     tie.close
     (tie.spec
+    (λ c κs. search needs)
+    (λ c κs. search needs)
     (λ c κs. search needs)
     (λ c κs. search needs)
     (λ c κs. search needs)

@@ -10,7 +10,7 @@ returns : tie.Need-returns
 returns c =
     let i = c .before .before in
     let a = i .before .number-answer in
-    by-numbers _ _ _ _ _ _ _ _ (halted (a .result) (i .is-accepted .ensures) (c .before .if1 .taken)) (a .ensures)
+    by-numbers _ _ _ _ _ _ _ _ _ (halted (a .result) (i .is-accepted .ensures) (c .before .if1 .taken)) (a .ensures)
 
 returns-2 : tie.Need-returns-2
 returns-2 c =
@@ -19,7 +19,7 @@ returns-2 c =
     let l = i2 .before .before in
     let i = l .before in
     let a = i .before .number-answer in
-    by-state _ _ _ _ _ _ (passed (a .result) (a .ensures) (i .is-accepted .ensures) (l .if1 .left)) _ _ (halted (a2 .result) (i2 .is-accepted2 .ensures) (c .before .if2 .taken)) (a2 .ensures)
+    by-state _ _ _ _ _ _ _ (passed (a .result) (a .ensures) (i .is-accepted .ensures) (l .if1 .left)) _ _ (halted (a2 .result) (i2 .is-accepted2 .ensures) (c .before .if2 .taken)) (a2 .ensures)
 
 reacts-to-requires : tie.Need-reacts-to-requires
 reacts-to-requires c κs =
@@ -45,7 +45,7 @@ returns-3 c =
     let l = i2 .before .before in
     let i = l .before in
     let a = i .before .number-answer in
-    by-ends _ _ _ _ _ _ (passed (a .result) (a .ensures) (i .is-accepted .ensures) (l .if1 .left)) (passed (a2 .result) (a2 .ensures) (i2 .is-accepted2 .ensures) (r .before .if2 .left)) _ _ _ (r .reacts-to .ensures) (c .before .left-of .ensures) (c .end-answer .ensures)
+    by-ends _ _ _ _ _ _ _ (passed (a .result) (a .ensures) (i .is-accepted .ensures) (l .if1 .left)) (passed (a2 .result) (a2 .ensures) (i2 .is-accepted2 .ensures) (r .before .if2 .left)) _ _ _ (r .reacts-to .ensures) (c .before .left-of .ensures) (c .end-answer .ensures)
 
 pub judge-spec : {M : Type 1} → statement M
 judge-spec =

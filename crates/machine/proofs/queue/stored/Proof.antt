@@ -1,12 +1,12 @@
 -- `stored` meets its contract: the queue without its message at j is what the table is to hold.
 use borrow.Author.Needs.{needs}
-use Prim.Native.Nat.{ℕ, _≤_, _<_, _-_, _+_}
-use mathlib.Core.Path.{_≡_, refl, sym, _∙_, ap}
+use Prim.Native.Nat.{ℕ, _≤_, _-_}
+use mathlib.Core.Path.{_≡_, refl, _∙_, ap}
 use native.Mathlib.Omega.{arith}
 use mathlib.Core.List.{List}
-use lib.ListN.{length, getD, take, set, length-set}
+use lib.ListN.{length, getD, take, length-set}
 use Rattle.machine.specs.Parts.{without}
-use Rattle.machine.proofs.Laws.{sized, without-turn, moves, left-few, stored-quiet, stored-sent}
+use Rattle.machine.proofs.Laws.{sized, without-turn, moves, stored-quiet, stored-sent}
 use Rattle.machine.proofs.queue.stored.Statement.{statement}
 use Rattle.machine.proofs.queue.stored.Tie as tie
 use Rattle.machine.proofs.queue.stored.Reads as reads
@@ -14,7 +14,7 @@ use Rattle.machine.proofs.queue.stored.Lts as lts
 
 abbrev Inv-loop : tie.InvT-loop
 Inv-loop e k left at node outgoing end next₀ j₀ next j =
-    (k ≤ j) × (j ≤ end) × (length (next .messages) ≡ 64) × (without j (take (next₀ .waiting) (next .messages)) ≡ without k (take (next₀ .waiting) (next₀ .messages))) × (next .nodes ≡ next₀ .nodes) × (next .n ≡ next₀ .n) × (next .sent ≡ next₀ .sent) × (next .delivered ≡ next₀ .delivered) × (next .lost ≡ next₀ .lost)
+    (k ≤ j) × (j ≤ end) × (length (next .messages) ≡ 64) × (without j (take (next₀ .waiting) (next .messages)) ≡ without k (take (next₀ .waiting) (next₀ .messages))) × (next .nodes ≡ next₀ .nodes) × (next .n ≡ next₀ .n) × (next .sent ≡ next₀ .sent) × (next .delivered ≡ next₀ .delivered) × (next .lost ≡ next₀ .lost) × (next .limits ≡ next₀ .limits)
 
 abbrev μ-loop : tie.MeasureT-loop
 μ-loop e k left at node outgoing end next₀ j₀ next j = end - j
@@ -23,7 +23,7 @@ loop-holds : tie.Need-loop-holds Inv-loop μ-loop
 loop-holds c =
     let p = c .before .pre .0 in
     let t = c .before .args .t in
-    (search needs, p .1, sized t (c .before .good .0) .messages, refl, refl, refl, refl, refl, refl)
+    (search needs, p .1, sized t (c .before .good .0) .messages, refl, refl, refl, refl, refl, refl, refl)
 
 add-m : tie.Need-add-m Inv-loop μ-loop
 add-m c = omega arith
@@ -73,6 +73,7 @@ loop-again c =
       v .6,
       v .7,
       v .8,
+      v .9,
     )
 
 mul-node : tie.Need-mul-node Inv-loop μ-loop
@@ -209,7 +210,7 @@ returns c =
     let t = o .args .t in
     let p = o .pre .0 in
     let e : l .j ≡ o .args .left = omega (arith, l .inv .1, c .before .before .before .before .before .before .before .before .before .before .loop-test .left) in
-    rw (m .ensures .0, s .ensures .0, i .ensures .0, d .ensures .0, y .ensures .0, c .enum-told .given .1, l .inv .4, l .inv .5, l .inv .6, l .inv .7, l .inv .8)
+    rw (m .ensures .0, s .ensures .0, i .ensures .0, d .ensures .0, y .ensures .0, c .enum-told .given .1, l .inv .4, l .inv .5, l .inv .6, l .inv .7, l .inv .8, l .inv .9)
     (stored-quiet t (sized t (o .good .0)) (p .4) (p .0) (o .args .k) (o .args .left) (o .args .at) (p .2) (p .3) (o .args .r .node) (l .next .messages) (l .inv .2) (rw (← e) (l .inv .3)) _ _ _)
 
 returns-2 : tie.Need-returns-2 Inv-loop μ-loop
@@ -225,7 +226,7 @@ returns-2 c =
     let p = o .pre .0 in
     let e : l .j ≡ o .args .left = omega (arith, l .inv .1, c .before .before .before .before .before .before .before .before .before .before .before .loop-test .left) in
     let r = rw (c .before .outgoing .given .1) at (o .pre .1 .0) in
-    rw (m .ensures .0, s .ensures .0, i .ensures .0, d .ensures .0, y .ensures .0, c .before .outgoing .given .1, l .inv .4, l .inv .5, l .inv .6, l .inv .7, l .inv .8)
+    rw (m .ensures .0, s .ensures .0, i .ensures .0, d .ensures .0, y .ensures .0, c .before .outgoing .given .1, l .inv .4, l .inv .5, l .inv .6, l .inv .7, l .inv .8, l .inv .9)
     (stored-sent t (sized t (o .good .0)) (p .4) (p .0) (o .args .k) (o .args .left) (o .args .at) (p .2) (p .3) (o .args .r .node) (l .next .messages) (l .inv .2) (rw (← e) (l .inv .3)) _ _ _ r _)
 
 pub stored-spec : {M : Type 1} → statement M

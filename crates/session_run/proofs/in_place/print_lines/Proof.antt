@@ -12,7 +12,7 @@ run-requires c κs =
     let m = c .before .before .before .before in
     let h = m .before .before .before .before in
     let l = now (h .before .before .before .before .args .list) in
-    let g = first-good l refl (headed-nodes l _ _ _ _ (rw (m .n .given .1) at (h .put-heading .ensures)) .first) in
+    let g = first-good l refl (headed-nodes l _ _ _ _ _ (rw (m .n .given .1) at (h .put-heading .ensures)) .first) in
     (g .0, g .1)
 
 returns : tie.Need-returns
@@ -25,7 +25,7 @@ returns-2 c =
     let m = s .before .before in
     let h = m .before .before .before .before in
     let l = now (h .before .before .before .before .args .list) in
-    let f = headed-nodes l _ _ _ _ (rw (m .n .given .1) at (h .put-heading .ensures)) in
+    let f = headed-nodes l _ _ _ _ _ (rw (m .n .given .1) at (h .put-heading .ensures)) in
     r .run .ensures ∙ rw (s .starting .ensures .table) (f .behind)
 
 pub print-lines-spec : {M : Type 1} → statement M

@@ -1,0 +1,48 @@
+//! A library with a function a field, for libraries that are wrong on purpose: the others are this program's
+//! own.
+
+use peer::proved::{Library, Own};
+
+type Print<'a> = Box<dyn Fn(&[u8], &mut [u8]) -> Option<usize> + 'a>;
+type Step<'a> = Box<dyn Fn(&[u8], &[u8], &mut [u8]) -> u8 + 'a>;
+type Fold<'a> = Box<dyn Fn(&[u8]) -> u32 + 'a>;
+type Recovery<'a> = Box<dyn Fn(&[u8], u8, &mut [u8]) -> u8 + 'a>;
+
+/// What each takes and gives is said in `Library`.
+pub struct Functions<'a> {
+    pub print: Print<'a>,
+    pub step: Step<'a>,
+    pub fold: Fold<'a>,
+    pub recovery: Recovery<'a>,
+    pub bully_step: Step<'a>,
+}
+
+impl Default for Functions<'_> {
+    fn default() -> Self {
+        Functions {
+            print: Box::new(|list, out| Own.print(list, out)),
+            step: Box::new(|table, field, out| Own.step(table, field, out)),
+            fold: Box::new(|list| Own.fold(list)),
+            recovery: Box::new(|table, node, out| Own.recovery(table, node, out)),
+            bully_step: Box::new(|table, field, out| Own.bully_step(table, field, out)),
+        }
+    }
+}
+
+impl Library for Functions<'_> {
+    fn print(&self, list: &[u8], out: &mut [u8]) -> Option<usize> {
+        (self.print)(list, out)
+    }
+    fn step(&self, table: &[u8], field: &[u8], out: &mut [u8]) -> u8 {
+        (self.step)(table, field, out)
+    }
+    fn fold(&self, list: &[u8]) -> u32 {
+        (self.fold)(list)
+    }
+    fn recovery(&self, table: &[u8], node: u8, out: &mut [u8]) -> u8 {
+        (self.recovery)(table, node, out)
+    }
+    fn bully_step(&self, table: &[u8], field: &[u8], out: &mut [u8]) -> u8 {
+        (self.bully_step)(table, field, out)
+    }
+}
