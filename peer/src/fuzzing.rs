@@ -38,6 +38,12 @@ pub fn seconds_and_seed(program: &str) -> Result<(u64, u64), String> {
     }
 }
 
+/// Whether a fuzzer goes on: for the time asked, and then while it has met a corner too seldom, for no longer
+/// than four times the time asked in all.
+pub fn goes_on(asked: Duration, passed: Duration, too_seldom: impl FnOnce() -> bool) -> bool {
+    passed < asked || (passed < 4 * asked && too_seldom())
+}
+
 pub struct Fuzz<L> {
     library: L,
     numbers: Numbers,
@@ -75,11 +81,14 @@ impl<L: Library> Fuzz<L> {
         }
     }
 
-    /// Compares for so long, or until there are enough differences, which it prints.
-    pub fn go_on(&mut self, time: Duration) {
+    /// Compares for so long, and longer while a corner was met less often than so many times (`goes_on`), or
+    /// until there are enough differences, which it prints.
+    pub fn go_on(&mut self, time: Duration, least: u64) {
         let start = Instant::now();
         let mut told = 0;
-        while start.elapsed() < time && self.failed < ENOUGH {
+        while self.failed < ENOUGH
+            && goes_on(time, start.elapsed(), || !self.corners.seldom(least).is_empty())
+        {
             self.run();
             for _ in 0..200 {
                 self.table();

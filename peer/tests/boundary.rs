@@ -262,7 +262,7 @@ fn wrong_boundaries_are_found() {
     };
     for mistake in 0..=6 {
         let mut fuzz = peer::fuzzing::Fuzz::new(wrong(mistake), 1);
-        fuzz.go_on(std::time::Duration::from_secs(20));
+        fuzz.go_on(std::time::Duration::from_secs(20), 0);
         assert!(fuzz.tell(0).1 > 0, "{mistake}");
     }
 }
@@ -281,6 +281,6 @@ fn fields_that_are_not_carried_decide_nothing() {
     };
     let reads = Functions { step: Box::new(step), ..Functions::default() };
     let mut fuzz = peer::fuzzing::Fuzz::new(reads, 1);
-    fuzz.go_on(std::time::Duration::from_secs(20));
+    fuzz.go_on(std::time::Duration::from_secs(20), 0);
     assert!(fuzz.tell(0).1 > 0);
 }

@@ -27,7 +27,7 @@ fn with<'a>(bully_step: impl Fn(&[u8], &[u8], &mut [u8]) -> u8 + 'a) -> Function
 /// How many failures the fuzzer finds in so many seconds; it ends at enough differences.
 fn found_in(library: impl Library, seconds: u64) -> u64 {
     let mut fuzz = Fuzz::new(library, 1);
-    fuzz.go_on(Duration::from_secs(seconds));
+    fuzz.go_on(Duration::from_secs(seconds), 0);
     fuzz.tell(0).1
 }
 
@@ -476,7 +476,7 @@ fn what_is_no_part_of_a_table_is_free() {
 #[test]
 fn corners_must_be_met() {
     let mut fuzz = Fuzz::new(Own, 1);
-    fuzz.go_on(Duration::ZERO);
+    fuzz.go_on(Duration::ZERO, 0);
     assert_eq!(fuzz.tell(0).1, 0);
     assert!(fuzz.tell(1).1 > 300);
 }

@@ -756,7 +756,7 @@ fn wrong_limits_are_found() {
     }
     // The right one behind the same boundary is not.
     let mut fuzz = Fuzz::new(steps(step), 1);
-    fuzz.go_on(Duration::from_millis(500));
+    fuzz.go_on(Duration::from_millis(500), 0);
     assert_eq!(fuzz.tell(0).1, 0);
 }
 

@@ -420,7 +420,7 @@ fn records<'a>(recovery: impl Fn(&[u8], u8, &mut [u8]) -> u8 + 'a) -> Functions<
 /// How many differences the fuzzer finds, at most five.
 fn found(library: impl Library) -> u64 {
     let mut fuzz = Fuzz::new(library, 1);
-    fuzz.go_on(Duration::from_secs(60));
+    fuzz.go_on(Duration::from_secs(60), 0);
     fuzz.tell(0).1
 }
 

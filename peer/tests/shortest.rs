@@ -241,7 +241,7 @@ fn tables_are_shortened() {
 #[test]
 fn fuzzer_finds_nothing_in_the_right_machine() {
     let mut fuzz = Fuzz::new(Own, 1);
-    fuzz.go_on(Duration::from_millis(1500));
+    fuzz.go_on(Duration::from_millis(1500), 0);
     assert_eq!(fuzz.tell(0).1, 0);
 }
 
@@ -316,7 +316,7 @@ fn fuzzer_finds_wrong_turnings_and_impostors() {
     ];
     for (name, machine) in machines {
         let mut fuzz = Fuzz::new(library_of(machine), 1);
-        fuzz.go_on(Duration::from_secs(60));
+        fuzz.go_on(Duration::from_secs(60), 0);
         assert!(fuzz.tell(0).1 > 0, "{name}");
     }
 }
@@ -587,7 +587,7 @@ fn misread_tests_show_in_tables() {
             assert!(run_difference(&library, n, TOWER, &events, None).is_none(), "{name}");
         }
         let mut fuzz = Fuzz::new(library, 1);
-        fuzz.go_on(Duration::from_secs(60));
+        fuzz.go_on(Duration::from_secs(60), 0);
         assert!(fuzz.tell(0).1 > 0, "{name}");
     }
 }
@@ -606,6 +606,6 @@ fn fuzzer_finds_wrong_count() {
     };
     let prints = Functions { print: Box::new(print), ..Functions::default() };
     let mut fuzz = Fuzz::new(prints, 1);
-    fuzz.go_on(Duration::from_secs(60));
+    fuzz.go_on(Duration::from_secs(60), 0);
     assert!(fuzz.tell(0).1 > 0);
 }

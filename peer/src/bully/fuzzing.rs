@@ -10,7 +10,7 @@ use crate::bully::tables::{break_rule, in_another_form, to_step};
 use crate::compare::Lent;
 use crate::corners::Source;
 use crate::damage::no_event;
-use crate::fuzzing::ENOUGH;
+use crate::fuzzing::{goes_on, ENOUGH};
 use crate::numbers::Numbers;
 use crate::proved::Library;
 use std::time::{Duration, Instant};
@@ -44,10 +44,13 @@ impl<L: Library> Fuzz<L> {
         }
     }
 
-    /// Compares for so long, or until there are enough differences, which it prints.
-    pub fn go_on(&mut self, time: Duration) {
+    /// Compares for so long, and longer while a corner was met less often than so many times (`goes_on`), or
+    /// until there are enough differences, which it prints.
+    pub fn go_on(&mut self, time: Duration, least: u64) {
         let start = Instant::now();
-        while start.elapsed() < time && self.failed < ENOUGH {
+        while self.failed < ENOUGH
+            && goes_on(time, start.elapsed(), || !self.corners.seldom(least).is_empty())
+        {
             self.run();
             for _ in 0..80 {
                 self.table();

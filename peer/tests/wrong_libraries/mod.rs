@@ -27,6 +27,6 @@ pub fn texts<'a>(program: impl Fn(&[u8]) -> String + 'a) -> Functions<'a> {
 /// How many differences the fuzzer finds, at most five.
 pub fn found(library: impl Library) -> u64 {
     let mut fuzz = Fuzz::new(library, 1);
-    fuzz.go_on(Duration::from_secs(60));
+    fuzz.go_on(Duration::from_secs(60), 0);
     fuzz.tell(0).1
 }
