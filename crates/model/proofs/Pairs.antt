@@ -10,14 +10,14 @@ use Rattle.model.specs.Range.{PairRule, TwoPairs, LeftOut, pairRule, sam
 use Rattle.model.proofs.Local.{both-left, both-right}
 use Rattle.model.specs.declared.Limits.{Limits}
 
-abbrev both : ℕ → ℕ → Limits
-both a b = record { nodes = a; messages = b }
+abbrev withNumbers : ℕ → ℕ → Limits
+withNumbers a b = record { nodes = a; messages = b }
 
 -- limits that are the pair p
 of-pair : (p lim : Limits) → sameLimits p lim ≡ true → lim ≡ p
 of-pair p lim h =
-    ap (λ (x : ℕ). both x (lim .messages)) (eqb-true (lim .nodes) (p .nodes) (both-left (eqb (lim .nodes) (p .nodes)) _ h))
-    ∙ ap (both (p .nodes)) (eqb-true (lim .messages) (p .messages) (both-right (eqb (lim .nodes) (p .nodes)) _ h))
+    ap (λ (x : ℕ). withNumbers x (lim .messages)) (eqb-true (lim .nodes) (p .nodes) (both-left (eqb (lim .nodes) (p .nodes)) _ h))
+    ∙ ap (withNumbers (p .nodes)) (eqb-true (lim .messages) (p .messages) (both-right (eqb (lim .nodes) (p .nodes)) _ h))
 
 -- what holds of the tower's limits and of the stand's holds of both pairs
 pub by-pair : (P : Limits → Type 0) (lim : Limits) → isTowerOrStand lim ≡ true → P tower → P stand → P lim
