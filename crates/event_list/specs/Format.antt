@@ -93,7 +93,7 @@ unfoldable pub checked : {A : Type 0} → (ℕ → Bool) → (ℕ → ℕ) → L
 checked fits long l at stop good =
     -- 3
     pick (cutShort l at) (stop CutShort)
-    -- 4: "unknown tag, 0x01 not first, or another tag first", and 0x02 as 0x01
+    -- 4: "unknown tag, 0x01 not first, or another tag first"; by T-08 "0x02 .. first as well, and nowhere else"
     (pick (not (fits (tagAt l at))) (stop WrongTag)
     -- 5: "length wrong for the tag"
     (pick (not (eqb (lengthAt l at) (long (tagAt l at)))) (stop WrongLength)

@@ -94,7 +94,7 @@ fn answered(answer: Answer, t: Table, out: &mut [u8]) -> u8
 // One event on a table. table is the table in bytes, in the form of crate table_bytes: any bytes are some table, in range or not. field is the event as a field of
 // a list: tag, two-byte length, contents; bytes behind it are not looked at. out needs the room of a table, 4,436 bytes. The answer:
 //   0                 accepted: out starts with the table after the event, with 0 in all places that are no part of it
-//   1                 the table is not in range; this is looked at next
+//   1                 the table is not in range, its limits, the last two bytes, included; this is looked at next
 //   3, 4, 5           no event: cut short, or no bytes at all; a tag that is no event's; a length that is wrong for the tag
 //   7 to 14, 17, 18   the event is refused, by 01's number, T-05's or T-06's
 //   255               out is too short; this is looked at first

@@ -1,4 +1,4 @@
--- What is claimed of the tables that the code returns: they are those of the model's run, and demand 3, whole, and T-05 hold of them, in the tower and in the stand; of a starting
+-- What is claimed of the tables that the code returns: they are those of the model's run, and demand 3, whole, and T-05 hold of them, in the tower and on the stand; of a starting
 -- table; and of the records of a recovery. The proofs are in proofs/Runs, proofs/Beginning and proofs/Recovering.
 use Prim.Native.Nat.{ℕ, _+_, _≤_}
 use mathlib.Core.Bool.{Bool, true, false}
@@ -140,7 +140,7 @@ pub record CodeHolds (chain : Chain) (n : ℕ) (l : Limits) : Type 0 where
   pub never-one : {es : List Event} {u : Table} {e : Event} {r : Outcome} → Reached chain n l es u → Stepped u e r → r .answer ≡ NotInRange → ⊥
   pub same-limits : {es : List Event} {t : Table} → Reached chain n l es t → t .limits ≡ l
 
--- "Demand 3 now speaks of both", as `TowerAndStand` (model/specs/Claims) has it of the definitions
+-- "Demand 3 now speaks of both", as `TowerAndStand` (model/specs/Claims) has it of the definitions; the two pairs are written out here too
 pub record CodeTowerAndStand (chain : Chain) : Type 0 where
   pub for-tower : (n : ℕ) → 1 ≤ n → n ≤ 16 → CodeHolds chain n (record { nodes = 16; messages = 64 })
   pub for-stand : (n : ℕ) → 1 ≤ n → n ≤ 4 → CodeHolds chain n (record { nodes = 4; messages = 12 })

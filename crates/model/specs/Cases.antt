@@ -336,11 +336,11 @@ pub record StandCases : Type 0 where
   -- "Grounds 1, 6 and 14 read the table's own limits.": the same events and messages in the tower, where 12 wait and it asks, and 13 are in range
   pub in-tower : after (pair Normal none Idle (queued 12)) (Check 1) .queue ≡ queued 12 ++ (asks 1 2 (callNo 4) ∷ [])
   pub in-tower-more : after (pair Normal none Idle (queued 13)) (Check 1) .queue ≡ queued 13 ++ (asks 1 2 (callNo 4) ∷ [])
-  -- 1: in the stand 13 messages are too many, and so are five nodes, which the tower has room for; before 7
+  -- 1: on the stand 13 messages are too many, and so are five nodes, which the tower has room for; before 7
   pub many-messages : step (pairIn stand Normal none Idle (queued 13)) (Check 9) ≡ refused 1
   pub many-nodes : step (start 5 stand) (Recover 9) ≡ refused 1
   pub tower-nodes : step (start 5 tower) (Recover 9) ≡ refused 7
-  -- the order of the ends, as FurtherCases and TrafficCases have it in the tower: 12 before 13 before 14 before 17
+  -- the order of the ends, as FurtherCases has it in the tower: 12 before 13 before 14; before 17 it is in TrafficCases
   pub ends-twelve : step (endingIn stand 1048575 16777215 (queued 12)) (Tick 2) ≡ refused 12
   pub ends-thirteen : step (endingIn stand 1048574 16777215 (queued 12)) (Tick 2) ≡ refused 13
   pub ends-fourteen : step (endingIn stand 1048574 16777214 (queued 12)) (Tick 2) ≡ refused 14
@@ -357,7 +357,7 @@ pub record StandCases : Type 0 where
   pub no-limits : step (start 2 (record { nodes = 0; messages = 0 })) (Recover 1) ≡ refused 1
   -- with that rule left out such a table takes the event
   pub left-out : printedFields (runBy LeftOut 2 (record { nodes = 4; messages = 64 }) (Recover 1 ∷ [])) 1 ≡ 1 ∷ 3 ∷ 1 ∷ 16 ∷ 1 ∷ 1 ∷ 0 ∷ []
-  -- the numbers that a starting table is answered with: an impossible pair is a table that is not in range
+  -- the numbers that a starting table is answered with: with another pair it is a table that is not in range
   pub started : startNumber Started ≡ 0
   pub wrong-limits : startNumber WrongLimits ≡ 1
   pub wrong-count : startNumber WrongCount ≡ 6

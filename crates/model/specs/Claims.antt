@@ -57,7 +57,7 @@ EachGroup P (m ∷ ms) = (carriesGroup (m .kind) ≡ true → P (m .group .numbe
 
 -- Demand 3 ("What a run fixes", and the agreement of groups that it is for), of every list of events from the starting table of n nodes with the limits l, over the steps
 -- with or without the rule of the two pairs. `es` is a beginning of the list, `fs` what comes next, and `e` an event after them that is accepted with the mark k and leaves
--- the table u. `TowerAndStand` below says for which n and l.
+-- the table u. It is proved for n up to 16 and all l; `TowerAndStand` below says for which of them a table starts.
 pub record RunFixes (r : PairRule) (n : ℕ) (l : Limits) : Type 0 where
   -- two nodes in Reorganization or Normal with the same group have the same coordinator (002, Assertion 3 a)
   pub same-coordinator : (es : List Event) (i j : ℕ) → 1 ≤ i → i ≤ n → 1 ≤ j → j ≤ n
@@ -188,11 +188,11 @@ leftOut s = record { rule = LeftOut; n = s .n; limits = s .limits; nodes = s .no
 pub record TowerAndStand : Type 0 where
   -- "It is shown over the steps for any limits not above the tower's, with the rule of the two pairs left out."
   pub any-limits : (n : ℕ) (l : Limits) → l .nodes ≤ 16 → l .messages ≤ 64 → 1 ≤ n → n ≤ l .nodes → RunHolds LeftOut n l
-  -- "Demand 3 now speaks of both": "The tower keeps 16 and 64.", and "Our practice stand has four cabinets and memory for 12 waiting messages." Its numbers are written out
+  -- "Demand 3 now speaks of both": "The tower keeps 16 and 64.", and "Our practice stand has four cabinets and memory for 12 waiting messages." The numbers are written out
   -- here, so that the claim can be read without a definition of limits.
   pub for-tower : (n : ℕ) → 1 ≤ n → n ≤ 16 → RunHolds TwoPairs n (record { nodes = 16; messages = 64 })
   pub for-stand : (n : ℕ) → 1 ≤ n → n ≤ 4 → RunHolds TwoPairs n (record { nodes = 4; messages = 12 })
-  -- these are the first, read off: where the limits are one of the two pairs, each event does the same with the rule and without it, and so do lists of events
+  -- these follow from the first: where the limits are one of the two pairs, each event does the same with the rule and without it, and so do lists of events
   pub same-step : (s : State) (e : Event) → isTowerOrStand (s .limits) ≡ true → step (leftOut s) e ≡ changed leftOut (step s e)
   pub same-run : (n : ℕ) (l : Limits) (es : List Event) → isTowerOrStand l ≡ true → runBy LeftOut n l es ≡ leftOut (run n l es)
   pub same-history : (n : ℕ) (l : Limits) (es : List Event) → isTowerOrStand l ≡ true → historyBy LeftOut n l es ≡ history n l es

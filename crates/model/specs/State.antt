@@ -54,7 +54,7 @@ start n l = startBy TwoPairs n l
 abbrev pub isCount : ℕ → ℕ → Bool
 isCount limit n = leb 1 n && leb n limit
 
--- 6: "n outside 1 to 16"
+-- 6: "n outside 1 to 16", and by T-08 outside 1 to the table's own limit of nodes
 abbrev pub wrongCount : ℕ → ℕ → Bool
 wrongCount limit n = not (isCount limit n)
 
@@ -172,7 +172,7 @@ firstOf zero d l = []
 firstOf (suc k) d [] = d ∷ firstOf k d []
 firstOf (suc k) d (x ∷ l) = x ∷ firstOf k d l
 
--- What a table means: its first n records, its first `waiting` places, and all its counts. Nothing else of it is looked at. Where it says that there are more than it
+-- What a table means: n and its limits, its first n records, its first `waiting` places, and all its counts. Nothing else of it is looked at. Where it says that there are more than it
 -- has records or places, n or the number of waiting messages is out of range.
 abbrev pub view : Table → State
 view t = record {

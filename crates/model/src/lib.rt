@@ -152,7 +152,7 @@ pub struct Reaction {
     pub mark: Mark,
 }
 
-// What the starting data of a table are answered with: none, refusal 1 for limits that are none of T-08's two pairs, or refusal 6.
+// What the starting data of a table are answered with: no refusal, refusal 1 for limits that are none of T-08's two pairs, or refusal 6.
 pub enum StartAnswer {
     Started,
     WrongLimits,

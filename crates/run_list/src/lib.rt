@@ -20,8 +20,8 @@ ghost use Rattle.listing.specs.Lines.{stoppedLine, tableLines};
 ghost use Rattle.listing.specs.Printing.{shown, printed};
 ghost use Rattle.run_list.specs.Text.{noteLines, runLines, linesOf, Printed, Headed, Whole};
 
-// What is printed before the first event: all of it, where the first field failed or a line has no room; or the line of n nodes, behind which
-// what comes next, with these limits, is printed from the offset on.
+// What is printed before the first event: all of it, where the first field failed or a line has no room; or the line of n nodes. Then a run of
+// n nodes with these limits follows, and is printed from the offset on.
 pub enum Heading {
     Ended(Put),
     Nodes(u8, Limits, usize),

@@ -15,7 +15,7 @@ applied-folds : (t : Table) (es : List Event) (u : Table) → Applied t es u →
 applied-folds t es u none = Folded.none
 applied-folds t es u (more s a) = Folded.more s (applied-folds _ _ _ a)
 
--- for any n
+-- for any n and limits
 pub session-runs : CodeRuns Applied
 session-runs = chain-runs Applied applied-folds
 
@@ -23,4 +23,4 @@ pub session-fixed : (n : ℕ) (l : Limits) → n ≤ nodeLimit → CodeFixes App
 session-fixed = chain-fixes Applied applied-folds
 
 pub session-fixes : SessionFixes
-session-fixes = record { folds = applied-folds; runs = session-runs; both = chain-both Applied applied-folds }
+session-fixes = record { folds = applied-folds; runs = session-runs; fixes = session-fixed; both = chain-both Applied applied-folds }

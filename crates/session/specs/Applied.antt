@@ -1,11 +1,14 @@
 -- "The rig keeps one table for a whole session and applies each event to it": calls of `apply` on one lent table, and demand 3 and T-05 of them.
+use Prim.Native.Nat.{ℕ, _≤_}
 use mathlib.Core.List.{List, [], _∷_}
+use Rattle.model.specs.Limits.{nodeLimit}
+use Rattle.model.specs.declared.Limits.{Limits}
 use Rattle.model.specs.declared.Table.{Table}
 use Rattle.model.specs.declared.Event.{Event}
 use Rattle.model.specs.declared.Answer.{Answer}
 use Rattle.machine.specs.Stepped.{Stepped}
 use Rattle.machine.specs.Folded.{Folded}
-use Rattle.machine.specs.Claims.{CodeRuns, CodeTowerAndStand}
+use Rattle.machine.specs.Claims.{CodeRuns, CodeFixes, CodeTowerAndStand}
 
 -- From what the table held first, t, by a call for each event, to what it holds then, u. "Each event gets the table that the one before returned or left, and
 -- nobody else writes it."
@@ -20,5 +23,7 @@ pub record SessionFixes : Type 0 where
   pub folds : (t : Table) (es : List Event) (u : Table) → Applied t es u → Folded t es u
   -- what the table holds from call to call is in the model's run
   pub runs : CodeRuns Applied
-  -- and demand 3, whole, and T-05 hold of it, in the tower and in the stand
+  -- demand 3, whole, holds of it, with any limits
+  pub fixes : (n : ℕ) (l : Limits) → n ≤ nodeLimit → CodeFixes Applied n l
+  -- and so does T-05, in the tower and on the stand
   pub both : CodeTowerAndStand Applied
