@@ -140,10 +140,10 @@ pub record CodeHolds (chain : Chain) (n : ℕ) (l : Limits) : Type 0 where
   pub never-one : {es : List Event} {u : Table} {e : Event} {r : Outcome} → Reached chain n l es u → Stepped u e r → r .answer ≡ NotInRange → ⊥
   pub same-limits : {es : List Event} {t : Table} → Reached chain n l es t → t .limits ≡ l
 
--- "Demand 3 now speaks of both", as `TowerAndStand` (model/specs/Claims) has it of the definitions; the two pairs are written out here too
+-- "Demand 3 now speaks of both", as `TowerAndStand` (model/specs/Claims) has it of the definitions
 pub record CodeTowerAndStand (chain : Chain) : Type 0 where
-  pub for-tower : (n : ℕ) → 1 ≤ n → n ≤ 16 → CodeHolds chain n (record { nodes = 16; messages = 64 })
-  pub for-stand : (n : ℕ) → 1 ≤ n → n ≤ 4 → CodeHolds chain n (record { nodes = 4; messages = 12 })
+  pub for-tower : (n : ℕ) → 1 ≤ n → n ≤ tower .nodes → CodeHolds chain n tower
+  pub for-stand : (n : ℕ) → 1 ≤ n → n ≤ stand .nodes → CodeHolds chain n stand
 
 -- Of any answer that meets `Begun`, what `starting` promises: the table is started exactly where it is in range.
 pub record StartedAlike : Type 0 where
