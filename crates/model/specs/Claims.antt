@@ -192,7 +192,8 @@ pub record TowerAndStand : Type 0 where
   -- here, so that the claim can be read without a definition of limits.
   pub for-tower : (n : ℕ) → 1 ≤ n → n ≤ 16 → RunHolds TwoPairs n (record { nodes = 16; messages = 64 })
   pub for-stand : (n : ℕ) → 1 ≤ n → n ≤ 4 → RunHolds TwoPairs n (record { nodes = 4; messages = 12 })
-  -- these follow from the first: where the limits are one of the two pairs, each event does the same with the rule and without it, and so do lists of events
+  -- what is shown without the rule is shown of the machine's own steps: where the limits are one of the two pairs, each event does the same with the rule and without it, and
+  -- so do lists of events
   pub same-step : (s : State) (e : Event) → isTowerOrStand (s .limits) ≡ true → step (leftOut s) e ≡ changed leftOut (step s e)
   pub same-run : (n : ℕ) (l : Limits) (es : List Event) → isTowerOrStand l ≡ true → runBy LeftOut n l es ≡ leftOut (run n l es)
   pub same-history : (n : ℕ) (l : Limits) (es : List Event) → isTowerOrStand l ≡ true → historyBy LeftOut n l es ≡ history n l es
