@@ -34,7 +34,7 @@ use Rattle.model.specs.declared.Event.{Event}
 use Rattle.model.specs.declared.Event.the-variants.{Crash, Recover, Check, Timeout, Tick, Expire, Finish, Deliver, Lose}
 
 -- ── the records are the counts of the accepted events ──
-tally-is : (get : State → List ℕ) (f : State → Event → ℕ) (a b : ℕ)
+pub tally-is : (get : State → List ℕ) (f : State → Event → ℕ) (a b : ℕ)
     → ((s : State) (e : Event) → Clear s e → countAt (get (effect s e)) a b ≡ countAt (get s) a b + f s e)
     → (s : State) (es : List Event) → countAt (get (runFrom s es)) a b ≡ countAt (get s) a b + tally f s es
 unfolding runFrom tally

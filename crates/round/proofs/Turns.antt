@@ -1,0 +1,276 @@
+-- A turn: its refusals, what it does, and that at a pair with a waiting message it takes one out.
+use Prim.Native.Nat.{ℕ, _+_}
+use native.Mathlib.Omega.{arith}
+use mathlib.Core.Bool.{Bool, true, false, not, _&&_, true≢false, and-false}
+use mathlib.Core.Logic.{_⊎_, inl, inr}
+use mathlib.Core.Path.{_≡_, refl, sym, _∙_, ap, subst}
+use mathlib.Core.List.{List, [], _∷_, append-nil}
+use lib.Dec.{eqb}
+use lib.ListN.{length}
+use lib.Seq.{set-getD}
+use borrow.Author.Tests.{eq-eqb, ne-eqb, not-false}
+use Rattle.model.specs.Pick.{pick, by-test}
+use Rattle.model.specs.Limits.{counterEnd, callEnd}
+use Rattle.model.specs.Counts.{one, oneMore}
+use Rattle.model.specs.Grounds.{judged}
+use Rattle.model.specs.Node.{isDown}
+use Rattle.model.specs.Procedures.{stays}
+use Rattle.model.specs.State.{State, startingNode, nodeAt, waits, withoutOldest, inRange}
+use Rattle.model.specs.Step.{reactionTo, remaining, effect, noneWaits, forms, isCalling, isSending, pairAtEnd, grounds, Result, refused, accepted, step, kept, runFrom}
+use Rattle.model.specs.Traffic.{ofAccepted, tally}
+use Rattle.model.proofs.Judged.{Clear, clear-accepts, accepted-apart, accepted-is, refused-same, passed}
+use Rattle.model.proofs.Fields.{in-range-own}
+use Rattle.model.proofs.InRange.{without-length}
+use Rattle.model.proofs.Refusals.{clear-ends}
+use Rattle.model.specs.declared.Node.{Node}
+use Rattle.model.specs.declared.Message.{Message}
+use Rattle.model.specs.declared.Mark.{Mark}
+use Rattle.model.specs.declared.Mark.the-variants.{Plain}
+use Rattle.model.specs.declared.Event.{Event}
+use Rattle.model.specs.declared.Event.the-variants.{Deliver, Lose}
+use Rattle.round.specs.Order.{pair, isInRound, nextPair}
+use Rattle.round.specs.Turn.{meetsEnd, turnDoes, eventOf, Turn, turnRefused, taken, turnGrounds, turnTaken, turnAt}
+use Rattle.round.specs.Schedule.{takes, outOf}
+use Rattle.round.specs.Claims.{Looks, withLoss, TurnRules}
+use Rattle.round.specs.declared.Pair.{Pair}
+use Rattle.round.specs.declared.Done.{Done}
+use Rattle.round.specs.declared.Done.the-variants.{Nothing, Delivered, Lost}
+use Rattle.round.proofs.Order.{IsPair, pair-is}
+
+-- ── refusals, and n = 1 ──
+not-in-range : (s : State) (p : Pair) → inRange s ≡ false → turnAt s p ≡ turnRefused 1
+unfolding turnAt turnGrounds judged pick
+not-in-range s p h = rw h
+
+alone : (s : State) (p : Pair) → inRange s ≡ true → s .n ≡ 1 → turnAt s p ≡ taken s p Nothing
+unfolding turnAt turnGrounds turnTaken judged pick
+alone s p h e = rw (h, eq-eqb (s .n) 1 e)
+
+no-pair : (s : State) (p : Pair) → inRange s ≡ true → (s .n ≡ 1 → ⊥) → isInRound (s .n) p ≡ false → turnAt s p ≡ turnRefused 7
+unfolding turnAt turnGrounds judged pick
+no-pair s p h e q = rw (h, ne-eqb (s .n) 1 e, q)
+
+-- a turn at a pair of the round
+pub turn-is : (s : State) (p : Pair) → Looks s p → turnAt s p ≡ taken (runFrom s (eventOf p (turnDoes s p))) (nextPair (s .n) p) (turnDoes s p)
+unfolding turnAt turnGrounds turnTaken judged pick
+turn-is s p x = rw (x .in-range, ne-eqb (s .n) 1 (λ e. single e (pair-is (s .n) p (x .in-round))), x .in-round)
+  where
+    single : s .n ≡ 1 → IsPair (s .n) p → ⊥
+    single e y = y .other (omega (arith, e, y .sender-low, y .sender-high, y .receiver-low, y .receiver-high))
+
+-- which does d
+pub turn-does : (s : State) (p : Pair) (d : Done) → Looks s p → turnDoes s p ≡ d → turnAt s p ≡ taken (runFrom s (eventOf p d)) (nextPair (s .n) p) d
+turn-does s p d x e = turn-is s p x ∙ ap (λ (d : Done). taken (runFrom s (eventOf p d)) (nextPair (s .n) p) d) e
+
+-- ── a message waits ──
+module _ (s : State) (a b : ℕ) (x : Looks s (pair a b)) (w : waits a b (s .queue) ≡ true) where
+  lose-clear : Clear s (Lose a b)
+  unfolding reactionTo
+  lose-clear =
+      record {
+        in-range = x .in-range;
+        number = ap not (x .in-round);
+        task = refl;
+        status = refl;
+        activity = refl;
+        coordinator = refl;
+        waiting = ap not w;
+        counter = refl;
+        calls = refl;
+        room = refl;
+      }
+
+  -- a loss is accepted, and leaves all else as it was
+  loss-is : effect s (Lose a b) ≡ withLoss s a b
+  unfolding effect reactionTo remaining
+  loss-is =
+      ap
+      (λ (l : List Node). record {
+        rule = s .rule;
+        n = s .n;
+        limits = s .limits;
+        nodes = l;
+        queue = effect s (Lose a b) .queue;
+        sent = s .sent;
+        delivered = s .delivered;
+        lost = oneMore (s .lost) a b;
+      })
+      (set-getD (s .nodes) _ startingNode)
+      ∙ ap
+      (λ (q : List Message). record {
+        rule = s .rule;
+        n = s .n;
+        limits = s .limits;
+        nodes = s .nodes;
+        queue = q;
+        sent = s .sent;
+        delivered = s .delivered;
+        lost = oneMore (s .lost) a b;
+      })
+      (append-nil (withoutOldest a b (s .queue)))
+
+  pub lose-accepted : step s (Lose a b) ≡ accepted (withLoss s a b) Plain
+  unfolding reactionTo
+  lose-accepted = clear-accepts s (Lose a b) lose-clear refl ∙ ap (λ (u : State). accepted u Plain) loss-is
+
+  lost-table : runFrom s (Lose a b ∷ []) ≡ withLoss s a b
+  unfolding runFrom
+  lost-table = ap (kept s) lose-accepted
+
+  module _ (up : isDown (nodeAt s b .status) ≡ false) where
+    room : isSending (reactionTo s (Deliver a b) .outgoing) && eqb (length (remaining s (Deliver a b))) (s .limits .messages) ≡ false
+    unfolding remaining
+    room =
+        ap (λ (t : Bool). isSending (reactionTo s (Deliver a b) .outgoing) && t)
+        (ne-eqb (length (withoutOldest a b (s .queue))) (s .limits .messages) (λ e. omega (arith, e, without-length a b (s .queue) w, in-range-own s (x .in-range) .1)))
+        ∙ and-false (isSending (reactionTo s (Deliver a b) .outgoing))
+
+    -- what a delivery to a node that is not Down meets
+    data Delivery : Type 0 where
+      twelve : step s (Deliver a b) ≡ refused 12 → Delivery
+      thirteen : step s (Deliver a b) ≡ refused 13 → Delivery
+      seventeen : step s (Deliver a b) ≡ refused 17 → Delivery
+      passes : step s (Deliver a b) ≡ accepted (effect s (Deliver a b)) (reactionTo s (Deliver a b) .mark) → Delivery
+
+    at-twelve : forms (reactionTo s (Deliver a b) .mark) && eqb (nodeAt s b .counter) counterEnd ≡ true → step s (Deliver a b) ≡ refused 12
+    unfolding step grounds judged pick
+    at-twelve e = rw (x .in-range, x .in-round, up, w, e)
+
+    at-thirteen : forms (reactionTo s (Deliver a b) .mark) && eqb (nodeAt s b .counter) counterEnd ≡ false
+        → isCalling (reactionTo s (Deliver a b) .outgoing) && eqb (nodeAt s b .last .number) callEnd ≡ true → step s (Deliver a b) ≡ refused 13
+    unfolding step grounds judged pick
+    at-thirteen d e = rw (x .in-range, x .in-round, up, w, d, e)
+
+    deliver-clear : forms (reactionTo s (Deliver a b) .mark) && eqb (nodeAt s b .counter) counterEnd ≡ false
+        → isCalling (reactionTo s (Deliver a b) .outgoing) && eqb (nodeAt s b .last .number) callEnd ≡ false → Clear s (Deliver a b)
+    deliver-clear d e =
+        record {
+          in-range = x .in-range;
+          number = ap not (x .in-round);
+          task = refl;
+          status = up;
+          activity = refl;
+          coordinator = refl;
+          waiting = ap not w;
+          counter = d;
+          calls = e;
+          room = room;
+        }
+
+    delivery : Delivery
+    delivery =
+        by (forms (reactionTo s (Deliver a b) .mark) && eqb (nodeAt s b .counter) counterEnd) (isCalling (reactionTo s (Deliver a b) .outgoing) && eqb (nodeAt s b .last .number) callEnd)
+        (pairAtEnd (s .sent) (reactionTo s (Deliver a b) .outgoing)) refl refl refl
+      where
+        by : (i j k : Bool) → forms (reactionTo s (Deliver a b) .mark) && eqb (nodeAt s b .counter) counterEnd ≡ i
+            → isCalling (reactionTo s (Deliver a b) .outgoing) && eqb (nodeAt s b .last .number) callEnd ≡ j → pairAtEnd (s .sent) (reactionTo s (Deliver a b) .outgoing) ≡ k → Delivery
+        by true j k d e f = twelve (at-twelve d)
+        by false true k d e f = thirteen (at-thirteen d e)
+        by false false true d e f = seventeen (clear-ends s (Deliver a b) (deliver-clear d e) f)
+        by false false false d e f = passes (clear-accepts s (Deliver a b) (deliver-clear d e) f)
+
+    -- so it meets no other ground
+    no-other : (r : ℕ) → step s (Deliver a b) ≡ refused r → (r ≡ 12) ⊎ ((r ≡ 13) ⊎ (r ≡ 17))
+    no-other r q = by delivery
+      where
+        by : Delivery → (r ≡ 12) ⊎ ((r ≡ 13) ⊎ (r ≡ 17))
+        by (twelve e) = inl (refused-same (sym q ∙ e))
+        by (thirteen e) = inr (inl (refused-same (sym q ∙ e)))
+        by (seventeen e) = inr (inr (refused-same (sym q ∙ e)))
+        by (passes e) = absurd (accepted-apart (sym e ∙ q))
+
+    -- and where it meets none of the three, it is accepted
+    delivered-accepted : meetsEnd (step s (Deliver a b)) ≡ false → step s (Deliver a b) ≡ accepted (effect s (Deliver a b)) (reactionTo s (Deliver a b) .mark)
+    delivered-accepted h = by delivery
+      where
+        by : Delivery → step s (Deliver a b) ≡ accepted (effect s (Deliver a b)) (reactionTo s (Deliver a b) .mark)
+        by (twelve e) = absurd (true≢false (sym (ap meetsEnd e) ∙ h))
+        by (thirteen e) = absurd (true≢false (sym (ap meetsEnd e) ∙ h))
+        by (seventeen e) = absurd (true≢false (sym (ap meetsEnd e) ∙ h))
+        by (passes e) = e
+
+  -- one goes out
+  same-two : one (eqb a a && eqb b b) ≡ 1
+  same-two = rw (eq-eqb a a refl, eq-eqb b b refl)
+
+  lose-takes : outOf a b s (Lose a b ∷ []) ≡ 1
+  unfolding tally
+  lose-takes = rw lose-accepted (omega (arith, same-two))
+
+  deliver-takes : isDown (nodeAt s b .status) ≡ false → meetsEnd (step s (Deliver a b)) ≡ false → outOf a b s (Deliver a b ∷ []) ≡ 1
+  unfolding tally
+  deliver-takes u h = rw (delivered-accepted u h) (omega (arith, same-two))
+
+  does-take : outOf a b s (eventOf (pair a b) (turnDoes s (pair a b))) ≡ 1
+  unfolding turnDoes
+  does-take =
+      by-test P (λ e. absurd (true≢false (sym e ∙ ap not w)))
+      (λ _. by-test P (λ _. lose-takes) (λ u. by-test P (λ _. lose-takes) (λ e. deliver-takes u e)))
+    where
+      P : Done → Type 0
+      P d = outOf a b s (eventOf (pair a b) d) ≡ 1
+
+pub takes-one : (s : State) (p : Pair) → Looks s p → waits (p .sender) (p .receiver) (s .queue) ≡ true
+    → outOf (p .sender) (p .receiver) s (eventOf p (turnDoes s p)) ≡ 1
+takes-one s p x w = does-take s (p .sender) (p .receiver) x w
+
+-- ── what a turn does, case by case ──
+module _ (s : State) (a b : ℕ) where
+  does-nothing : waits a b (s .queue) ≡ false → turnDoes s (pair a b) ≡ Nothing
+  unfolding turnDoes pick
+  does-nothing w = rw w
+
+  does-lose : waits a b (s .queue) ≡ true → isDown (nodeAt s b .status) ≡ true → turnDoes s (pair a b) ≡ Lost
+  unfolding turnDoes pick
+  does-lose w d = rw (w, d)
+
+  does-deliver : waits a b (s .queue) ≡ true → isDown (nodeAt s b .status) ≡ false → (r : Result) → step s (Deliver a b) ≡ r → meetsEnd r ≡ false → turnDoes s (pair a b) ≡ Delivered
+  unfolding turnDoes pick
+  does-deliver w d r q e = rw (w, d, q, e)
+
+  does-become : waits a b (s .queue) ≡ true → (r : Result) → step s (Deliver a b) ≡ r → meetsEnd r ≡ true → turnDoes s (pair a b) ≡ Lost
+  unfolding turnDoes
+  does-become w r q e =
+      by-test P (λ n. absurd (true≢false (sym n ∙ ap not w))) (λ _. by-test P (λ _. refl) (λ _. by-test P (λ _. refl) (λ n. absurd (true≢false (sym (ap meetsEnd q ∙ e) ∙ n)))))
+    where
+      P : Done → Type 0
+      P d = d ≡ Lost
+
+  -- a delivery that meets 12, 13 or 17 has a message to deliver
+  ends-wait : (r : ℕ) → (r ≡ 12) ⊎ ((r ≡ 13) ⊎ (r ≡ 17)) → step s (Deliver a b) ≡ refused r → (waits a b (s .queue) ≡ true) × (meetsEnd (refused r) ≡ true)
+  unfolding grounds pick
+  ends-wait r (inl e) q = (not-false _ (passed s (Deliver a b) 11 12 refl (q ∙ ap refused e)), rw e)
+  ends-wait r (inr (inl e)) q = (not-false _ (passed s (Deliver a b) 11 13 refl (q ∙ ap refused e)), rw e)
+  ends-wait r (inr (inr e)) q = (not-false _ (passed s (Deliver a b) 11 17 refl (q ∙ ap refused e)), rw e)
+
+  module _ (x : Looks s (pair a b)) where
+    lost-turn : waits a b (s .queue) ≡ true → turnDoes s (pair a b) ≡ Lost → turnAt s (pair a b) ≡ taken (withLoss s a b) (nextPair (s .n) (pair a b)) Lost
+    lost-turn w d = turn-does s (pair a b) Lost x d ∙ ap (λ (u : State). taken u (nextPair (s .n) (pair a b)) Lost) (lost-table s a b x w)
+
+    no-message : waits a b (s .queue) ≡ false → turnAt s (pair a b) ≡ taken s (nextPair (s .n) (pair a b)) Nothing
+    unfolding runFrom
+    no-message w = turn-does s (pair a b) Nothing x (does-nothing w)
+
+    delivers : (u : State) (k : Mark) → step s (Deliver a b) ≡ accepted u k → turnAt s (pair a b) ≡ taken u (nextPair (s .n) (pair a b)) Delivered
+    unfolding runFrom
+    delivers u k q =
+        let c = accepted-is s (Deliver a b) u k q .clear in
+        turn-does s (pair a b) Delivered x (does-deliver (not-false _ (c .waiting)) (c .status) (accepted u k) q refl)
+        ∙ ap (λ (r : Result). taken (kept s r) (nextPair (s .n) (pair a b)) Delivered) q
+
+    becomes-loss : (r : ℕ) → (r ≡ 12) ⊎ ((r ≡ 13) ⊎ (r ≡ 17)) → step s (Deliver a b) ≡ refused r → turnAt s (pair a b) ≡ taken (withLoss s a b) (nextPair (s .n) (pair a b)) Lost
+    becomes-loss r e q = let y = ends-wait r e q in lost-turn (y .0) (does-become (y .0) (refused r) q (y .1))
+
+pub turn-rules : TurnRules
+turn-rules =
+    record {
+      not-in-range = not-in-range;
+      alone = alone;
+      no-pair = no-pair;
+      no-message = λ s a b x w. no-message s a b x w;
+      down = λ s a b x w d. lost-turn s a b x w (does-lose s a b w d);
+      delivers = λ s a b u k x q. delivers s a b x u k q;
+      becomes-loss = λ s a b r x e q. becomes-loss s a b x r e q;
+      no-other = λ s a b r x w u q. no-other s a b x w u r q;
+      takes-one = takes-one;
+    }
