@@ -62,7 +62,7 @@ length-without k q h = simp (length-append, length-take-le k q (omega arith), le
 -- ── counts ──
 
 -- the place of a pair of nodes
-place-pair : (n a b : ℕ) → n ≤ 16 → isPair n a b ≡ true → placeOf a b ≡ pairPlace a b
+pub place-pair : (n a b : ℕ) → n ≤ 16 → isPair n a b ≡ true → placeOf a b ≡ pairPlace a b
 place-pair n a b h p = let c = pair-counting n a b h p in omega (arith, c .low, c .high, c .low-to, c .high-to)
 
 raise-none : (l : List ℕ) (p : ℕ) → raised l p 0 ≡ l

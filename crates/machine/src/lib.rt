@@ -13,6 +13,7 @@ pub use grounds::actor;
 pub use grounds::answer_number;
 pub use grounds::delivered_by;
 pub use grounds::is_accepted;
+pub use grounds::is_pair;
 pub use grounds::judge;
 pub use grounds::lost_by;
 pub use grounds::moved_place;

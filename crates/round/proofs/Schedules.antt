@@ -5,12 +5,12 @@ use native.Mathlib.Nat.{suc-mul, mul-le-mul-right}
 use mathlib.Core.Bool.{Bool, true, false, _&&_, _||_, true≢false}
 use mathlib.Core.Path.{_≡_, refl, sym, _∙_, ap, subst}
 use mathlib.Core.List.{List, [], _∷_, _++_, append-assoc}
-use lib.Dec.{eqb, leb}
-use borrow.Author.Tests.{eqb-true, eq-eqb, leb-true, leb-false}
+use lib.Dec.{eqb, leb, ltb}
+use borrow.Author.Tests.{eqb-true, eq-eqb, leb-true, leb-false, lt-ltb}
 use Rattle.model.specs.Pick.{by-test}
 use Rattle.model.specs.Counts.{countAt, one}
 use Rattle.model.specs.Grounds.{judged}
-use Rattle.model.specs.State.{State, goes, waits, oldest, howMany, inRange}
+use Rattle.model.specs.State.{State, goes, waits, oldest, howMany, waiting, inRange}
 use Rattle.model.specs.Step.{step, after, runFrom}
 use Rattle.model.specs.Traffic.{ofAccepted, tally}
 use Rattle.model.proofs.Grounds.{judged-by}
@@ -33,7 +33,7 @@ use Rattle.round.proofs.Turns.{turn-is, takes-one}
 -- ── a schedule is its events ──
 
 -- what a turn leaves is what its event leaves
-turn-event : (s : State) (p : Pair) → tableAfter s (turnAt s p) ≡ runFrom s (eventOf p (doneIn (turnAt s p)))
+pub turn-event : (s : State) (p : Pair) → tableAfter s (turnAt s p) ≡ runFrom s (eventOf p (doneIn (turnAt s p)))
 unfolding turnAt turnTaken runFrom
 turn-event s p = judged-by turnRefused P (turnTaken s p) (turnGrounds s p) (λ _. refl) (λ _. by-test P (λ _. refl) (λ _. refl))
   where
@@ -81,15 +81,18 @@ out-first a b d m ms =
 
 -- ── the message ──
 
--- where more than none of a pair wait, one does
-some-waits : (a b : ℕ) (q : List Message) → 0 < howMany (goes a b) q → waits a b q ≡ true
+-- a message of a pair waits where more than none do
+pub waits-some : (a b : ℕ) (q : List Message) → waits a b q ≡ ltb 0 (waiting q a b)
 unfolding waits howMany
-some-waits a b [] h = absurd (omega (arith, h))
-some-waits a b (m ∷ ms) h = by (goes a b m) h (some-waits a b ms)
+waits-some a b [] = refl
+waits-some a b (m ∷ ms) = by (goes a b m) (waits-some a b ms)
   where
-    by : (t : Bool) → 0 < one t + howMany (goes a b) ms → (0 < howMany (goes a b) ms → waits a b ms ≡ true) → (t || waits a b ms) ≡ true
-    by true h f = refl
-    by false h f = f (omega (arith, h))
+    by : (t : Bool) → waits a b ms ≡ ltb 0 (waiting ms a b) → (t || waits a b ms) ≡ ltb 0 (one t + waiting ms a b)
+    by true f = sym (lt-ltb 0 (1 + waiting ms a b) (omega arith))
+    by false f = let z : waiting ms a b ≡ 0 + waiting ms a b = omega arith in f ∙ ap (ltb 0) z
+
+some-waits : (a b : ℕ) (q : List Message) → 0 < waiting q a b → waits a b q ≡ true
+some-waits a b q h = waits-some a b q ∙ lt-ltb 0 (waiting q a b) h
 
 -- the two nodes that a message waits between are a pair
 waiting-pair : (s : State) (a b k : ℕ) → inRange s ≡ true → Waits (s .queue) a b k → IsPair (s .n) (pair a b)

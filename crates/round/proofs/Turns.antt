@@ -8,7 +8,7 @@ use mathlib.Core.List.{List, [], _∷_, append-nil}
 use lib.Dec.{eqb}
 use lib.ListN.{length}
 use lib.Seq.{set-getD}
-use borrow.Author.Tests.{eq-eqb, ne-eqb, not-false}
+use borrow.Author.Tests.{eqb-true, eqb-false, eq-eqb, ne-eqb, not-false}
 use Rattle.model.specs.Pick.{pick, by-test}
 use Rattle.model.specs.Limits.{counterEnd, callEnd}
 use Rattle.model.specs.Counts.{one, oneMore}
@@ -18,6 +18,7 @@ use Rattle.model.specs.Procedures.{stays}
 use Rattle.model.specs.State.{State, startingNode, nodeAt, waits, withoutOldest, inRange}
 use Rattle.model.specs.Step.{reactionTo, remaining, effect, noneWaits, forms, isCalling, isSending, pairAtEnd, grounds, Result, refused, accepted, step, kept, runFrom}
 use Rattle.model.specs.Traffic.{ofAccepted, tally}
+use Rattle.model.specs.Claims.{Accepts}
 use Rattle.model.proofs.Judged.{Clear, clear-accepts, accepted-apart, accepted-is, refused-same, passed}
 use Rattle.model.proofs.Fields.{in-range-own}
 use Rattle.model.proofs.InRange.{without-length}
@@ -29,7 +30,7 @@ use Rattle.model.specs.declared.Mark.the-variants.{Plain}
 use Rattle.model.specs.declared.Event.{Event}
 use Rattle.model.specs.declared.Event.the-variants.{Deliver, Lose}
 use Rattle.round.specs.Order.{pair, isInRound, nextPair}
-use Rattle.round.specs.Turn.{meetsEnd, turnDoes, eventOf, Turn, turnRefused, taken, turnGrounds, turnTaken, turnAt}
+use Rattle.round.specs.Turn.{meetsEnd, turnDoes, eventOf, Turn, turnRefused, taken, turnGrounds, turnTaken, turnAt, doneIn}
 use Rattle.round.specs.Schedule.{takes, outOf}
 use Rattle.round.specs.Claims.{Looks, withLoss, TurnRules}
 use Rattle.round.specs.declared.Pair.{Pair}
@@ -261,6 +262,50 @@ module _ (s : State) (a b : ℕ) where
     becomes-loss : (r : ℕ) → (r ≡ 12) ⊎ ((r ≡ 13) ⊎ (r ≡ 17)) → step s (Deliver a b) ≡ refused r → turnAt s (pair a b) ≡ taken (withLoss s a b) (nextPair (s .n) (pair a b)) Lost
     becomes-loss r e q = let y = ends-wait r e q in lost-turn (y .0) (does-become (y .0) (refused r) q (y .1))
 
+-- ── every turn does nothing, or an event that is accepted ──
+pub data Does (s : State) (p : Pair) : Type 0 where
+  idles : doneIn (turnAt s p) ≡ Nothing → Does s p
+  loses : Looks s p → waits (p .sender) (p .receiver) (s .queue) ≡ true → doneIn (turnAt s p) ≡ Lost → Does s p
+  passes-on : (u : State) (k : Mark) → step s (Deliver (p .sender) (p .receiver)) ≡ accepted u k → doneIn (turnAt s p) ≡ Delivered → Does s p
+
+pub turn-cases : (s : State) (p : Pair) → Does s p
+turn-cases s p = by-range (inRange s) refl
+  where
+    by-waiting : Looks s p → (w d : Bool) → waits (p .sender) (p .receiver) (s .queue) ≡ w → isDown (nodeAt s (p .receiver) .status) ≡ d → Does s p
+    by-waiting x false d w h = idles (ap doneIn (no-message s (p .sender) (p .receiver) x w))
+    by-waiting x true true w h = loses x w (ap doneIn (lost-turn s (p .sender) (p .receiver) x w (does-lose s (p .sender) (p .receiver) w h)))
+    by-waiting x true false w h = by-delivery (delivery s (p .sender) (p .receiver) x w h)
+      where
+        by-delivery : Delivery s (p .sender) (p .receiver) x w h → Does s p
+        by-delivery (twelve q) = loses x w (ap doneIn (becomes-loss s (p .sender) (p .receiver) x 12 (inl refl) q))
+        by-delivery (thirteen q) = loses x w (ap doneIn (becomes-loss s (p .sender) (p .receiver) x 13 (inr (inl refl)) q))
+        by-delivery (seventeen q) = loses x w (ap doneIn (becomes-loss s (p .sender) (p .receiver) x 17 (inr (inr refl)) q))
+        by-delivery (passes q) = passes-on _ _ q (ap doneIn (delivers s (p .sender) (p .receiver) x _ _ q))
+
+    by-pair : inRange s ≡ true → (m i : Bool) → eqb (s .n) 1 ≡ m → isInRound (s .n) p ≡ i → Does s p
+    by-pair r true i e f = idles (ap doneIn (alone s p r (eqb-true (s .n) 1 e)))
+    by-pair r false false e f = idles (ap doneIn (no-pair s p r (eqb-false (s .n) 1 e) f))
+    by-pair r false true e f = by-waiting (record { in-range = r; in-round = f }) _ _ refl refl
+
+    by-range : (r : Bool) → inRange s ≡ r → Does s p
+    by-range false r = idles (ap doneIn (not-in-range s p r))
+    by-range true r = by-pair r _ _ refl refl
+
+accepts : (s : State) (p : Pair) (e : Event) → eventOf p (doneIn (turnAt s p)) ≡ e ∷ [] → Accepts s e
+accepts s p e q = by (turn-cases s p)
+  where
+    none-apart : [] ≡ e ∷ [] → ⊥
+    none-apart z = let y : _≡_ {A = ℕ} 0 1 = ap length z in omega (arith, y)
+
+    first-same : {f : Event} → f ∷ [] ≡ e ∷ [] → f ≡ e
+    first-same z = cc
+
+    by : Does s p → Accepts s e
+    by (idles d) = absurd (none-apart (sym (ap (eventOf p) d) ∙ q))
+    by (loses x w d) =
+        subst (Accepts s) (first-same (sym (ap (eventOf p) d) ∙ q)) (record { state = withLoss s (p .sender) (p .receiver); mark = Plain; is = lose-accepted s (p .sender) (p .receiver) x w })
+    by (passes-on u k y d) = subst (Accepts s) (first-same (sym (ap (eventOf p) d) ∙ q)) (record { state = u; mark = k; is = y })
+
 pub turn-rules : TurnRules
 turn-rules =
     record {
@@ -273,4 +318,5 @@ turn-rules =
       becomes-loss = λ s a b r x e q. becomes-loss s a b x r e q;
       no-other = λ s a b r x w u q. no-other s a b x w u r q;
       takes-one = takes-one;
+      accepts = accepts;
     }

@@ -3,7 +3,7 @@ use Prim.Native.Nat.{ℕ, _+_, _-_, _*_, _≤_, _<_}
 use mathlib.Core.Bool.{true, false}
 use mathlib.Core.Logic.{_⊎_}
 use mathlib.Core.Path.{_≡_}
-use mathlib.Core.List.{List, _++_}
+use mathlib.Core.List.{List, [], _∷_, _++_}
 use lib.ListN.{length, drop}
 use Rattle.model.specs.Limits.{nodeLimit}
 use Rattle.model.specs.Counts.{countAt, oneMore}
@@ -12,7 +12,7 @@ use Rattle.model.specs.Range.{PairRule, TwoPairs, LeftOut}
 use Rattle.model.specs.State.{State, startBy, nodeAt, waits, oldest, withoutOldest, waiting, inRange}
 use Rattle.model.specs.Step.{actor, forms, refused, accepted, step, runFrom, runBy}
 use Rattle.model.specs.History.{Task, coming, historyBy}
-use Rattle.model.specs.Claims.{Lacks, RunHolds}
+use Rattle.model.specs.Claims.{Accepts, Lacks, RunHolds}
 use Rattle.model.specs.declared.Limits.{Limits}
 use Rattle.model.specs.declared.Status.the-variants.{Normal}
 use Rattle.model.specs.declared.Message.{Message}
@@ -20,7 +20,7 @@ use Rattle.model.specs.declared.Mark.{Mark}
 use Rattle.model.specs.declared.Event.{Event}
 use Rattle.model.specs.declared.Event.the-variants.{Deliver}
 use Rattle.round.specs.Order.{pair, isInRound, pairs, nextPair, later, Before}
-use Rattle.round.specs.Turn.{turnDoes, eventOf, turnRefused, taken, turnAt}
+use Rattle.round.specs.Turn.{turnDoes, eventOf, turnRefused, taken, turnAt, doneIn}
 use Rattle.round.specs.Schedule.{Move, turns, Drive, drive, moved, driven, moveEvents, eventsOf, lineOf, Waits, messageAt, outOf, cameIn, outIn}
 use Rattle.round.specs.declared.Pair.{Pair}
 use Rattle.round.specs.declared.Done.the-variants.{Nothing, Delivered, Lost}
@@ -90,6 +90,8 @@ pub record TurnRules : Type 0 where
   -- so a turn at a pair with a waiting message always takes one out of it, the oldest
   pub takes-one : (s : State) (p : Pair) → Looks s p → waits (p .sender) (p .receiver) (s .queue) ≡ true
       → outOf (p .sender) (p .receiver) s (eventOf p (turnDoes s p)) ≡ 1
+  -- and the event of a turn that does something is accepted
+  pub accepts : (s : State) (p : Pair) (e : Event) → eventOf p (doneIn (turnAt s p)) ≡ e ∷ [] → Accepts s e
 
 -- ── one message followed ──
 

@@ -1,0 +1,4 @@
+pub mod Turned
+pub mod Driven
+pub mod Claims
+pub mod Parts
