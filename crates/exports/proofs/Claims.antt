@@ -57,7 +57,7 @@ after-in-range s (Got e next) h z =
     let m = refuses-by-ground .zero-accepts s e z in
     rw (m .is) (stays-in-range .keeps s e (m .state) (m .mark) (m .is))
 
-state-long : (s : State) → inRange s ≡ true → length (stateBytes s) ≡ size
+pub state-long : (s : State) → inRange s ≡ true → length (stateBytes s) ≡ size
 state-long s h =
     let p = in-range-places s h in
     encoded-size (tableOf s)

@@ -1,17 +1,22 @@
--- What is claimed of the step on bytes, and of the records of a recovery in bytes. The proofs are in proofs/Claims and proofs/Recovering.
+-- What is claimed of the step on bytes, of the records of a recovery in bytes, and of a turn on bytes. The proofs are in proofs/Claims, proofs/Recovering and proofs/Turning.
 use Prim.Native.Nat.{ℕ, _≤_, _<_}
 use mathlib.Core.Bool.{true, false}
+use mathlib.Core.Logic.{_⊎_}
 use mathlib.Core.Path.{_≡_}
 use mathlib.Core.List.{List, [], _∷_, _++_}
-use lib.ListN.{length, drop}
+use lib.ListN.{length, take, drop}
 use Rattle.model.specs.State.{nodeAt, inRange}
 use Rattle.model.specs.Claims.{recordAfter}
 use Rattle.event_list.specs.Format.{cutShort, nextAt}
 use Rattle.event_list.specs.declared.Stop.{Stop}
-use Rattle.event_list.specs.declared.Next.the-variants.{Stopped}
+use Rattle.event_list.specs.declared.Next.the-variants.{Stopped, Got}
+use Rattle.model.specs.declared.Event.{Event}
+use Rattle.round.specs.Order.{pair}
+use Rattle.round.specs.Turn.{eventOf, doneIn}
 use Rattle.number_bytes.specs.Bytes.{many}
 use Rattle.table_bytes.specs.Bytes.{nodeOf, size, recordsSize}
 use Rattle.exports.specs.Boundary.{stateOf, stepNumber, stepBytes, StepExported, recoveryNumber, recoveryBytes, RecoveryExported}
+use Rattle.exports.specs.TurnBoundary.{turnSize, turnOn, turnAnswer, turnBytes}
 
 -- t: the bytes of a table, f: of a field, b: what the lent buffer holds before. Any bytes at all: past the end of t zeros are read, and a status, an activity or a yes
 -- that is no number of 01's is read modulo 4, 9 or 2 (table_bytes/specs/Bytes: decoded).
@@ -48,3 +53,18 @@ pub record RecoveryClaims : Type 0 where
   pub as-step : (t : List ℕ) (i : ℕ) (b c : List ℕ) → recordsSize ≤ length b → size ≤ length c → recoveryNumber t i b ≡ stepNumber t (recoverField i) c
   -- "and the last is the one recover i leaves": o is what nevraspu_step leaves of c, and p what nevraspu_recovery leaves of b
   pub last-record : {t : List ℕ} {i : ℕ} {b c o p : List ℕ} → StepExported t (recoverField i) c o 0 → RecoveryExported t i b p 0 → recordAfter 8 (many nodeOf 29 8 p) ≡ nodeAt (stateOf o) i
+
+-- 02, T-09. t: the bytes of a table, a and b: any numbers, l: what the lent buffer holds before.
+pub record TurnClaims : Type 0 where
+  -- 255 stands for a buffer that is too short, and for nothing else; the other answers are 0, 1 and 7
+  pub short : (t : List ℕ) (a b : ℕ) (l : List ℕ) → length l < turnSize → turnAnswer t a b l ≡ 255
+  pub only-short : (t : List ℕ) (a b : ℕ) (l : List ℕ) → turnAnswer t a b l ≡ 255 → length l < turnSize
+  pub numbers : (t : List ℕ) (a b : ℕ) (l : List ℕ) → turnSize ≤ length l → (turnAnswer t a b l ≡ 0) ⊎ ((turnAnswer t a b l ≡ 1) ⊎ (turnAnswer t a b l ≡ 7))
+  -- whatever is not accepted leaves the buffer as it was
+  pub keeps : (t : List ℕ) (a b : ℕ) (l : List ℕ) → (turnAnswer t a b l ≡ 0 → ⊥) → turnBytes t a b l ≡ l
+  -- and what is behind the table, the place and what was done stays in any case
+  pub behind : (t : List ℕ) (a b : ℕ) (l : List ℕ) → drop turnSize (turnBytes t a b l) ≡ drop turnSize l
+  -- with room in both buffers, a turn that delivers or loses a message leaves the bytes of the table that nevraspu_step leaves for that deliver or lose
+  pub as-step : (t : List ℕ) (a b : ℕ) (l m : List ℕ) (e : Event) (f : List ℕ) → turnSize ≤ length l → size ≤ length m → turnAnswer t a b l ≡ 0
+      → eventOf (pair a b) (doneIn (turnOn t a b)) ≡ e ∷ [] → (k : ℕ) → nextAt f 0 ≡ Got e k
+      → (stepNumber t f m ≡ 0) × (take size (stepBytes t f m) ≡ take size (turnBytes t a b l))

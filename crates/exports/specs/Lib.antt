@@ -1,4 +1,5 @@
 pub mod Boundary
 pub mod BullyBoundary
+pub mod TurnBoundary
 pub mod Parts
 pub mod Claims

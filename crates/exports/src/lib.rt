@@ -3,9 +3,11 @@
 //   uint8_t nevraspu_recovery(const uint8_t *table, size_t table_len, uint8_t node, uint8_t *out, size_t out_len);
 //   uint32_t nevraspu_fold(const uint8_t *list, size_t list_len);
 //   uint8_t nevraspu_bully_step(const uint8_t *table, size_t table_len, const uint8_t *field, size_t field_len, uint8_t *out, size_t out_len);
+//   uint8_t nevraspu_turn(const uint8_t *table, size_t table_len, uint8_t a, uint8_t b, uint8_t *out, size_t out_len);
 // Any bytes at all are answered. A caller has only to hand in pointers that are good for their lengths, out apart from the others.
-// What is answered, and what out then holds, is in specs/Boundary; nevraspu_bully_step is in bully.rt.
+// What is answered, and what out then holds, is in specs/Boundary; nevraspu_bully_step is in bully.rt, and nevraspu_turn in turn.rt.
 mod bully;
+mod turn;
 
 pub use bully::nevraspu_bully_step;
 use event_list::First;
@@ -17,6 +19,7 @@ use model::Message;
 use model::Node;
 use model::Table;
 use model::TaskNo;
+pub use turn::nevraspu_turn;
 ghost use mathlib.Core.Path.{_≡_};
 ghost use Prim.Native.Nat.{_≤_};
 ghost use lib.ListN.{length};

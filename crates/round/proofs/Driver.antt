@@ -4,8 +4,7 @@ use native.Mathlib.Omega.{arith}
 use mathlib.Core.Bool.{true, not, true≢false}
 use mathlib.Core.Path.{_≡_, refl, sym, _∙_, ap, subst}
 use mathlib.Core.List.{List, _++_}
-use borrow.Author.Tests.{not-true}
-use Rattle.model.specs.Pick.{pick, by-test}
+use Rattle.model.specs.Pick.{by-test}
 use Rattle.model.specs.Grounds.{judged}
 use Rattle.model.specs.Node.{isActive}
 use Rattle.model.specs.Range.{PairRule, TwoPairs, LeftOut}
@@ -13,40 +12,30 @@ use Rattle.model.specs.State.{State, startBy, nodeAt, inRange}
 use Rattle.model.specs.Step.{actor, accepted, step, runBy}
 use Rattle.model.specs.History.{Task, coming, historyBy}
 use Rattle.model.specs.Claims.{Lacks, RunHolds}
-use Rattle.model.proofs.Grounds.{judged-met}
 use Rattle.model.proofs.TowerAndStand.{tower-and-stand}
 use Rattle.model.specs.declared.Limits.{Limits}
 use Rattle.model.specs.declared.Status.the-variants.{Normal}
 use Rattle.model.specs.declared.Event.{Event}
-use Rattle.round.specs.Turn.{Turn, turnRefused, taken, turnGrounds, turnTaken, turnAt}
+use Rattle.round.specs.Turn.{Turn, turnRefused, turnGrounds, turnTaken, turnAt}
 use Rattle.round.specs.Schedule.{Move, Drive, drive, driven, eventsOf}
 use Rattle.round.specs.Claims.{DriverHolds, DriverFixes}
 use Rattle.round.specs.declared.Pair.{Pair}
-use Rattle.round.specs.declared.Done.{Done}
+use Rattle.round.proofs.Turns.{taken-apart}
 use Rattle.round.proofs.Schedules.{move-events, schedule-events, events-append}
 
 -- a turn on a table in range does not meet 1
-refused-same : (a b : ℕ) → turnRefused a ≡ turnRefused b → a ≡ b
-refused-same a b q = cc
-
-taken-apart : (s : State) (p : Pair) (r : ℕ) → turnTaken s p ≡ turnRefused r → ⊥
-unfolding turnTaken
-taken-apart s p r = by-test (λ (t : Turn). t ≡ turnRefused r → ⊥) (λ _. apart) (λ _. apart)
-  where
-    apart : {u : State} {q : Pair} {d : Done} → taken u q d ≡ turnRefused r → ⊥
-    apart e = let z : _≡_ {A = ℕ} 0 1 = cc in omega arith
-
 in-range-not-one : (s : State) (p : Pair) → inRange s ≡ true → turnAt s p ≡ turnRefused 1 → ⊥
-unfolding turnAt turnGrounds pick
-in-range-not-one s p r q = true≢false (sym r ∙ not-true _ (judged-met turnRefused refused-same (turnTaken s p) (taken-apart s p) 1 (turnGrounds s p) refl q))
+unfolding turnAt turnGrounds turnTaken judged
+in-range-not-one s p r =
+    by-test P (λ e _. true≢false (sym e ∙ ap not r)) (λ _. by-test P (λ _ q. one-apart q) (λ _. by-test P (λ _ q. taken-apart q) (λ _ q. taken-apart q)))
+  where
+    P : Turn → Type 0
+    P t = t ≡ turnRefused 1 → ⊥
+
+    one-apart : turnRefused 7 ≡ turnRefused 1 → ⊥
+    one-apart q = let z : _≡_ {A = ℕ} 7 1 = cc in omega (arith, z)
 
 module _ (r : PairRule) (n : ℕ) (lim : Limits) (h : RunHolds r n lim) where
-  table : Pair → List Move → State
-  table p ms = driven (drive (startBy r n lim) p) ms .table
-
-  events : Pair → List Move → List Event
-  events p ms = eventsOf (drive (startBy r n lim) p) ms
-
   is-run : (p : Pair) (ms : List Move) → driven (drive (startBy r n lim) p) ms .table ≡ runBy r n lim (eventsOf (drive (startBy r n lim) p) ms)
   is-run p ms = schedule-events (drive (startBy r n lim) p) ms
 

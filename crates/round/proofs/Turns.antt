@@ -19,7 +19,8 @@ use Rattle.model.specs.State.{State, startingNode, nodeAt, waits, withoutOldest
 use Rattle.model.specs.Step.{reactionTo, remaining, effect, noneWaits, forms, isCalling, isSending, pairAtEnd, grounds, Result, refused, accepted, step, kept, runFrom}
 use Rattle.model.specs.Traffic.{ofAccepted, tally}
 use Rattle.model.specs.Claims.{Accepts}
-use Rattle.model.proofs.Judged.{Clear, clear-accepts, accepted-apart, accepted-is, refused-same, passed}
+use Rattle.model.proofs.Judged.{Clear, clear-accepts, accepted-apart, accepted-is, passed}
+use Rattle.model.proofs.Judged as step-judged
 use Rattle.model.proofs.Fields.{in-range-own}
 use Rattle.model.proofs.InRange.{without-length}
 use Rattle.model.proofs.Refusals.{clear-ends}
@@ -50,6 +51,21 @@ alone s p h e = rw (h, eq-eqb (s .n) 1 e)
 no-pair : (s : State) (p : Pair) → inRange s ≡ true → (s .n ≡ 1 → ⊥) → isInRound (s .n) p ≡ false → turnAt s p ≡ turnRefused 7
 unfolding turnAt turnGrounds judged pick
 no-pair s p h e q = rw (h, ne-eqb (s .n) 1 e, q)
+
+-- no other number
+refused-same : {a b : ℕ} → turnRefused a ≡ turnRefused b → a ≡ b
+refused-same q = cc
+
+pub taken-apart : {u : State} {q : Pair} {d : Done} {r : ℕ} → taken u q d ≡ turnRefused r → ⊥
+taken-apart e = let z : _≡_ {A = ℕ} 0 1 = cc in omega arith
+
+numbers : (s : State) (p : Pair) (r : ℕ) → turnAt s p ≡ turnRefused r → (r ≡ 1) ⊎ (r ≡ 7)
+unfolding turnAt turnGrounds turnTaken judged
+numbers s p r =
+    by-test P (λ _ q. inl (sym (refused-same q))) (λ _. by-test P (λ _ q. inr (sym (refused-same q))) (λ _. by-test P (λ _ q. absurd (taken-apart q)) (λ _ q. absurd (taken-apart q))))
+  where
+    P : Turn → Type 0
+    P t = t ≡ turnRefused r → (r ≡ 1) ⊎ (r ≡ 7)
 
 -- a turn at a pair of the round
 pub turn-is : (s : State) (p : Pair) → Looks s p → turnAt s p ≡ taken (runFrom s (eventOf p (turnDoes s p))) (nextPair (s .n) p) (turnDoes s p)
@@ -175,9 +191,9 @@ module _ (s : State) (a b : ℕ) (x : Looks s (pair a b)) (w : waits a b (s .que
     no-other r q = by delivery
       where
         by : Delivery → (r ≡ 12) ⊎ ((r ≡ 13) ⊎ (r ≡ 17))
-        by (twelve e) = inl (refused-same (sym q ∙ e))
-        by (thirteen e) = inr (inl (refused-same (sym q ∙ e)))
-        by (seventeen e) = inr (inr (refused-same (sym q ∙ e)))
+        by (twelve e) = inl (step-judged.refused-same (sym q ∙ e))
+        by (thirteen e) = inr (inl (step-judged.refused-same (sym q ∙ e)))
+        by (seventeen e) = inr (inr (step-judged.refused-same (sym q ∙ e)))
         by (passes e) = absurd (accepted-apart (sym e ∙ q))
 
     -- and where it meets none of the three, it is accepted
@@ -312,6 +328,7 @@ turn-rules =
       not-in-range = not-in-range;
       alone = alone;
       no-pair = no-pair;
+      numbers = numbers;
       no-message = λ s a b x w. no-message s a b x w;
       down = λ s a b x w d. lost-turn s a b x w (does-lose s a b w d);
       delivers = λ s a b u k x q. delivers s a b x u k q;

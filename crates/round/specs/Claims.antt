@@ -73,6 +73,8 @@ pub record TurnRules : Type 0 where
   pub alone : (s : State) (p : Pair) → inRange s ≡ true → s .n ≡ 1 → turnAt s p ≡ taken s p Nothing
   -- "else a place in the round that is no such pair meets 7."
   pub no-pair : (s : State) (p : Pair) → inRange s ≡ true → (s .n ≡ 1 → ⊥) → isInRound (s .n) p ≡ false → turnAt s p ≡ turnRefused 7
+  -- and it is refused by nothing else
+  pub numbers : (s : State) (p : Pair) (r : ℕ) → turnAt s p ≡ turnRefused r → (r ≡ 1) ⊎ (r ≡ 7)
   -- "with no message it does nothing"
   pub no-message : (s : State) (a b : ℕ) → Looks s (pair a b) → waits a b (s .queue) ≡ false → turnAt s (pair a b) ≡ taken s (nextPair (s .n) (pair a b)) Nothing
   -- "with a Down receiver it loses the oldest"
