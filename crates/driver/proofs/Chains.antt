@@ -15,7 +15,7 @@ use Rattle.machine.specs.Stepped.{Stepped}
 use Rattle.machine.specs.Folded.{Folded}
 use Rattle.machine.specs.Folded as Folded
 use Rattle.machine.proofs.Runs.{folded-append, answer-known, chain-runs, chain-fixes, chain-both}
-use Rattle.round.specs.Turn.{turnAt, doneIn, eventOf}
+use Rattle.round.specs.Turn.{Turn, turnAt, doneIn, eventOf}
 use Rattle.round.specs.Schedule.{Move, turn, event, Drive, drive, moved, driven, eventsOf, Waits, messageAt, outIn}
 use Rattle.round.specs.declared.Pair.{Pair}
 use Rattle.round.specs.declared.Done.{Done}
@@ -82,8 +82,8 @@ module _ {t : Table} {p : Pair} {r : TurnOutcome} (x : Turned t p r) where
       by : Does (view t) p → Folded t (eventOf p (doneIn (turnAt (view t) p))) (r .table)
       by (idles d) =
           subst (λ (v : Table). Folded t (eventOf p (doneIn (turnAt (view t) p))) v) (sym (x .same (x .done ∙ d))) (subst (λ (e : Done). Folded t (eventOf p e) t) (sym d) Folded.none)
-      by (loses y w d) = folds-by (Lose (p .sender) (p .receiver)) _ _ (lose-accepted (view t) (p .sender) (p .receiver) y w) (ap (eventOf p) d)
-      by (passes-on u k q d) = folds-by (Deliver (p .sender) (p .receiver)) u k q (ap (eventOf p) d)
+      by (loses y w d) = folds-by (Lose (p .sender) (p .receiver)) _ _ (lose-accepted (view t) (p .sender) (p .receiver) y w) (ap (λ (z : Turn). eventOf p (doneIn z)) d)
+      by (passes-on u k q d) = folds-by (Deliver (p .sender) (p .receiver)) u k q (ap (λ (z : Turn). eventOf p (doneIn z)) d)
 
 driven-folds : {t u : Table} {p q : Pair} {ms : List Move} → Driven t p ms u q → Folded t (eventsOf (drive (view t) p) ms) u
 unfolding eventsOf

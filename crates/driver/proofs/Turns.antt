@@ -55,7 +55,7 @@ refuses t p a r e o =
 pub stays-alone : (t : Table) (p : Pair) (r : TurnOutcome) → turnAt (view t) p ≡ taken (view t) p Nothing → r ≡ outcome t p Nothing Accepted → Turned t p r
 stays-alone t p r e o = took t p t r e refl (λ _. refl) o
 
-lost-not-nothing : Lost ≡ Nothing → ⊥
+pub lost-not-nothing : Lost ≡ Nothing → ⊥
 lost-not-nothing e = let z : _≡_ {A = ℕ} 0 1 = cc in omega arith
 
 delivered-not-nothing : Delivered ≡ Nothing → ⊥

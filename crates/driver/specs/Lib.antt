@@ -1,4 +1,5 @@
 pub mod Turned
 pub mod Driven
 pub mod Claims
+pub mod Mutants
 pub mod Parts

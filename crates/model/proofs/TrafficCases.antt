@@ -103,10 +103,10 @@ module _ (s : State) (a b d l : ℕ) (r : inRange s ≡ true) (p : isPair (s .n)
       )
 
 -- ── a step from a table in range: by the grounds after the first ──
-abbrev known : State → Event → Result
+abbrev pub known : State → Event → Result
 known s e = judged refused (accepted (effect s e) (reactionTo s e .mark)) (later (grounds s e))
 
-known-is : (s : State) (e : Event) → inRange s ≡ true → step s e ≡ known s e
+pub known-is : (s : State) (e : Event) → inRange s ≡ true → step s e ≡ known s e
 unfolding step grounds judged
 known-is s e r = rw (r, pick-false) refl
 
@@ -142,7 +142,7 @@ counts-only n a b x h =
     ∙ every-only (countInRange n) 0 256 (pairPlace a b) x (none-in n) (ltb-true _ 256 h)
     ∙ ap (λ (i : ℕ). countInRange n i x) (omega arith)
 
-abbrev onlyInRange : List Message → ℕ → ℕ → ℕ → ℕ → ℕ → ℕ → ℕ → ℕ → ℕ → Bool
+abbrev pub onlyInRange : List Message → ℕ → ℕ → ℕ → ℕ → ℕ → ℕ → ℕ → ℕ → ℕ → Bool
 onlyInRange q a b x c d y e f z =
     baseInRange tower 3 (replicate 3 startingNode) q
     && (countInRange 3 (pairPlace a b) x
@@ -150,7 +150,7 @@ onlyInRange q a b x c d y e f z =
     && countInRange 3 (pairPlace e f) z
     && upTo 3 (λ i. upTo 3 (λ j. addsUp (withCounts q (only a b x) (only c d y) (only e f z)) i j)))
 
-only-in-range : (q : List Message) (a b x c d y e f z : ℕ) → (ltb (pairPlace a b) 256 && ltb (pairPlace c d) 256 && ltb (pairPlace e f) 256) ≡ true
+pub only-in-range : (q : List Message) (a b x c d y e f z : ℕ) → (ltb (pairPlace a b) 256 && ltb (pairPlace c d) 256 && ltb (pairPlace e f) 256) ≡ true
     → inRange (withCounts q (only a b x) (only c d y) (only e f z)) ≡ onlyInRange q a b x c d y e f z
 unfolding inRange trafficInRange
 only-in-range q a b x c d y e f z h =

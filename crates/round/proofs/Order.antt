@@ -222,7 +222,7 @@ unfolding ahead gap
 ahead-in n p q x y =
     by-test (λ k. k < pairs n) (λ e. omega (arith, rank-in n q y)) (λ e. omega (arith, leb-false (rank n p) (rank n q) e, rank-in n p x, rank-in n q y))
 
-ahead-none : (n : ℕ) (p : Pair) → ahead n p p ≡ 0
+pub ahead-none : (n : ℕ) (p : Pair) → ahead n p p ≡ 0
 unfolding ahead
 ahead-none n p = gap-up (pairs n) (rank n p) (rank n p) (omega arith) ∙ omega arith
 

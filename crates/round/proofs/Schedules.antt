@@ -1,32 +1,37 @@
 -- A schedule is a list of events; and the claim of T-09: how many turns a message waits at most.
-use Prim.Native.Nat.{ℕ, suc, _+_, _-_, _*_, _≤_, _<_}
+use Prim.Native.Nat.{ℕ, zero, suc, _+_, _-_, _*_, _≤_, _<_}
 use native.Mathlib.Omega.{arith}
 use native.Mathlib.Nat.{suc-mul, mul-le-mul-right}
 use mathlib.Core.Bool.{Bool, true, false, _&&_, _||_, true≢false}
 use mathlib.Core.Path.{_≡_, refl, sym, _∙_, ap, subst}
 use mathlib.Core.List.{List, [], _∷_, _++_, append-assoc}
 use lib.Dec.{eqb, leb, ltb}
+use lib.ListN.{replicate}
 use borrow.Author.Tests.{eqb-true, eq-eqb, leb-true, leb-false, lt-ltb}
 use Rattle.model.specs.Pick.{by-test}
 use Rattle.model.specs.Counts.{countAt, one}
 use Rattle.model.specs.Grounds.{judged}
 use Rattle.model.specs.State.{State, goes, waits, oldest, howMany, waiting, inRange}
-use Rattle.model.specs.Step.{step, after, runFrom}
+use Rattle.model.specs.Step.{Result, refused, accepted, step, after, runFrom}
 use Rattle.model.specs.Traffic.{ofAccepted, tally}
 use Rattle.model.proofs.Grounds.{judged-by}
 use Rattle.model.proofs.Local.{both-left, both-right}
-use Rattle.model.proofs.Fields.{Counting, message-facts, in-range-size, in-range-oldest, oldest-goes}
+use Rattle.model.proofs.Fields.{message-facts, in-range-size, in-range-oldest, oldest-goes}
+use Rattle.model.proofs.Counts.{pair-counting}
 use Rattle.model.proofs.InRange.{run-in}
 use Rattle.model.proofs.Traffic.{run-n}
 use Rattle.model.proofs.Whole.{run-append}
 use Rattle.model.specs.declared.Message.{Message}
 use Rattle.model.specs.declared.Event.{Event}
+use Rattle.model.specs.declared.Event.the-variants.{Deliver, Lose}
 use Rattle.round.specs.Order.{pair, isInRound, pairs, nextPair}
 use Rattle.round.specs.Turn.{turnDoes, eventOf, Turn, turnRefused, turnGrounds, turnTaken, turnAt, tableAfter, placeAfter, doneIn}
 use Rattle.round.specs.Schedule.{Move, turn, event, turns, Drive, drive, moved, driven, moveEvents, eventsOf, Waits, messageAt, outOf, outIn}
 use Rattle.round.specs.Claims.{Looks, RoundOfTheCable}
 use Rattle.round.specs.declared.Pair.{Pair}
-use Rattle.round.proofs.Order.{IsPair, pair-is, is-pair, next-valid, ahead, ahead-in, ahead-nearer, ahead-again}
+use Rattle.round.specs.declared.Done.{Done}
+use Rattle.round.specs.declared.Done.the-variants.{Nothing, Delivered, Lost}
+use Rattle.round.proofs.Order.{IsPair, pair-is, is-pair, next-valid, ahead, ahead-in, ahead-none, ahead-nearer, ahead-again}
 use Rattle.round.proofs.Lines.{oldest-first, out-by-counts}
 use Rattle.round.proofs.Turns.{turn-is, takes-one}
 
@@ -111,53 +116,92 @@ waiting-pair s a b k r h =
       other = λ z. x .receiver .other (f ∙ z ∙ sym e);
     }
 
--- what holds before each move: n nodes, in range, at a pair of the round, and the message waits
-record Holding (n a b k : ℕ) (d : Drive) : Type 0 where
+-- what holds before each move: n nodes, in range, at a pair of the round
+record On (n : ℕ) (d : Drive) : Type 0 where
   pub size : d .table .n ≡ n
   pub range : inRange (d .table) ≡ true
   pub at : IsPair n (d .place)
-  pub there : Waits (d .table .queue) a b k
 
-module _ (n a b : ℕ) where
-  -- it holds after the move too, where the message is not gone
-  holds-on : (k : ℕ) (d : Drive) (m : Move) → Holding n a b k d → IsPair n (moved d m .place) → outOf a b (d .table) (moveEvents d m) ≤ k
-      → Holding n a b (k - outOf a b (d .table) (moveEvents d m)) (moved d m)
-  holds-on k d m x p h =
+module _ (n : ℕ) where
+  -- it holds after the move too
+  stays-on : (d : Drive) (m : Move) → On n d → IsPair n (moved d m .place) → On n (moved d m)
+  stays-on d m x p =
       let t = move-events d m in
       record {
         size = ap (λ (s : State). s .n) t ∙ run-n (d .table) (moveEvents d m) ∙ x .size;
         range = ap inRange t ∙ run-in (d .table) (moveEvents d m) (x .range);
         at = p;
-        there = subst (λ (s : State). Waits (s .queue) a b (k - outOf a b (d .table) (moveEvents d m))) (sym t) (oldest-first .same (d .table) (moveEvents d m) a b k (x .there) h .0);
       }
 
-  module _ (k : ℕ) (d : Drive) (x : Holding n a b k d) where
-    to : IsPair n (pair a b)
-    to = subst (λ (i : ℕ). IsPair i (pair a b)) (x .size) (waiting-pair (d .table) a b k (x .range) (x .there))
-
+  module _ (d : Drive) (x : On n d) where
     looks : Looks (d .table) (d .place)
     looks = record { in-range = x .range; in-round = subst (λ (i : ℕ). isInRound i (d .place) ≡ true) (sym (x .size)) (is-pair n (d .place) (x .at)) }
 
     turned-place : moved d turn .place ≡ nextPair n (d .place)
     turned-place = ap (placeAfter (d .place)) (turn-is (d .table) (d .place) looks) ∙ ap (λ (i : ℕ). nextPair i (d .place)) (x .size)
 
-    turned-pair : IsPair n (moved d turn .place)
-    turned-pair = subst (IsPair n) (sym turned-place) (next-valid n (d .place) (x .at))
+    turned-on : On n (moved d turn)
+    turned-on = stays-on d turn x (subst (IsPair n) (sym turned-place) (next-valid n (d .place) (x .at)))
 
-    -- a turn at the message's pair
+    -- how far ahead a pair is then
+    turned-ahead : (q : Pair) → ahead n (moved d turn .place) q ≡ ahead n (nextPair n (d .place)) q
+    turned-ahead q = ap (λ (p : Pair). ahead n p q) turned-place
+
+-- whether a turn is at the pair of a and b
+here : ℕ → ℕ → Pair → Bool
+here a b p = eqb (p .sender) a && eqb (p .receiver) b
+
+here-is : (a b : ℕ) (p : Pair) → here a b p ≡ true → p ≡ pair a b
+unfolding here
+here-is a b p q =
+    let u = eqb-true (p .sender) a (both-left (eqb (p .sender) a) _ q) in
+    let v = eqb-true (p .receiver) b (both-right (eqb (p .sender) a) _ q) in
+    ap (λ (i : ℕ). pair i (p .receiver)) u ∙ ap (pair a) v
+
+not-here : (a b : ℕ) (p : Pair) → here a b p ≡ false → p ≡ pair a b → ⊥
+unfolding here
+not-here a b p q e = true≢false (sym (ap (λ (p : Pair). eqb (p .sender) a && eqb (p .receiver) b) e ∙ both) ∙ q)
+  where
+    both : eqb a a && eqb b b ≡ true
+    both = rw (eq-eqb a a refl, eq-eqb b b refl)
+
+-- a turn takes one of the pair out at most, and none at another pair
+takes-at : (a b : ℕ) (s : State) (p : Pair) (d : Done) → outOf a b s (eventOf p d) ≤ one (here a b p)
+unfolding tally here
+takes-at a b s p Nothing = omega arith
+takes-at a b s p Delivered = by (step s (Deliver (p .sender) (p .receiver)))
+  where
+    by : (r : Result) → ofAccepted (one (eqb (p .sender) a && eqb (p .receiver) b) + 0) r + 0 ≤ one (eqb (p .sender) a && eqb (p .receiver) b)
+    by (refused x) = omega arith
+    by (accepted u k) = omega arith
+takes-at a b s p Lost = by (step s (Lose (p .sender) (p .receiver)))
+  where
+    by : (r : Result) → ofAccepted (0 + one (eqb (p .sender) a && eqb (p .receiver) b)) r + 0 ≤ one (eqb (p .sender) a && eqb (p .receiver) b)
+    by (refused x) = omega arith
+    by (accepted u k) = omega arith
+
+module _ (n a b : ℕ) where
+  -- where the message waits, with k older ones
+  module _ (k : ℕ) (d : Drive) (x : On n d) (w : Waits (d .table .queue) a b k) where
+    to : IsPair n (pair a b)
+    to = subst (λ (i : ℕ). IsPair i (pair a b)) (x .size) (waiting-pair (d .table) a b k (x .range) w)
+
+    -- it waits after the move too, where it is not gone
+    waits-on : (m : Move) → outOf a b (d .table) (moveEvents d m) ≤ k → Waits (moved d m .table .queue) a b (k - outOf a b (d .table) (moveEvents d m))
+    waits-on m h =
+        subst (λ (s : State). Waits (s .queue) a b (k - outOf a b (d .table) (moveEvents d m))) (sym (move-events d m)) (oldest-first .same (d .table) (moveEvents d m) a b k w h .0)
+
+    -- a turn at its pair
     turned-here : d .place ≡ pair a b → outOf a b (d .table) (moveEvents d turn) ≡ 1
     turned-here e =
-        ap (λ (t : Turn). outOf a b (d .table) (eventOf (d .place) (doneIn t))) (turn-is (d .table) (d .place) looks)
+        ap (λ (t : Turn). outOf a b (d .table) (eventOf (d .place) (doneIn t))) (turn-is (d .table) (d .place) (looks n d x))
         ∙ ap (λ (p : Pair). outOf a b (d .table) (eventOf p (turnDoes (d .table) p))) e
-        ∙ takes-one (d .table) (pair a b) (subst (Looks (d .table)) e looks) (some-waits a b (d .table .queue) (omega (arith, x .there)))
+        ∙ takes-one (d .table) (pair a b) (subst (Looks (d .table)) e (looks n d x)) (some-waits a b (d .table .queue) (omega (arith, w)))
 
-    -- what is left to show where the move takes out o, and no more than k
+    -- what is left to show where the move takes no more than k out
     left : (m : Move) (ms : List Move) → (outOf a b (d .table) (moveEvents d m) ≤ k → k - outOf a b (d .table) (moveEvents d m) < outIn a b (moved d m) ms) → k < outIn a b d (m ∷ ms)
     left m ms f = by (leb (outOf a b (d .table) (moveEvents d m)) k) refl
       where
-        o : ℕ
-        o = outOf a b (d .table) (moveEvents d m)
-
         by : (t : Bool) → leb (outOf a b (d .table) (moveEvents d m)) k ≡ t → k < outIn a b d (m ∷ ms)
         by true e = let h = leb-true (outOf a b (d .table) (moveEvents d m)) k e in omega (arith, out-first a b d m ms, h, f h)
         by false e = omega (arith, out-first a b d m ms, leb-false (outOf a b (d .table) (moveEvents d m)) k e)
@@ -165,38 +209,76 @@ module _ (n a b : ℕ) where
   fewer : (j k : ℕ) → j ≤ k → j * pairs n ≤ k * pairs n
   fewer j k h = mul-le-mul-right {m = j} {n = k} (pairs n) h
 
-  -- the turns that are enough: a round for each older message, those to the message's pair, and the one there
-  gone-within : (ms : List Move) (k : ℕ) (d : Drive) → Holding n a b k d → k * pairs n + ahead n (d .place) (pair a b) + 1 ≤ turns ms → k < outIn a b d ms
-  unfolding turns
-  gone-within [] k d x h = absurd (omega (arith, h))
-  gone-within (event e ∷ ms) k d x h =
-      left k d x (event e) ms (λ l.
-      gone-within ms (k - outOf a b (d .table) (e ∷ [])) (moved d (event e)) (holds-on k d (event e) x (x .at) l)
-      (omega (arith, h, fewer (k - outOf a b (d .table) (e ∷ [])) k (omega arith))))
-  gone-within (turn ∷ ms) k d x h =
-      left k d x turn ms (λ l.
-      gone-within ms (k - outOf a b (d .table) (moveEvents d turn)) (moved d turn) (holds-on k d turn x (turned-pair k d x) l)
-      (by (eqb (d .place .sender) a && eqb (d .place .receiver) b) refl l))
-    where
-      next : ahead n (moved d turn .place) (pair a b) ≡ ahead n (nextPair n (d .place)) (pair a b)
-      next = ap (λ (p : Pair). ahead n p (pair a b)) (turned-place k d x)
+  -- a round more
+  one-more : (j k : ℕ) → k ≡ suc j → k * pairs n ≡ j * pairs n + pairs n
+  one-more j k e = ap (_* pairs n) e ∙ suc-mul j (pairs n)
 
-      by : (t : Bool) → eqb (d .place .sender) a && eqb (d .place .receiver) b ≡ t → outOf a b (d .table) (moveEvents d turn) ≤ k
+  -- the turns that are enough: a round for each older message, those to the message's pair, and the one there
+  gone-within : (ms : List Move) (k : ℕ) (d : Drive) → On n d → Waits (d .table .queue) a b k → k * pairs n + ahead n (d .place) (pair a b) + 1 ≤ turns ms → k < outIn a b d ms
+  unfolding turns
+  gone-within [] k d x w h = absurd (omega (arith, h))
+  gone-within (event e ∷ ms) k d x w h =
+      left k d x w (event e) ms (λ l.
+      gone-within ms (k - outOf a b (d .table) (e ∷ [])) (moved d (event e)) (stays-on n d (event e) x (x .at)) (waits-on k d x w (event e) l)
+      (omega (arith, h, fewer (k - outOf a b (d .table) (e ∷ [])) k (omega arith))))
+  gone-within (turn ∷ ms) k d x w h =
+      left k d x w turn ms (λ l.
+      gone-within ms (k - outOf a b (d .table) (moveEvents d turn)) (moved d turn) (turned-on n d x) (waits-on k d x w turn l) (by (here a b (d .place)) refl l))
+    where
+      by : (t : Bool) → here a b (d .place) ≡ t → outOf a b (d .table) (moveEvents d turn) ≤ k
           → (k - outOf a b (d .table) (moveEvents d turn)) * pairs n + ahead n (moved d turn .place) (pair a b) + 1 ≤ turns ms
       by true q l =
-          let u = eqb-true (d .place .sender) a (both-left (eqb (d .place .sender) a) _ q) in
-          let v = eqb-true (d .place .receiver) b (both-right (eqb (d .place .sender) a) _ q) in
-          let e : d .place ≡ pair a b = ap (λ (i : ℕ). pair i (d .place .receiver)) u ∙ ap (pair a) v in
-          let o = turned-here k d x e in
+          let e = here-is a b (d .place) q in
+          let o = turned-here k d x w e in
           let j : k ≡ suc (k - outOf a b (d .table) (moveEvents d turn)) = omega (arith, o, l) in
-          let s : k * pairs n ≡ (k - outOf a b (d .table) (moveEvents d turn)) * pairs n + pairs n = ap (_* pairs n) j ∙ suc-mul (k - outOf a b (d .table) (moveEvents d turn)) (pairs n) in
-          omega (arith, s, next, ap (λ (p : Pair). ahead n (nextPair n p) (pair a b)) e, ahead-again n (pair a b) (to k d x), h)
+          omega (
+            arith,
+            one-more (k - outOf a b (d .table) (moveEvents d turn)) k j,
+            turned-ahead n d x (pair a b),
+            ap (λ (p : Pair). ahead n (nextPair n p) (pair a b)) e,
+            ahead-again n (pair a b) (to k d x w),
+            h,
+          )
       by false q l =
-          let o : d .place ≡ pair a b → ⊥ = λ e. true≢false (sym (ap (λ (p : Pair). eqb (p .sender) a && eqb (p .receiver) b) e ∙ both a b) ∙ q) in
-          omega (arith, next, ahead-nearer n (d .place) (x .at) (pair a b) (to k d x) o, fewer (k - outOf a b (d .table) (moveEvents d turn)) k (omega arith), h)
+          omega (
+            arith,
+            turned-ahead n d x (pair a b),
+            ahead-nearer n (d .place) (x .at) (pair a b) (to k d x w) (not-here a b (d .place) q),
+            fewer (k - outOf a b (d .table) (moveEvents d turn)) k (omega arith),
+            h,
+          )
+
+  -- and in turns alone no more than k go out in a round for each of k, and those to the message's pair
+  few-within : (m k : ℕ) (d : Drive) → On n d → IsPair n (pair a b) → m ≤ k * pairs n + ahead n (d .place) (pair a b) → outIn a b d (replicate m turn) ≤ k
+  unfolding eventsOf tally
+  few-within zero k d x y h = omega arith
+  few-within (suc m) k d x y h = by (here a b (d .place)) refl (takes-at a b (d .table) (d .place) (doneIn (turnAt (d .table) (d .place)))) (λ j l. few-within m j (moved d turn) (turned-on n d x) y l)
+    where
+      all : outIn a b d (turn ∷ replicate m turn) ≡ outOf a b (d .table) (moveEvents d turn) + outIn a b (moved d turn) (replicate m turn)
+      all = out-first a b d turn (replicate m turn)
+
+      by : (t : Bool) → here a b (d .place) ≡ t → outOf a b (d .table) (moveEvents d turn) ≤ one (here a b (d .place))
+          → ((j : ℕ) → m ≤ j * pairs n + ahead n (moved d turn .place) (pair a b) → outIn a b (moved d turn) (replicate m turn) ≤ j)
+          → outIn a b d (turn ∷ replicate m turn) ≤ k
+      by true q o f =
+          let e = here-is a b (d .place) q in
+          let z = ap (λ (p : Pair). ahead n p (pair a b)) e ∙ ahead-none n (pair a b) in
+          let j = some k (omega (arith, h, z)) in
+          let u : outOf a b (d .table) (moveEvents d turn) ≤ 1 = subst (λ (t : Bool). outOf a b (d .table) (moveEvents d turn) ≤ one t) q o in
+          omega (
+            arith,
+            all,
+            u,
+            j .1,
+            f (j .0) (omega (arith, h, z, one-more (j .0) k (j .1), turned-ahead n d x (pair a b), ap (λ (p : Pair). ahead n (nextPair n p) (pair a b)) e, ahead-again n (pair a b) y)),
+          )
         where
-          both : (a b : ℕ) → eqb a a && eqb b b ≡ true
-          both a b = rw (eq-eqb a a refl, eq-eqb b b refl)
+          some : (k : ℕ) → suc m ≤ k * pairs n → (j : ℕ) × (k ≡ suc j)
+          some zero h = absurd (omega (arith, h))
+          some (suc j) h = (j, refl)
+      by false q o f =
+          let u : outOf a b (d .table) (moveEvents d turn) ≤ 0 = subst (λ (t : Bool). outOf a b (d .table) (moveEvents d turn) ≤ one t) q o in
+          omega (arith, all, u, f k (omega (arith, h, turned-ahead n d x (pair a b), ahead-nearer n (d .place) (x .at) (pair a b) y (not-here a b (d .place) q))))
 
 -- ── the claim ──
 gone : (s : State) (p : Pair) (a b k : ℕ) (ms : List Move) → Looks s p → Waits (s .queue) a b k → (k + 1) * pairs (s .n) ≤ turns ms → k < outIn a b (drive s p) ms
@@ -204,14 +286,15 @@ gone s p a b k ms x w h =
     let y = pair-is (s .n) p (x .in-round) in
     let z = waiting-pair s a b k (x .in-range) w in
     let e : k + 1 ≡ suc k = omega arith in
-    gone-within (s .n) a b ms k (drive s p) (record { size = refl; range = x .in-range; at = y; there = w })
+    gone-within (s .n) a b ms k (drive s p) (record { size = refl; range = x .in-range; at = y }) w
     (omega (arith, h, ap (_* pairs (s .n)) e ∙ suc-mul k (pairs (s .n)), ahead-in (s .n) p (pair a b) y z))
 
--- the two nodes' counts stand among the 16 rows of 16
-pair-counting : (s : State) (a b : ℕ) → inRange s ≡ true → IsPair (s .n) (pair a b) → Counting a b
-pair-counting s a b r x =
-    let h = in-range-size s r .1 in
-    record { low = x .sender-low; high = omega (arith, h, x .sender-high); low-to = x .receiver-low; high-to = omega (arith, h, x .receiver-high) }
+sharp : (s : State) (a b k : ℕ) → Looks s (pair a b) → outIn a b (drive s (nextPair (s .n) (pair a b))) (replicate ((k + 1) * pairs (s .n) - 1) turn) ≤ k
+sharp s a b k x =
+    let y = pair-is (s .n) (pair a b) (x .in-round) in
+    let e : k + 1 ≡ suc k = omega arith in
+    few-within (s .n) a b ((k + 1) * pairs (s .n) - 1) k (drive s (nextPair (s .n) (pair a b))) (record { size = refl; range = x .in-range; at = next-valid (s .n) (pair a b) y }) y
+    (omega (arith, one-more (s .n) a b k (k + 1) e, ahead-again (s .n) (pair a b) y))
 
 pub round-of-the-cable : RoundOfTheCable
 round-of-the-cable =
@@ -220,8 +303,9 @@ round-of-the-cable =
       same = λ s p a b k ms w h.
           subst (λ (u : State). Waits (u .queue) a b (k - outIn a b (drive s p) ms) × (messageAt (u .queue) a b (k - outIn a b (drive s p) ms) ≡ messageAt (s .queue) a b k))
           (sym (schedule-events (drive s p) ms)) (oldest-first .same s (eventsOf (drive s p) ms) a b k w h);
+      sharp = sharp;
       counted = λ s p a b k ms x w h.
           subst (λ (u : State). countAt (s .delivered) a b + countAt (s .lost) a b + k < countAt (u .delivered) a b + countAt (u .lost) a b)
           (sym (schedule-events (drive s p) ms))
-          (omega (arith, gone s p a b k ms x w h, out-by-counts s (eventsOf (drive s p) ms) a b (pair-counting s a b (x .in-range) (waiting-pair s a b k (x .in-range) w))));
+          (omega (arith, gone s p a b k ms x w h, out-by-counts s (eventsOf (drive s p) ms) a b (pair-counting (s .n) a b (in-range-size s (x .in-range) .1) (is-pair (s .n) (pair a b) (waiting-pair s a b k (x .in-range) w)))));
     }

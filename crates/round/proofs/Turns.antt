@@ -281,22 +281,22 @@ module _ (s : State) (a b : ℕ) where
 -- ── every turn does nothing, or an event that is accepted ──
 pub data Does (s : State) (p : Pair) : Type 0 where
   idles : doneIn (turnAt s p) ≡ Nothing → Does s p
-  loses : Looks s p → waits (p .sender) (p .receiver) (s .queue) ≡ true → doneIn (turnAt s p) ≡ Lost → Does s p
-  passes-on : (u : State) (k : Mark) → step s (Deliver (p .sender) (p .receiver)) ≡ accepted u k → doneIn (turnAt s p) ≡ Delivered → Does s p
+  loses : Looks s p → waits (p .sender) (p .receiver) (s .queue) ≡ true → turnAt s p ≡ taken (withLoss s (p .sender) (p .receiver)) (nextPair (s .n) p) Lost → Does s p
+  passes-on : (u : State) (k : Mark) → step s (Deliver (p .sender) (p .receiver)) ≡ accepted u k → turnAt s p ≡ taken u (nextPair (s .n) p) Delivered → Does s p
 
 pub turn-cases : (s : State) (p : Pair) → Does s p
 turn-cases s p = by-range (inRange s) refl
   where
     by-waiting : Looks s p → (w d : Bool) → waits (p .sender) (p .receiver) (s .queue) ≡ w → isDown (nodeAt s (p .receiver) .status) ≡ d → Does s p
     by-waiting x false d w h = idles (ap doneIn (no-message s (p .sender) (p .receiver) x w))
-    by-waiting x true true w h = loses x w (ap doneIn (lost-turn s (p .sender) (p .receiver) x w (does-lose s (p .sender) (p .receiver) w h)))
+    by-waiting x true true w h = loses x w (lost-turn s (p .sender) (p .receiver) x w (does-lose s (p .sender) (p .receiver) w h))
     by-waiting x true false w h = by-delivery (delivery s (p .sender) (p .receiver) x w h)
       where
         by-delivery : Delivery s (p .sender) (p .receiver) x w h → Does s p
-        by-delivery (twelve q) = loses x w (ap doneIn (becomes-loss s (p .sender) (p .receiver) x 12 (inl refl) q))
-        by-delivery (thirteen q) = loses x w (ap doneIn (becomes-loss s (p .sender) (p .receiver) x 13 (inr (inl refl)) q))
-        by-delivery (seventeen q) = loses x w (ap doneIn (becomes-loss s (p .sender) (p .receiver) x 17 (inr (inr refl)) q))
-        by-delivery (passes q) = passes-on _ _ q (ap doneIn (delivers s (p .sender) (p .receiver) x _ _ q))
+        by-delivery (twelve q) = loses x w (becomes-loss s (p .sender) (p .receiver) x 12 (inl refl) q)
+        by-delivery (thirteen q) = loses x w (becomes-loss s (p .sender) (p .receiver) x 13 (inr (inl refl)) q)
+        by-delivery (seventeen q) = loses x w (becomes-loss s (p .sender) (p .receiver) x 17 (inr (inr refl)) q)
+        by-delivery (passes q) = passes-on _ _ q (delivers s (p .sender) (p .receiver) x _ _ q)
 
     by-pair : inRange s ≡ true → (m i : Bool) → eqb (s .n) 1 ≡ m → isInRound (s .n) p ≡ i → Does s p
     by-pair r true i e f = idles (ap doneIn (alone s p r (eqb-true (s .n) 1 e)))
@@ -319,8 +319,8 @@ accepts s p e q = by (turn-cases s p)
     by : Does s p → Accepts s e
     by (idles d) = absurd (none-apart (sym (ap (eventOf p) d) ∙ q))
     by (loses x w d) =
-        subst (Accepts s) (first-same (sym (ap (eventOf p) d) ∙ q)) (record { state = withLoss s (p .sender) (p .receiver); mark = Plain; is = lose-accepted s (p .sender) (p .receiver) x w })
-    by (passes-on u k y d) = subst (Accepts s) (first-same (sym (ap (eventOf p) d) ∙ q)) (record { state = u; mark = k; is = y })
+        subst (Accepts s) (first-same (sym (ap (λ (t : Turn). eventOf p (doneIn t)) d) ∙ q)) (record { state = withLoss s (p .sender) (p .receiver); mark = Plain; is = lose-accepted s (p .sender) (p .receiver) x w })
+    by (passes-on u k y d) = subst (Accepts s) (first-same (sym (ap (λ (t : Turn). eventOf p (doneIn t)) d) ∙ q)) (record { state = u; mark = k; is = y })
 
 pub turn-rules : TurnRules
 turn-rules =

@@ -4,7 +4,7 @@ use mathlib.Core.Bool.{true, false}
 use mathlib.Core.Logic.{_⊎_}
 use mathlib.Core.Path.{_≡_}
 use mathlib.Core.List.{List, [], _∷_, _++_}
-use lib.ListN.{length, drop}
+use lib.ListN.{length, drop, replicate}
 use Rattle.model.specs.Limits.{nodeLimit}
 use Rattle.model.specs.Counts.{countAt, oneMore}
 use Rattle.model.specs.Node.{isDown, isActive}
@@ -21,7 +21,7 @@ use Rattle.model.specs.declared.Event.{Event}
 use Rattle.model.specs.declared.Event.the-variants.{Deliver}
 use Rattle.round.specs.Order.{pair, isInRound, pairs, nextPair, later, Before}
 use Rattle.round.specs.Turn.{turnDoes, eventOf, turnRefused, taken, turnAt, doneIn}
-use Rattle.round.specs.Schedule.{Move, turns, Drive, drive, moved, driven, moveEvents, eventsOf, lineOf, Waits, messageAt, outOf, cameIn, outIn}
+use Rattle.round.specs.Schedule.{Move, turn, turns, Drive, drive, moved, driven, moveEvents, eventsOf, lineOf, Waits, messageAt, outOf, cameIn, outIn}
 use Rattle.round.specs.declared.Pair.{Pair}
 use Rattle.round.specs.declared.Done.the-variants.{Nothing, Delivered, Lost}
 
@@ -126,6 +126,9 @@ pub record RoundOfTheCable : Type 0 where
   -- by the table's own counts: more than k messages of the pair were delivered or lost since
   pub counted : (s : State) (p : Pair) (a b k : ℕ) (ms : List Move) → Looks s p → Waits (s .queue) a b k → (k + 1) * pairs (s .n) ≤ turns ms
       → countAt (s .delivered) a b + countAt (s .lost) a b + k < countAt (driven (drive s p) ms .table .delivered) a b + countAt (driven (drive s p) ms .table .lost) a b
+  -- The number of turns cannot be lower: where the round has just passed the pair of a and b, and no events come between the turns, no more than k messages of the pair go out in
+  -- one turn less.
+  pub sharp : (s : State) (a b k : ℕ) → Looks s (pair a b) → outIn a b (drive s (nextPair (s .n) (pair a b))) (replicate ((k + 1) * pairs (s .n) - 1) turn) ≤ k
 
 -- ── demand 3 and the range of the driver's runs ──
 
