@@ -6,7 +6,6 @@ use mathlib.Core.Path.{_≡_, refl, sym, _∙_, ap}
 use Rattle.model.specs.Counts.{countAt}
 use Rattle.model.specs.State.{State, waits, view}
 use Rattle.model.specs.Step.{runFrom}
-use Rattle.model.specs.Traffic.{tally}
 use Rattle.model.proofs.Fields.{in-range-size}
 use Rattle.model.proofs.Counts.{pair-counting}
 use Rattle.model.specs.Answers.{answerNumber}
@@ -15,28 +14,28 @@ use Rattle.model.specs.declared.Answer.{Answer}
 use Rattle.model.specs.declared.Answer.the-variants.{Accepted, NotInRange, WrongNumber}
 use Rattle.machine.proofs.Runs.{answer-known}
 use Rattle.round.specs.Order.{pair}
-use Rattle.round.specs.Turn.{Turn, turnRefused, taken, turnAt, turnNumber, tableAfter, placeAfter, doneIn, eventOf}
+use Rattle.round.specs.Turn.{Turn, turnRefused, turnAccepted, turnAt, turnNumber, tableAfter, placeAfter, doneIn, eventOf}
 use Rattle.round.specs.Schedule.{outOf}
-use Rattle.round.specs.Claims.{Looks, withLoss}
-use Rattle.round.specs.declared.Pair.{Pair}
+use Rattle.round.specs.Claims.{AtPair, withLoss}
+use Rattle.round.specs.declared.Place.{Place}
 use Rattle.round.specs.declared.Done.{Done}
 use Rattle.round.specs.declared.Done.the-variants.{Nothing, Delivered, Lost}
 use Rattle.round.specs.declared.TurnOutcome.{TurnOutcome}
-use Rattle.round.proofs.Turns.{Does, idles, loses, passes-on, turn-cases, turn-is, turn-rules}
-use Rattle.round.proofs.Lines.{out-by-counts}
+use Rattle.round.proofs.Turns.{Does, idles, loses, passes-on, turn-cases, turn-is, turn-rules, does-something}
+use Rattle.round.proofs.PairQueues.{out-by-counts}
 use Rattle.round.proofs.Schedules.{turn-event}
 use Rattle.driver.specs.Turned.{Turned}
 use Rattle.driver.specs.Mutants.{NoOtherTurn}
 use Rattle.driver.proofs.Turns.{lost-not-nothing}
 
 -- what a turn is, read off an outcome
-module _ {t : Table} {p : Pair} {r : TurnOutcome} (x : Turned t p r) where
+module _ {t : Table} {p : Place} {r : TurnOutcome} (x : Turned t p r) where
   -- where it is refused
   answers : (a : Answer) → turnAt (view t) p ≡ turnRefused (answerNumber a) → r .answer ≡ a
   answers a e = answer-known (r .answer) a (x .answer ∙ ap turnNumber e)
 
   -- where it is taken
-  module _ {u : State} {q : Pair} {d : Done} (e : turnAt (view t) p ≡ taken u q d) where
+  module _ {u : State} {q : Place} {d : Done} (e : turnAt (view t) p ≡ turnAccepted u q d) where
     accepts : r .answer ≡ Accepted
     accepts = answer-known (r .answer) Accepted (x .answer ∙ ap turnNumber e)
 
@@ -55,10 +54,10 @@ module _ {t : Table} {p : Pair} {r : TurnOutcome} (x : Turned t p r) where
     where
       by : (y : Turn) → turnAt (view t) p ≡ y → (r .done ≡ Nothing) × (r .place ≡ p)
       by (turnRefused k) e = (x .done ∙ ap doneIn e, x .place ∙ ap (placeAfter p) e)
-      by (taken u q d) e = absurd (h (accepts e))
+      by (turnAccepted u q d) e = absurd (h (accepts e))
 
 -- a turn that lost a message
-lost-leaves : {t : Table} {p : Pair} {r : TurnOutcome} → Turned t p r → r .done ≡ Lost → view (r .table) ≡ withLoss (view t) (p .sender) (p .receiver)
+lost-leaves : {t : Table} {p : Place} {r : TurnOutcome} → Turned t p r → r .done ≡ Lost → view (r .table) ≡ withLoss (view t) (p .sender) (p .receiver)
 lost-leaves {t} {p} {r} x l = by (turn-cases (view t) p)
   where
     apart : Delivered ≡ Lost → ⊥
@@ -70,15 +69,14 @@ lost-leaves {t} {p} {r} x l = by (turn-cases (view t) p)
     by (passes-on u k q d) = absurd (apart (sym (ap doneIn d) ∙ sym (x .done) ∙ l))
 
 -- a turn at a pair with a waiting message
-module _ {t : Table} {a b : ℕ} {r : TurnOutcome} (x : Turned t (pair a b) r) (y : Looks (view t) (pair a b)) (w : waits a b (view t .queue) ≡ true) where
+module _ {t : Table} {a b : ℕ} {r : TurnOutcome} (x : Turned t (pair a b) r) (y : AtPair (view t) (pair a b)) (w : waits a b (view t .queue) ≡ true) where
   takes : outOf a b (view t) (eventOf (pair a b) (r .done)) ≡ 1
   takes =
-      ap (λ (d : Done). outOf a b (view t) (eventOf (pair a b) d)) (x .done ∙ ap doneIn (turn-is (view t) (pair a b) y))
+      ap (λ (d : Done). outOf a b (view t) (eventOf (pair a b) d)) (x .done)
       ∙ turn-rules .takes-one (view t) (pair a b) y w
 
   does-some : r .done ≡ Nothing → ⊥
-  unfolding tally
-  does-some n = omega (arith, takes, ap (λ (d : Done). outOf a b (view t) (eventOf (pair a b) d)) n)
+  does-some n = does-something (view t) (pair a b) y w (sym (x .done) ∙ n)
 
   counts-some : countAt (r .table .delivered) a b + countAt (r .table .lost) a b ≡ countAt (t .delivered) a b + countAt (t .lost) a b → ⊥
   counts-some e =

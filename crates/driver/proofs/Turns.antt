@@ -25,34 +25,34 @@ use Rattle.machine.proofs.Places.{place-pair}
 use Rattle.machine.proofs.Runs.{answer-known, accepted-alike}
 use Rattle.machine.proofs.Parts.{zero-accepted}
 use Rattle.round.specs.Order.{pair, nextPair}
-use Rattle.round.specs.Turn.{Turn, turnRefused, taken, turnAt, turnNumber, tableAfter, placeAfter, doneIn}
-use Rattle.round.specs.Claims.{Looks, withLoss}
-use Rattle.round.specs.declared.Pair.{Pair}
+use Rattle.round.specs.Turn.{Turn, turnRefused, turnAccepted, turnAt, turnNumber, tableAfter, placeAfter, doneIn}
+use Rattle.round.specs.Claims.{AtPair, withLoss}
+use Rattle.round.specs.declared.Place.{Place}
 use Rattle.round.specs.declared.Done.{Done}
 use Rattle.round.specs.declared.Done.the-variants.{Nothing, Delivered, Lost}
 use Rattle.round.specs.declared.TurnOutcome.{TurnOutcome}
 use Rattle.round.proofs.Order.{IsPair, pair-is}
 use Rattle.round.proofs.Turns.{turn-rules, lose-accepted}
-use Rattle.round.proofs.Schedules.{waits-some}
+use Rattle.round.proofs.PairQueues.{waits-some}
 use Rattle.driver.specs.Turned.{Turned}
 use Rattle.driver.specs.Parts.{outcome, Losing}
 
 -- ── what a turn returns ──
 
 -- a turn that is taken, with the table v after it
-took : (t : Table) (p : Pair) {u : State} {q : Pair} {d : Done} (v : Table) (r : TurnOutcome)
-    → turnAt (view t) p ≡ taken u q d → view v ≡ u → (d ≡ Nothing → v ≡ t) → r ≡ outcome v q d Accepted → Turned t p r
+took : (t : Table) (p : Place) {u : State} {q : Place} {d : Done} (v : Table) (r : TurnOutcome)
+    → turnAt (view t) p ≡ turnAccepted u q d → view v ≡ u → (d ≡ Nothing → v ≡ t) → r ≡ outcome v q d Accepted → Turned t p r
 took t p {u} {q} {d} v r e z s o =
     subst (Turned t p) (sym o)
     (record { answer = sym (ap turnNumber e); table = z ∙ sym (ap (tableAfter (view t)) e); place = sym (ap (placeAfter p) e); done = sym (ap doneIn e); same = s })
 
 -- one that is refused
-pub refuses : (t : Table) (p : Pair) (a : Answer) (r : TurnOutcome) → turnAt (view t) p ≡ turnRefused (answerNumber a) → r ≡ outcome t p Nothing a → Turned t p r
+pub refuses : (t : Table) (p : Place) (a : Answer) (r : TurnOutcome) → turnAt (view t) p ≡ turnRefused (answerNumber a) → r ≡ outcome t p Nothing a → Turned t p r
 refuses t p a r e o =
     subst (Turned t p) (sym o)
     (record { answer = sym (ap turnNumber e); table = sym (ap (tableAfter (view t)) e); place = sym (ap (placeAfter p) e); done = sym (ap doneIn e); same = λ _. refl })
 
-pub stays-alone : (t : Table) (p : Pair) (r : TurnOutcome) → turnAt (view t) p ≡ taken (view t) p Nothing → r ≡ outcome t p Nothing Accepted → Turned t p r
+pub stays-alone : (t : Table) (p : Place) (r : TurnOutcome) → turnAt (view t) p ≡ turnAccepted (view t) p Nothing → r ≡ outcome t p Nothing Accepted → Turned t p r
 stays-alone t p r e o = took t p t r e refl (λ _. refl) o
 
 pub lost-not-nothing : Lost ≡ Nothing → ⊥
@@ -65,7 +65,7 @@ is-accepted : (a : Answer) → isAccepted a ≡ true → a ≡ Accepted
 is-accepted a i = answer-known a Accepted (eqb-true (answerNumber a) 0 (zero-accepted a ∙ i))
 
 -- ── at a pair of the round ──
-module _ (t : Table) (p : Pair) (x : Looks (view t) p) where
+module _ (t : Table) (p : Place) (x : AtPair (view t) p) where
   in-pair : IsPair (t .n) p
   in-pair = pair-is (t .n) p (x .in-round)
 
@@ -100,30 +100,30 @@ module _ (t : Table) (p : Pair) (x : Looks (view t) p) where
       by false e = le-ltb (countAt (t .delivered) (p .sender) (p .receiver) + countAt (t .lost) (p .sender) (p .receiver)) (countAt (t .sent) (p .sender) (p .receiver)) (omega (arith, sums, ltb-false 0 (waiting (view t .queue) (p .sender) (p .receiver)) e)) ∙ sym e
 
   -- no message
-  pub nothing : (q : Pair) (r : TurnOutcome) → waits (p .sender) (p .receiver) (view t .queue) ≡ false → q ≡ nextPair (t .n) p → r ≡ outcome t q Nothing Accepted → Turned t p r
-  nothing q r w e o = took t p t r (turn-rules .no-message (view t) (p .sender) (p .receiver) x w) refl (λ _. refl) (o ∙ ap (λ (q : Pair). outcome t q Nothing Accepted) e)
+  pub nothing : (q : Place) (r : TurnOutcome) → waits (p .sender) (p .receiver) (view t .queue) ≡ false → q ≡ nextPair (t .n) p → r ≡ outcome t q Nothing Accepted → Turned t p r
+  nothing q r w e o = took t p t r (turn-rules .no-message (view t) (p .sender) (p .receiver) x w) refl (λ _. refl) (o ∙ ap (λ (q : Place). outcome t q Nothing Accepted) e)
 
   -- a delivery that is accepted
-  pub delivered : (q : Pair) (o : Outcome) (r : TurnOutcome) → Stepped t (Deliver (p .sender) (p .receiver)) o → isAccepted (o .answer) ≡ true → q ≡ nextPair (t .n) p
+  pub delivered : (q : Place) (o : Outcome) (r : TurnOutcome) → Stepped t (Deliver (p .sender) (p .receiver)) o → isAccepted (o .answer) ≡ true → q ≡ nextPair (t .n) p
       → r ≡ outcome (o .table) q Delivered Accepted → Turned t p r
   delivered q o r s i e z =
       took t p (o .table) r
       (turn-rules .delivers (view t) (p .sender) (p .receiver) (view (o .table)) _ x (accepted-alike .model-accepts s (is-accepted (o .answer) i)))
-      refl (λ n. absurd (delivered-not-nothing n)) (z ∙ ap (λ (q : Pair). outcome (o .table) q Delivered Accepted) e)
+      refl (λ n. absurd (delivered-not-nothing n)) (z ∙ ap (λ (q : Place). outcome (o .table) q Delivered Accepted) e)
 
   -- one that is refused becomes a loss
-  pub losing : (q : Pair) (o : Outcome) → waits (p .sender) (p .receiver) (view t .queue) ≡ true → Stepped t (Deliver (p .sender) (p .receiver)) o → isAccepted (o .answer) ≡ false
+  pub losing : (q : Place) (o : Outcome) → waits (p .sender) (p .receiver) (view t .queue) ≡ true → Stepped t (Deliver (p .sender) (p .receiver)) o → isAccepted (o .answer) ≡ false
       → q ≡ nextPair (t .n) p → Losing t p q
   losing q o w s i e =
-      record { looks = x; waits = w; turn = by (isDown (nodeAt (view t) (p .receiver) .status)) refl (step (view t) (Deliver (p .sender) (p .receiver))) refl ∙ ap (λ (q : Pair). taken (withLoss (view t) (p .sender) (p .receiver)) q Lost) (sym e) }
+      record { looks = x; waits = w; turn = by (isDown (nodeAt (view t) (p .receiver) .status)) refl (step (view t) (Deliver (p .sender) (p .receiver))) refl ∙ ap (λ (q : Place). turnAccepted (withLoss (view t) (p .sender) (p .receiver)) q Lost) (sym e) }
     where
       by : (d : Bool) → isDown (nodeAt (view t) (p .receiver) .status) ≡ d → (y : Result) → step (view t) (Deliver (p .sender) (p .receiver)) ≡ y
-          → turnAt (view t) p ≡ taken (withLoss (view t) (p .sender) (p .receiver)) (nextPair (t .n) p) Lost
+          → turnAt (view t) p ≡ turnAccepted (withLoss (view t) (p .sender) (p .receiver)) (nextPair (t .n) p) Lost
       by true d y h = turn-rules .down (view t) (p .sender) (p .receiver) x w d
       by false d (refused k) h = turn-rules .becomes-loss (view t) (p .sender) (p .receiver) k x (turn-rules .no-other (view t) (p .sender) (p .receiver) k x w d h) h
       by false d (accepted u k) h = absurd (true≢false (sym (ap isAccepted (accepted-alike .code-accepts s u k h)) ∙ i))
 
 -- the loss itself
-pub lost : (t : Table) (p q : Pair) (o : Outcome) (r : TurnOutcome) → Losing t p q → Stepped t (Lose (p .sender) (p .receiver)) o → r ≡ outcome (o .table) q Lost Accepted → Turned t p r
+pub lost : (t : Table) (p q : Place) (o : Outcome) (r : TurnOutcome) → Losing t p q → Stepped t (Lose (p .sender) (p .receiver)) o → r ≡ outcome (o .table) q Lost Accepted → Turned t p r
 lost t p q o r l s z =
     took t p (o .table) r (l .turn) (s .table ∙ ap (kept (view t)) (lose-accepted (view t) (p .sender) (p .receiver) (l .looks) (l .waits))) (λ n. absurd (lost-not-nothing n)) z

@@ -1,5 +1,5 @@
 pub mod Turned
-pub mod Driven
+pub mod Scheduled
 pub mod Claims
 pub mod Mutants
 pub mod Parts

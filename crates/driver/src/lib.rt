@@ -5,20 +5,20 @@ ghost use Prim.Native.Nat.{ℕ, _≤_};
 ghost use Rattle.model.specs.State.{view, waits};
 ghost use Rattle.round.specs.Order as order;
 ghost use Rattle.round.specs.Turn as spec;
-ghost use Rattle.round.specs.Claims.{Looks};
+ghost use Rattle.round.specs.Claims.{AtPair};
 ghost use Rattle.driver.specs.Turned.{Turned};
 ghost use Rattle.driver.specs.Parts.{outcome, Losing};
 use model::Answer;
 use model::Event;
 use model::Table;
 use round::Done;
-use round::Pair;
+use round::Place;
 use round::TurnOutcome;
 
-fn pair(a: u8, b: u8) -> Pair
+fn pair(a: u8, b: u8) -> Place
     ensures { λ r. ⌜ r ≡ order.pair a b ⌝ }
 {
-    Pair {
+    Place {
         sender: a,
         receiver: b,
     }
@@ -34,8 +34,8 @@ fn next_receiver(a: u8, b: u8) -> u8
     b + 1
 }
 
-// The pair behind p in the round of n nodes.
-fn next_pair(n: u8, p: Pair) -> Pair
+// The pair after p in the round of n nodes.
+fn next_pair(n: u8, p: Place) -> Place
     requires { ⌜ (n ≤ 16) × (order.isInRound n p ≡ true) ⌝ }
     ensures { λ r. ⌜ r ≡ order.nextPair n p ⌝ }
 {
@@ -50,7 +50,7 @@ fn next_pair(n: u8, p: Pair) -> Pair
     pair(1, 2)
 }
 
-fn outcome_of(table: Table, place: Pair, done: Done, answer: Answer) -> TurnOutcome
+fn outcome_of(table: Table, place: Place, done: Done, answer: Answer) -> TurnOutcome
     ensures { λ r. ⌜ r ≡ outcome table place done answer ⌝ }
 {
     TurnOutcome {
@@ -61,9 +61,9 @@ fn outcome_of(table: Table, place: Pair, done: Done, answer: Answer) -> TurnOutc
     }
 }
 
-// Whether a message from a to b waits in a table in range: more were sent than delivered and lost, which T-05's sum is about, so that the messages need not be looked through.
+// Whether a message from a to b waits in a table in range: by T-05's sum, where more were sent than delivered and lost. So the messages need not be looked through.
 fn some_wait(t: Table, a: u8, b: u8) -> bool
-    requires { ⌜ Looks (view t) (order.pair a b) ⌝ }
+    requires { ⌜ AtPair (view t) (order.pair a b) ⌝ }
     ensures { λ r. ⌜ r ≡ waits a b (view t .queue) ⌝ }
 {
     let k = (a as usize + 15) % 16 * 16 + (b as usize + 15) % 16;
@@ -71,7 +71,7 @@ fn some_wait(t: Table, a: u8, b: u8) -> bool
 }
 
 // The oldest message of the pair p is lost; next is the place of the next turn.
-fn lose(t: Table, p: Pair, next: Pair) -> TurnOutcome
+fn lose(t: Table, p: Place, next: Place) -> TurnOutcome
     requires { ⌜ Losing t p next ⌝ }
     ensures { λ r. ⌜ Turned t p r ⌝ }
 {
@@ -81,9 +81,9 @@ fn lose(t: Table, p: Pair, next: Pair) -> TurnOutcome
 }
 
 // A turn at a pair of the round, on a table in range: "with no message it does nothing, with a Down receiver it loses the oldest, else it delivers it. A delivery that meets
-// 12, 13 or 17 becomes a loss." The delivery itself tells a Down receiver, by 9, and nothing else refuses it (`TurnRules.no-other`).
-fn look(t: Table, p: Pair) -> TurnOutcome
-    requires { ⌜ Looks (view t) p ⌝ }
+// 12, 13 or 17 becomes a loss." To a Down receiver the delivery meets 9; else it is accepted, or meets 12, 13 or 17 (`TurnRules.no-other`). So each refusal here becomes a loss.
+fn look(t: Table, p: Place) -> TurnOutcome
+    requires { ⌜ AtPair (view t) p ⌝ }
     ensures { λ r. ⌜ Turned t p r ⌝ }
 {
     let a = p.sender;
@@ -101,8 +101,8 @@ fn look(t: Table, p: Pair) -> TurnOutcome
     outcome_of(u, next, Done::Delivered, Answer::Accepted)
 }
 
-// A turn on any table, at any place: refused, and the very same table and place; or taken, and the table after it, the place of the next turn, and what was done.
-pub fn turn(t: Table, p: Pair) -> TurnOutcome
+// A turn on any table, at any place: refused, and the very same table and place; or accepted, and the table after it, the place of the next turn, and what was done.
+pub fn turn(t: Table, p: Place) -> TurnOutcome
     ensures { λ r. ⌜ Turned t p r ⌝ }
 {
     if !machine::in_range(t) {

@@ -5,8 +5,8 @@ use mathlib.Core.Bool.{Bool, true, false, not, _&&_}
 use mathlib.Core.Logic.{_⊎_, inl, inr, ⊎-elim}
 use mathlib.Core.Path.{_≡_, refl, sym, _∙_, ap, subst}
 use mathlib.Core.List.{List, [], _∷_, _++_, append-assoc}
-use lib.ListN.{length, take, drop, set, length-append, length-drop, length-set}
-use lib.Seq.{drop-drop, drop-set-add, take-at}
+use lib.ListN.{length, take, drop, set, getD, length-append, length-drop, length-set}
+use lib.Seq.{drop-drop, drop-set-add, take-at, getD-append-add}
 use borrow.Author.Tests.{eq-eqb, ne-eqb}
 use Rattle.model.specs.Pick.{pick, pick-true, pick-false, by-test}
 use Rattle.model.specs.Grounds.{judged}
@@ -22,8 +22,8 @@ use Rattle.event_list.specs.declared.Next.the-variants.{Got}
 use Rattle.number_bytes.specs.Bytes.{written}
 use Rattle.table_bytes.specs.Bytes.{decoded, size}
 use Rattle.round.specs.Order.{pair}
-use Rattle.round.specs.Turn.{Turn, turnRefused, taken, turnTaken, turnAt, turnNumber, tableAfter, placeAfter, doneIn, doneNumber, eventOf}
-use Rattle.round.specs.declared.Pair.{Pair}
+use Rattle.round.specs.Turn.{Turn, turnRefused, turnAccepted, lookedAt, turnAt, turnNumber, tableAfter, placeAfter, doneIn, doneNumber, eventOf}
+use Rattle.round.specs.declared.Place.{Place}
 use Rattle.round.specs.declared.Done.{Done}
 use Rattle.round.specs.declared.TurnOutcome.{TurnOutcome}
 use Rattle.round.proofs.Turns.{turn-rules}
@@ -36,6 +36,25 @@ use Rattle.exports.specs.Claims.{TurnClaims}
 use Rattle.exports.proofs.Answering.{short-in, long-in, only-short-in, accepts-in, keeps-in, behind-in}
 use Rattle.exports.proofs.Claims.{state-long}
 use Rattle.exports.proofs.Claims as step-claims
+
+-- the numbers of a turn
+turn-number : (x : Turn) → ((r : ℕ) → x ≡ turnRefused r → (r ≡ 1) ⊎ (r ≡ 7)) → (turnNumber x ≡ 0) ⊎ ((turnNumber x ≡ 1) ⊎ (turnNumber x ≡ 7))
+turn-number (turnRefused r) f = inr (f r refl)
+turn-number (turnAccepted u q d) f = inl refl
+
+numbers : (t : List ℕ) (a b : ℕ) → (turnNumber (turnOn t a b) ≡ 0) ⊎ ((turnNumber (turnOn t a b) ≡ 1) ⊎ (turnNumber (turnOn t a b) ≡ 7))
+numbers t a b = turn-number (turnOn t a b) (turn-rules .numbers (stateOf t) (pair a b))
+
+-- a turn that is taken is on a table in range, and leaves one
+in-range : (s : State) (p : Place) → turnNumber (turnAt s p) ≡ 0 → inRange s ≡ true
+in-range s p z = by (inRange s) refl
+  where
+    by : (r : Bool) → inRange s ≡ r → inRange s ≡ true
+    by true e = e
+    by false e = absurd (omega (arith, z, ap turnNumber (turn-rules .not-in-range s p e)))
+
+after-in-range : (s : State) (p : Place) → turnNumber (turnAt s p) ≡ 0 → inRange (tableAfter s (turnAt s p)) ≡ true
+after-in-range s p z = ap inRange (turn-event s p) ∙ run-in s (eventOf p (doneIn (turnAt s p))) (in-range s p z)
 
 -- ── three bytes behind a table ──
 behind-is : (l : List ℕ) (x y z : ℕ) → 3 ≤ length l → set (set (set l 0 x) 1 y) 2 z ≡ x ∷ y ∷ z ∷ drop 3 l
@@ -51,19 +70,30 @@ written-behind k l x y z h =
     ∙ behind-is (drop k l) x y z (omega (arith, h, length-drop k l))
     ∙ ap (λ (m : List ℕ). x ∷ y ∷ z ∷ m) (drop-drop 3 k l)
 
-table-behind : (l : List ℕ) (p : Pair) (d : Done) → turnSize ≤ length l → drop size (written l size (behindTable p d)) ≡ behindTable p d ++ drop turnSize l
+table-behind : (l : List ℕ) (p : Place) (d : Done) → turnSize ≤ length l → drop size (written l size (behindTable p d)) ≡ behindTable p d ++ drop turnSize l
 unfolding written
 table-behind l p d h = written-behind 4436 l (p .sender) (p .receiver) (doneNumber d) h
 
-written-long : (l : List ℕ) (p : Pair) (d : Done) → length (written l size (behindTable p d)) ≡ length l
+written-long : (l : List ℕ) (p : Place) (d : Done) → length (written l size (behindTable p d)) ≡ length l
 unfolding written
 written-long l p d = length-set (set (set l 4436 (p .sender)) 4437 (p .receiver)) 4438 (doneNumber d) ∙ length-set (set l 4436 (p .sender)) 4437 (p .receiver) ∙ length-set l 4436 (p .sender)
+
+-- and read back
+place-behind : (k m : List ℕ) (p : Place) (d : Done) → length k ≡ size → pair (getD (k ++ (behindTable p d ++ m)) size 0) (getD (k ++ (behindTable p d ++ m)) (size + 1) 0) ≡ p
+place-behind k m p d e =
+    let y = getD-append-add k (behindTable p d ++ m) 0 0 in
+    let z = getD-append-add k (behindTable p d ++ m) 1 0 in
+    ap (λ (x : ℕ). pair x (getD (k ++ (behindTable p d ++ m)) (size + 1) 0)) (ap (λ (i : ℕ). getD (k ++ (behindTable p d ++ m)) i 0) (at 0 (omega arith)) ∙ y)
+    ∙ ap (pair (p .sender)) (ap (λ (i : ℕ). getD (k ++ (behindTable p d ++ m)) i 0) (at 1 refl) ∙ z)
+  where
+    at : (i : ℕ) {j : ℕ} → j ≡ size + i → j ≡ length k + i
+    at i h = omega (arith, h, e)
 
 -- ── the promise ──
 module _ (t : List ℕ) (a b : ℕ) (l : List ℕ) where
   kept-by : (r : ℕ) → r ≡ turnAnswer t a b l → (r ≡ 0 → ⊥) → TurnExported t a b l l r
   unfolding turnBytes
-  kept-by r e h = record { number = e; buffer = sym (keeps-in turnSize l (turnAnswer t a b l) (turnGiven (stateOf t) (pair a b) (turnOn t a b)) (λ z. h (e ∙ z))); back = λ z. absurd (h z) }
+  kept-by r e h = record { number = e; buffer = sym (keeps-in turnSize l (turnAnswer t a b l) (turnGiven (stateOf t) (pair a b) (turnOn t a b)) (λ z. h (e ∙ z))); back = λ z. absurd (h z); back-place = λ z. absurd (h z) }
 
   too-short : length l < turnSize → turnAnswer t a b l ≡ 255
   unfolding turnAnswer
@@ -90,11 +120,15 @@ module _ (t : List ℕ) (a b : ℕ) (l : List ℕ) where
           number = y .number ∙ sym e ∙ number-is;
           buffer =
               y .whole zero size-m
-              ∙ ap (λ (k : List ℕ). stateBytes (view (q .table)) ++ k) (ap (drop size) w ∙ table-behind l (q .place) (q .done) room)
+              ∙ ap (λ (k : List ℕ). stateBytes (view (q .table)) ++ k) behind-m
               ∙ sym (append-assoc (stateBytes (view (q .table))) (behindTable (q .place) (q .done)) (drop turnSize l))
               ∙ ap (λ (k : List ℕ). k ++ drop turnSize l) given
               ∙ sym (rw (eq-eqb (turnAnswer t a b l) 0 (sym number-is ∙ z), pick-true));
           back = λ _. y .back zero size-m ∙ x .table;
+          back-place = λ _.
+              ap (λ (k : List ℕ). pair (getD k size 0) (getD k (size + 1) 0)) (y .whole zero size-m ∙ ap (λ (k : List ℕ). stateBytes (view (q .table)) ++ k) behind-m)
+              ∙ place-behind (stateBytes (view (q .table))) (drop turnSize l) (q .place) (q .done) table-long
+              ∙ x .place;
         }
       where
         zero : n ≡ 0
@@ -103,32 +137,19 @@ module _ (t : List ℕ) (a b : ℕ) (l : List ℕ) where
         size-m : size ≤ length m
         size-m = omega (arith, room, ap length w ∙ written-long l (q .place) (q .done))
 
+        behind-m : drop size m ≡ behindTable (q .place) (q .done) ++ drop turnSize l
+        behind-m = ap (drop size) w ∙ table-behind l (q .place) (q .done) room
+
+        table-long : length (stateBytes (view (q .table))) ≡ size
+        table-long = state-long (view (q .table)) (ap inRange (x .table) ∙ after-in-range (stateOf t) (pair a b) (sym (x .answer) ∙ sym e ∙ z))
+
         given : stateBytes (view (q .table)) ++ behindTable (q .place) (q .done) ≡ turnGiven (stateOf t) (pair a b) (turnOn t a b)
         given =
             ap (λ (s : State). stateBytes s ++ behindTable (q .place) (q .done)) (x .table)
-            ∙ ap (λ (p : Pair). stateBytes (tableAfter (stateOf t) (turnOn t a b)) ++ behindTable p (q .done)) (x .place)
+            ∙ ap (λ (p : Place). stateBytes (tableAfter (stateOf t) (turnOn t a b)) ++ behindTable p (q .done)) (x .place)
             ∙ ap (λ (d : Done). stateBytes (tableAfter (stateOf t) (turnOn t a b)) ++ behindTable (placeAfter (pair a b) (turnOn t a b)) d) (x .done)
 
 -- ── the claims ──
-
--- the numbers of a turn
-turn-number : (x : Turn) → ((r : ℕ) → x ≡ turnRefused r → (r ≡ 1) ⊎ (r ≡ 7)) → (turnNumber x ≡ 0) ⊎ ((turnNumber x ≡ 1) ⊎ (turnNumber x ≡ 7))
-turn-number (turnRefused r) f = inr (f r refl)
-turn-number (taken u q d) f = inl refl
-
-numbers : (t : List ℕ) (a b : ℕ) → (turnNumber (turnOn t a b) ≡ 0) ⊎ ((turnNumber (turnOn t a b) ≡ 1) ⊎ (turnNumber (turnOn t a b) ≡ 7))
-numbers t a b = turn-number (turnOn t a b) (turn-rules .numbers (stateOf t) (pair a b))
-
--- a turn that is taken is on a table in range, and leaves one
-in-range : (s : State) (p : Pair) → turnNumber (turnAt s p) ≡ 0 → inRange s ≡ true
-in-range s p z = by (inRange s) refl
-  where
-    by : (r : Bool) → inRange s ≡ r → inRange s ≡ true
-    by true e = e
-    by false e = absurd (omega (arith, z, ap turnNumber (turn-rules .not-in-range s p e)))
-
-after-in-range : (s : State) (p : Pair) → turnNumber (turnAt s p) ≡ 0 → inRange (tableAfter s (turnAt s p)) ≡ true
-after-in-range s p z = ap inRange (turn-event s p) ∙ run-in s (eventOf p (doneIn (turnAt s p))) (in-range s p z)
 
 module _ (t : List ℕ) (a b : ℕ) (l : List ℕ) where
   only-short : turnAnswer t a b l ≡ 255 → length l < turnSize
@@ -156,6 +177,14 @@ module _ (t : List ℕ) (a b : ℕ) (l : List ℕ) where
   table-first z =
       ap (take size) (bytes-are z ∙ append-assoc (stateBytes (tableAfter (stateOf t) (turnOn t a b))) (behindTable (placeAfter (pair a b) (turnOn t a b)) (doneIn (turnOn t a b))) (drop turnSize l))
       ∙ take-at (stateBytes (tableAfter (stateOf t) (turnOn t a b))) _ size (table-long z)
+
+-- a turn that is an event is accepted
+does-zero : (x : Turn) (p : Place) (e : Event) → eventOf p (doneIn x) ≡ e ∷ [] → turnNumber x ≡ 0
+does-zero (turnRefused r) p e q = absurd (none-apart (ap length q))
+  where
+    none-apart : _≡_ {A = ℕ} 0 1 → ⊥
+    none-apart z = omega (arith, z)
+does-zero (turnAccepted u q d) p e z = refl
 
 -- a turn's event, as a field for the step
 module _ (t : List ℕ) (a b : ℕ) (l m : List ℕ) (e : Event) (f : List ℕ) (room : size ≤ length m) (z : turnAnswer t a b l ≡ 0) (x : eventOf (pair a b) (doneIn (turnOn t a b)) ≡ e ∷ []) (k : ℕ) (g : nextAt f 0 ≡ Got e k) where
@@ -188,5 +217,8 @@ turn-claims =
       numbers = λ t a b l h. subst (λ (r : ℕ). (r ≡ 0) ⊎ ((r ≡ 1) ⊎ (r ≡ 7))) (sym (long t a b l h)) (numbers t a b);
       keeps = λ t a b l. keeps-in turnSize l (turnAnswer t a b l) (turnGiven (stateOf t) (pair a b) (turnOn t a b));
       behind = λ t a b l. behind-in turnSize l (turnAnswer t a b l) (turnGiven (stateOf t) (pair a b) (turnOn t a b)) (given-long t a b l);
-      as-step = λ t a b l m e f h room z x k g. (step-zero t a b l m e f room z x k g, same-table t a b l m e f room z x k g);
+      not-in-range = λ t a b l h r. long t a b l h ∙ ap turnNumber (turn-rules .not-in-range (stateOf t) (pair a b) r);
+      as-step = λ t a b l m e f k h room x g.
+          let z = long t a b l h ∙ does-zero (turnOn t a b) (pair a b) e x in
+          (z, step-zero t a b l m e f room z x k g, same-table t a b l m e f room z x k g);
     }

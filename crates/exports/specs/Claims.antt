@@ -64,7 +64,9 @@ pub record TurnClaims : Type 0 where
   pub keeps : (t : List ℕ) (a b : ℕ) (l : List ℕ) → (turnAnswer t a b l ≡ 0 → ⊥) → turnBytes t a b l ≡ l
   -- and what is behind the table, the place and what was done stays in any case
   pub behind : (t : List ℕ) (a b : ℕ) (l : List ℕ) → drop turnSize (turnBytes t a b l) ≡ drop turnSize l
-  -- with room in both buffers, a turn that delivers or loses a message leaves the bytes of the table that nevraspu_step leaves for that deliver or lose
-  pub as-step : (t : List ℕ) (a b : ℕ) (l m : List ℕ) (e : Event) (f : List ℕ) → turnSize ≤ length l → size ≤ length m → turnAnswer t a b l ≡ 0
-      → eventOf (pair a b) (doneIn (turnOn t a b)) ≡ e ∷ [] → (k : ℕ) → nextAt f 0 ≡ Got e k
-      → (stepNumber t f m ≡ 0) × (take size (stepBytes t f m) ≡ take size (turnBytes t a b l))
+  -- a table that is not in range is answered by 1, whatever a and b are
+  pub not-in-range : (t : List ℕ) (a b : ℕ) (l : List ℕ) → turnSize ≤ length l → inRange (stateOf t) ≡ false → turnAnswer t a b l ≡ 1
+  -- With room in both buffers, a turn that delivers or loses a message, which is the event e, leaves the bytes of the table that nevraspu_step leaves for e. f is a field that is read as e, up to k.
+  pub as-step : (t : List ℕ) (a b : ℕ) (l m : List ℕ) (e : Event) (f : List ℕ) (k : ℕ) → turnSize ≤ length l → size ≤ length m
+      → eventOf (pair a b) (doneIn (turnOn t a b)) ≡ e ∷ [] → nextAt f 0 ≡ Got e k
+      → (turnAnswer t a b l ≡ 0) × (stepNumber t f m ≡ 0) × (take size (stepBytes t f m) ≡ take size (turnBytes t a b l))

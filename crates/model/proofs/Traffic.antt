@@ -183,6 +183,10 @@ event-within s (Lose a b) c =
       fewer = λ x y. omega (arith, many-without (isCallTo x y) a b (s .queue) w);
     }
 
+-- an event's node sends from itself
+pub sent-by-node : (s : State) (e : Event) → noneWaits (s .queue) e ≡ false → From (actor e) (reactionTo s e .outgoing)
+sent-by-node s e c = event-within s e c .from
+
 -- ── what is sent, by calls and replies ──
 split : (t u : Bool) → one u ≡ one (t && u) + one (not t && u)
 split true true = refl

@@ -86,7 +86,7 @@ module _ (s : State) (a b d l : ℕ) (r : inRange s ≡ true) (p : isPair (s .n)
       by true false e f = there (λ z. eqb-false b y f (z .1))
       by false u e f = there (λ z. eqb-false a x e (z .0))
 
-  past-in : inRange (past a b d l s) ≡ true
+  pub past-in : inRange (past a b d l s) ≡ true
   unfolding inRange trafficInRange countsInRange
   past-in =
       rw (

@@ -1,5 +1,6 @@
 pub mod Order
-pub mod Lines
+pub mod PairQueues
 pub mod Turns
 pub mod Schedules
 pub mod Driver
+pub mod Cases

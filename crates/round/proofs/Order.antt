@@ -11,30 +11,30 @@ use Rattle.model.specs.Pick.{pick, pick-true, pick-false, by-test}
 use Rattle.model.specs.Range.{isNode}
 use Rattle.model.proofs.Local.{both-left, both-right}
 use Rattle.model.proofs.Fields.{node-is, other-is}
-use Rattle.round.specs.Order.{pair, isInRound, pairs, nextReceiver, nextPair, later, Before}
+use Rattle.round.specs.Order.{pair, isInRound, roundSize, nextReceiver, nextPair, later, Before}
 use Rattle.round.specs.Claims.{RoundOrder}
-use Rattle.round.specs.declared.Pair.{Pair}
+use Rattle.round.specs.declared.Place.{Place}
 
 -- ── a pair of the round ──
-pub record IsPair (n : ℕ) (p : Pair) : Type 0 where
+pub record IsPair (n : ℕ) (p : Place) : Type 0 where
   pub sender-low : 1 ≤ p .sender
   pub sender-high : p .sender ≤ n
   pub receiver-low : 1 ≤ p .receiver
   pub receiver-high : p .receiver ≤ n
   pub other : p .receiver ≡ p .sender → ⊥
 
-pub pair-is : (n : ℕ) (p : Pair) → isInRound n p ≡ true → IsPair n p
+pub pair-is : (n : ℕ) (p : Place) → isInRound n p ≡ true → IsPair n p
 pair-is n p e =
     let x = node-is n (p .sender) (both-left (isNode n (p .sender)) _ e) in
     let y = other-is n (p .sender) (p .receiver) (both-right (isNode n (p .sender)) _ e) in
     record { sender-low = x .low; sender-high = x .high; receiver-low = y .low; receiver-high = y .high; other = y .other }
 
-pub is-pair : (n : ℕ) (p : Pair) → IsPair n p → isInRound n p ≡ true
+pub is-pair : (n : ℕ) (p : Place) → IsPair n p → isInRound n p ≡ true
 is-pair n p x =
     simp (le-leb 1 _ (x .sender-low), le-leb _ n (x .sender-high), le-leb 1 _ (x .receiver-low), le-leb _ n (x .receiver-high), ne-eqb _ _ (x .other))
 
 -- two pairs with the same numbers
-same-pair : (p q : Pair) → p .sender ≡ q .sender → p .receiver ≡ q .receiver → p ≡ q
+same-pair : (p q : Place) → p .sender ≡ q .sender → p .receiver ≡ q .receiver → p ≡ q
 same-pair p q s r = ap (λ (a : ℕ). pair a (p .receiver)) s ∙ ap (pair (q .sender)) r
 
 -- what is known of a number by the side of another on which it stands
@@ -47,7 +47,7 @@ by-side {P} a b d f g = go (ltb b a) refl
 
 -- ── the next pair ──
 
--- the next receiver c behind b: a passed over, or not
+-- the next receiver c after b: a passed over, or not
 abbrev Follows : ℕ → ℕ → ℕ → Type 0
 Follows a b c = ((b + 1 ≡ a) × (c ≡ b + 2)) ⊎ ((b + 1 ≡ a → ⊥) × (c ≡ b + 1))
 
@@ -56,12 +56,12 @@ unfolding nextReceiver
 next-receiver a b = by-test (Follows a b) (λ e. inl (eqb-true (b + 1) a e, refl)) (λ e. inr (eqb-false (b + 1) a e, refl))
 
 -- what the next pair q of p is: its sender's next receiver c; the next sender's first; or the first of all, where p is (n,n−1)
-data Next (n : ℕ) (p : Pair) : Pair → Type 0 where
+data Next (n : ℕ) (p : Place) : Place → Type 0 where
   receiver : (c : ℕ) → Follows (p .sender) (p .receiver) c → c ≤ n → Next n p (pair (p .sender) c)
   sender : (c : ℕ) → Follows (p .sender) (p .receiver) c → n < c → p .sender < n → Next n p (pair (p .sender + 1) 1)
   start : (c : ℕ) → Follows (p .sender) (p .receiver) c → n < c → n ≤ p .sender → Next n p (pair 1 2)
 
-next-is : (n : ℕ) (p : Pair) → Next n p (nextPair n p)
+next-is : (n : ℕ) (p : Place) → Next n p (nextPair n p)
 unfolding nextPair
 next-is n p =
     let c = nextReceiver (p .sender) (p .receiver) in
@@ -69,9 +69,8 @@ next-is n p =
     by-test (Next n p) (λ e. receiver c f (leb-true c n e))
     (λ e. by-test (Next n p) (λ u. sender c f (leb-false c n e) (ltb-true (p .sender) n u)) (λ u. start c f (leb-false c n e) (ltb-false (p .sender) n u)))
 
--- where the last receiver is n or n − 1, whatever c is behind it
-module _ (n : ℕ) (p : Pair) (x : IsPair n p) where
-  next-in : (q : Pair) → Next n p q → IsPair n q
+module _ (n : ℕ) (p : Place) (x : IsPair n p) where
+  next-in : (q : Place) → Next n p q → IsPair n q
   next-in q (receiver c f h) =
       record { sender-low = x .sender-low; sender-high = x .sender-high; receiver-low = ⊎-elim (λ z. omega (arith, z .1)) (λ z. omega (arith, z .1)) f; receiver-high = h; other = ⊎-elim (λ z e. omega (arith, z .0, z .1, e)) (λ z e. z .0 (sym (z .1) ∙ e)) f }
   next-in q (sender c f h l) =
@@ -89,12 +88,12 @@ module _ (n : ℕ) (p : Pair) (x : IsPair n p) where
       same-pair p (pair n (n - 1)) s
       (⊎-elim (λ z. omega (arith, z .0, s)) (λ z. absurd (x .other (omega (arith, z .1, h, s, x .receiver-high)))) f)
 
-  next-behind : (q : Pair) → Next n p q → (p ≡ pair n (n - 1) → ⊥) → Before p q
-  next-behind q (receiver c f h) d = inr (refl, ⊎-elim (λ z. omega (arith, z .1)) (λ z. omega (arith, z .1)) f)
-  next-behind q (sender c f h l) d = inl (omega arith)
-  next-behind q (start c f h l) d = absurd (d (last-is c f h l))
+  next-after : (q : Place) → Next n p q → (p ≡ pair n (n - 1) → ⊥) → Before p q
+  next-after q (receiver c f h) d = inr (refl, ⊎-elim (λ z. omega (arith, z .1)) (λ z. omega (arith, z .1)) f)
+  next-after q (sender c f h l) d = inl (omega arith)
+  next-after q (start c f h l) d = absurd (d (last-is c f h l))
 
-  none-between : (q r : Pair) → Next n p r → IsPair n q → (p ≡ pair n (n - 1) → ⊥) → Before p q → Before q r → ⊥
+  none-between : (q r : Place) → Next n p r → IsPair n q → (p ≡ pair n (n - 1) → ⊥) → Before p q → Before q r → ⊥
   none-between q r (receiver c f h) y d (inl i) (inl j) = omega (arith, i, j)
   none-between q r (receiver c f h) y d (inl i) (inr j) = omega (arith, i, j .0)
   none-between q r (receiver c f h) y d (inr i) (inl j) = omega (arith, i .0, j)
@@ -107,7 +106,7 @@ module _ (n : ℕ) (p : Pair) (x : IsPair n p) where
   none-between q r (sender c f h l) y d (inr i) (inr j) = omega (arith, i .0, j .0)
   none-between q r (start c f h l) y d i j = d (last-is c f h l)
 
-from-start : (n : ℕ) → 2 ≤ n → (q : Pair) → Next n (pair n (n - 1)) q → q ≡ pair 1 2
+from-start : (n : ℕ) → 2 ≤ n → (q : Place) → Next n (pair n (n - 1)) q → q ≡ pair 1 2
 from-start n l q (receiver c f h) = absurd (⊎-elim (λ z. omega (arith, z .1, h, l)) (λ z. z .0 (omega (arith, l))) f)
 from-start n l q (sender c f h k) = absurd (omega (arith, k))
 from-start n l q (start c f h k) = refl
@@ -118,7 +117,7 @@ from-start n l q (start c f h k) = refl
 seat : ℕ → ℕ → ℕ
 seat a b = pick (ltb b a) (b - 1) (b - 2)
 
-rank : ℕ → Pair → ℕ
+rank : ℕ → Place → ℕ
 rank n p = (p .sender - 1) * (n - 1) + seat (p .sender) (p .receiver)
 
 seat-low : (a b : ℕ) → b < a → seat a b ≡ b - 1
@@ -133,7 +132,7 @@ rank-is : (n a b : ℕ) → rank n (pair a b) ≡ (a - 1) * (n - 1) + seat a b
 unfolding rank
 rank-is n a b = refl
 
-seat-in : (n : ℕ) (p : Pair) → IsPair n p → seat (p .sender) (p .receiver) + 1 ≤ n - 1
+seat-in : (n : ℕ) (p : Place) → IsPair n p → seat (p .sender) (p .receiver) + 1 ≤ n - 1
 seat-in n p x =
     by-side (p .sender) (p .receiver) (x .other) (λ h. omega (arith, seat-low (p .sender) (p .receiver) h, x)) (λ h. omega (arith, seat-high (p .sender) (p .receiver) h, x))
 
@@ -150,19 +149,19 @@ row n a h = let e : a ≡ suc (a - 1) = omega arith in ap (_* (n - 1)) e ∙ suc
 rank-first : (n : ℕ) → rank n (pair 1 2) ≡ 0
 rank-first n = omega (arith, rank-is n 1 2, seat-high 1 2 (omega arith))
 
-rank-in : (n : ℕ) (p : Pair) → IsPair n p → rank n p < pairs n
+rank-in : (n : ℕ) (p : Place) → IsPair n p → rank n p < roundSize n
 rank-in n p x =
     omega (arith, rank-is n (p .sender) (p .receiver), seat-in n p x, row n (p .sender) (x .sender-low), mul-le-mul-right {m = p .sender} {n = n} (n - 1) (x .sender-high))
 
--- a receiver behind which there is none is the last of its row
-row-end : (n : ℕ) (p : Pair) → IsPair n p → (c : ℕ) → Follows (p .sender) (p .receiver) c → n < c → seat (p .sender) (p .receiver) + 1 ≡ n - 1
+-- a receiver after which there is none is the last of its row
+row-end : (n : ℕ) (p : Place) → IsPair n p → (c : ℕ) → Follows (p .sender) (p .receiver) c → n < c → seat (p .sender) (p .receiver) + 1 ≡ n - 1
 row-end n p x c (inl z) h = omega (arith, z .0, z .1, h, seat-low (p .sender) (p .receiver) (omega (arith, z .0)), x .receiver-low, x .sender-high)
 row-end n p x c (inr z) h =
     by-side (p .sender) (p .receiver) (x .other) (λ l. absurd (omega (arith, z .1, h, l, x .sender-high)))
     (λ l. omega (arith, z .1, h, l, seat-high (p .sender) (p .receiver) l, x .receiver-high, x .sender-low))
 
 -- the next pair stands one further on, or p is the last and it is the first
-next-rank : (n : ℕ) (p : Pair) → IsPair n p → (q : Pair) → Next n p q → (rank n q ≡ rank n p + 1) ⊎ ((rank n p + 1 ≡ pairs n) × (q ≡ pair 1 2))
+next-rank : (n : ℕ) (p : Place) → IsPair n p → (q : Place) → Next n p q → (rank n q ≡ rank n p + 1) ⊎ ((rank n p + 1 ≡ roundSize n) × (q ≡ pair 1 2))
 next-rank n p x q (receiver c f h) = inl (omega (arith, rank-is n a b, rank-is n a c, one f))
   where
     a : ℕ
@@ -190,14 +189,14 @@ not-below : {i j : ℕ} → (i < j → ⊥) → j ≤ i
 not-below f = omega arith
 
 -- two pairs that stand at one place are the same
-rank-apart : (n : ℕ) (p q : Pair) → IsPair n p → IsPair n q → rank n p ≡ rank n q → p ≡ q
+rank-apart : (n : ℕ) (p q : Place) → IsPair n p → IsPair n q → rank n p ≡ rank n q → p ≡ q
 rank-apart n p q x y e =
     let s : p .sender ≡ q .sender = omega (arith, not-below (below p q x y e), not-below (below q p y x (sym e))) in
     same-pair p q s
     (seat-apart (p .sender) (p .receiver) (q .receiver) (x .other) (λ z. y .other (z ∙ s)) (x .receiver-low) (y .receiver-low) (x .sender-low)
     (omega (arith, e, rank-is n (p .sender) (p .receiver), rank-is n (q .sender) (q .receiver), ap (λ (a : ℕ). (a - 1) * (n - 1)) s, ap (λ (a : ℕ). seat a (q .receiver)) s)))
   where
-    below : (p q : Pair) → IsPair n p → IsPair n q → rank n p ≡ rank n q → p .sender < q .sender → ⊥
+    below : (p q : Place) → IsPair n p → IsPair n q → rank n p ≡ rank n q → p .sender < q .sender → ⊥
     below p q x y e h =
         omega (arith, e, rank-is n (p .sender) (p .receiver), rank-is n (q .sender) (q .receiver), seat-in n p x, row n (p .sender) (x .sender-low), mul-le-mul-right {m = p .sender} {n = q .sender - 1} (n - 1) (omega arith))
 
@@ -214,30 +213,30 @@ unfolding gap
 gap-down k i j h = rw (lt-leb i j h, pick-false)
 
 -- q is so many turns ahead of p
-pub ahead : ℕ → Pair → Pair → ℕ
-ahead n p q = gap (pairs n) (rank n p) (rank n q)
+pub ahead : ℕ → Place → Place → ℕ
+ahead n p q = gap (roundSize n) (rank n p) (rank n q)
 
-pub ahead-in : (n : ℕ) (p q : Pair) → IsPair n p → IsPair n q → ahead n p q < pairs n
+pub ahead-in : (n : ℕ) (p q : Place) → IsPair n p → IsPair n q → ahead n p q < roundSize n
 unfolding ahead gap
 ahead-in n p q x y =
-    by-test (λ k. k < pairs n) (λ e. omega (arith, rank-in n q y)) (λ e. omega (arith, leb-false (rank n p) (rank n q) e, rank-in n p x, rank-in n q y))
+    by-test (λ k. k < roundSize n) (λ e. omega (arith, rank-in n q y)) (λ e. omega (arith, leb-false (rank n p) (rank n q) e, rank-in n p x, rank-in n q y))
 
-pub ahead-none : (n : ℕ) (p : Pair) → ahead n p p ≡ 0
+pub ahead-none : (n : ℕ) (p : Place) → ahead n p p ≡ 0
 unfolding ahead
-ahead-none n p = gap-up (pairs n) (rank n p) (rank n p) (omega arith) ∙ omega arith
+ahead-none n p = gap-up (roundSize n) (rank n p) (rank n p) (omega arith) ∙ omega arith
 
-pub next-valid : (n : ℕ) (p : Pair) → IsPair n p → IsPair n (nextPair n p)
+pub next-valid : (n : ℕ) (p : Place) → IsPair n p → IsPair n (nextPair n p)
 next-valid n p x = next-in n p x (nextPair n p) (next-is n p)
 
-module _ (n : ℕ) (p : Pair) (x : IsPair n p) where
+module _ (n : ℕ) (p : Place) (x : IsPair n p) where
   i : ℕ
   i = rank n p
 
-  ranked : (rank n (nextPair n p) ≡ rank n p + 1) ⊎ ((rank n p + 1 ≡ pairs n) × (nextPair n p ≡ pair 1 2))
+  ranked : (rank n (nextPair n p) ≡ rank n p + 1) ⊎ ((rank n p + 1 ≡ roundSize n) × (nextPair n p ≡ pair 1 2))
   ranked = next-rank n p x (nextPair n p) (next-is n p)
 
   -- a turn at another pair brings it nearer
-  pub ahead-nearer : (q : Pair) → IsPair n q → (p ≡ q → ⊥) → ahead n (nextPair n p) q + 1 ≡ ahead n p q
+  pub ahead-nearer : (q : Place) → IsPair n q → (p ≡ q → ⊥) → ahead n (nextPair n p) q + 1 ≡ ahead n p q
   unfolding ahead
   ahead-nearer q y d = by-rank ranked
     where
@@ -247,50 +246,50 @@ module _ (n : ℕ) (p : Pair) (x : IsPair n p) where
       differ : rank n p ≡ j → ⊥
       differ e = d (rank-apart n p q x y e)
 
-      by-rank : (rank n (nextPair n p) ≡ rank n p + 1) ⊎ ((rank n p + 1 ≡ pairs n) × (nextPair n p ≡ pair 1 2)) → gap (pairs n) (rank n (nextPair n p)) j + 1 ≡ gap (pairs n) (rank n p) j
+      by-rank : (rank n (nextPair n p) ≡ rank n p + 1) ⊎ ((rank n p + 1 ≡ roundSize n) × (nextPair n p ≡ pair 1 2)) → gap (roundSize n) (rank n (nextPair n p)) j + 1 ≡ gap (roundSize n) (rank n p) j
       by-rank (inl e) =
           rw e
           (by-side j (rank n p) differ
-          (λ h. omega (arith, gap-up (pairs n) (rank n p) j (omega arith), gap-up (pairs n) (rank n p + 1) j (omega arith)))
-          (λ h. omega (arith, gap-down (pairs n) (rank n p) j h, gap-down (pairs n) (rank n p + 1) j (omega arith), rank-in n p x)))
+          (λ h. omega (arith, gap-up (roundSize n) (rank n p) j (omega arith), gap-up (roundSize n) (rank n p + 1) j (omega arith)))
+          (λ h. omega (arith, gap-down (roundSize n) (rank n p) j h, gap-down (roundSize n) (rank n p + 1) j (omega arith), rank-in n p x)))
       by-rank (inr e) =
           rw (e .1, rank-first n)
           (by-side j (rank n p) differ
           (λ h. absurd (omega (arith, e .0, rank-in n q y)))
-          (λ h. omega (arith, e .0, gap-down (pairs n) (rank n p) j h, gap-up (pairs n) 0 j (omega arith))))
+          (λ h. omega (arith, e .0, gap-down (roundSize n) (rank n p) j h, gap-up (roundSize n) 0 j (omega arith))))
 
   -- and a turn at itself leaves it a whole round away
-  pub ahead-again : ahead n (nextPair n p) p + 1 ≡ pairs n
+  pub ahead-again : ahead n (nextPair n p) p + 1 ≡ roundSize n
   unfolding ahead
   ahead-again = by-rank ranked
     where
-      by-rank : (rank n (nextPair n p) ≡ rank n p + 1) ⊎ ((rank n p + 1 ≡ pairs n) × (nextPair n p ≡ pair 1 2)) → gap (pairs n) (rank n (nextPair n p)) (rank n p) + 1 ≡ pairs n
-      by-rank (inl e) = rw e (omega (arith, gap-down (pairs n) (rank n p + 1) (rank n p) (omega arith), rank-in n p x))
-      by-rank (inr e) = rw (e .1, rank-first n) (omega (arith, e .0, gap-up (pairs n) 0 (rank n p) (omega arith)))
+      by-rank : (rank n (nextPair n p) ≡ rank n p + 1) ⊎ ((rank n p + 1 ≡ roundSize n) × (nextPair n p ≡ pair 1 2)) → gap (roundSize n) (rank n (nextPair n p)) (rank n p) + 1 ≡ roundSize n
+      by-rank (inl e) = rw e (omega (arith, gap-down (roundSize n) (rank n p + 1) (rank n p) (omega arith), rank-in n p x))
+      by-rank (inr e) = rw (e .1, rank-first n) (omega (arith, e .0, gap-up (roundSize n) 0 (rank n p) (omega arith)))
 
-comes-up : (n k : ℕ) (p q : Pair) → IsPair n p → IsPair n q → ahead n p q ≡ k → later n k p ≡ q
+comes-up : (n k : ℕ) (p q : Place) → IsPair n p → IsPair n q → ahead n p q ≡ k → later n k p ≡ q
 unfolding later ahead
 comes-up n zero p q x y e = rank-apart n p q x y (level (leb (rank n p) (rank n q)) refl)
   where
     level : (t : Bool) → leb (rank n p) (rank n q) ≡ t → rank n p ≡ rank n q
-    level true h = let l = leb-true (rank n p) (rank n q) h in omega (arith, e, gap-up (pairs n) (rank n p) (rank n q) l)
-    level false h = let l = leb-false (rank n p) (rank n q) h in omega (arith, e, gap-down (pairs n) (rank n p) (rank n q) l, rank-in n p x)
+    level true h = let l = leb-true (rank n p) (rank n q) h in omega (arith, e, gap-up (roundSize n) (rank n p) (rank n q) l)
+    level false h = let l = leb-false (rank n p) (rank n q) h in omega (arith, e, gap-down (roundSize n) (rank n p) (rank n q) l, rank-in n p x)
 comes-up n (suc k) p q x y e =
     comes-up n k (nextPair n p) q (next-valid n p x) y
-    (omega (arith, e, ahead-nearer n p x q y (λ z. omega (arith, e, ahead-none n p, ap (λ (r : Pair). gap (pairs n) (rank n p) (rank n r)) z))))
+    (omega (arith, e, ahead-nearer n p x q y (λ z. omega (arith, e, ahead-none n p, ap (λ (r : Place). gap (roundSize n) (rank n p) (rank n r)) z))))
 
-later-in : (n k : ℕ) (p : Pair) → IsPair n p → IsPair n (later n k p)
+later-in : (n k : ℕ) (p : Place) → IsPair n p → IsPair n (later n k p)
 unfolding later
 later-in n zero p x = x
 later-in n (suc k) p x = later-in n k (nextPair n p) (next-valid n p x)
 
--- the pair that comes k turns behind p is k turns ahead of it
-later-ahead : (n k : ℕ) (p : Pair) → IsPair n p → k < pairs n → ahead n p (later n k p) ≡ k
+-- the pair that comes k turns after p is k turns ahead of it
+later-ahead : (n k : ℕ) (p : Place) → IsPair n p → k < roundSize n → ahead n p (later n k p) ≡ k
 unfolding later
 later-ahead n zero p x h = ahead-none n p
 later-ahead n (suc k) p x h = by (later n k (nextPair n p)) (later-in n k (nextPair n p) (next-valid n p x)) (later-ahead n k (nextPair n p) (next-valid n p x) (omega arith))
   where
-    by : (q : Pair) → IsPair n q → ahead n (nextPair n p) q ≡ k → ahead n p q ≡ suc k
+    by : (q : Place) → IsPair n q → ahead n (nextPair n p) q ≡ k → ahead n p q ≡ suc k
     by q y e = omega (arith, e, ahead-nearer n p x q y (λ z. omega (arith, h, e, ahead-again n p x, ap (ahead n (nextPair n p)) z)))
 
 -- ── the claim ──
@@ -300,13 +299,13 @@ first-pair n l = record { sender-low = omega arith; sender-high = omega arith; r
 last-pair : (n : ℕ) → 2 ≤ n → IsPair n (pair n (n - 1))
 last-pair n l = record { sender-low = omega arith; sender-high = omega arith; receiver-low = omega arith; receiver-high = omega arith; other = λ e. omega (arith, e) }
 
-before-first : (n : ℕ) (q : Pair) → IsPair n q → Before q (pair 1 2) → ⊥
+before-first : (n : ℕ) (q : Place) → IsPair n q → Before q (pair 1 2) → ⊥
 before-first n q y (inl i) = omega (arith, i, y .sender-low)
 before-first n q y (inr i) = y .other (omega (arith, i .0, i .1, y .receiver-low))
 
-behind-last : (n : ℕ) (q : Pair) → IsPair n q → Before (pair n (n - 1)) q → ⊥
-behind-last n q y (inl i) = omega (arith, i, y .sender-high)
-behind-last n q y (inr i) = y .other (omega (arith, i .0, i .1, y .receiver-high))
+after-last : (n : ℕ) (q : Place) → IsPair n q → Before (pair n (n - 1)) q → ⊥
+after-last n q y (inl i) = omega (arith, i, y .sender-high)
+after-last n q y (inr i) = y .other (omega (arith, i .0, i .1, y .receiver-high))
 
 pub round-order : RoundOrder
 round-order =
@@ -314,11 +313,11 @@ round-order =
       starts = λ n l. is-pair n (pair 1 2) (first-pair n l);
       none-before = λ n q y. before-first n q (pair-is n q y);
       ends = λ n l. is-pair n (pair n (n - 1)) (last-pair n l);
-      none-behind = λ n q y. behind-last n q (pair-is n q y);
+      none-after = λ n q y. after-last n q (pair-is n q y);
       goes-on = λ n p x. is-pair n (nextPair n p) (next-valid n p (pair-is n p x));
-      behind = λ n p x. next-behind n p (pair-is n p x) (nextPair n p) (next-is n p);
+      in-order = λ n p x. next-after n p (pair-is n p x) (nextPair n p) (next-is n p);
       none-between = λ n p q x y. none-between n p (pair-is n p x) q (nextPair n p) (next-is n p) (pair-is n q y);
       from-the-start = λ n l. from-start n l (nextPair n (pair n (n - 1))) (next-is n (pair n (n - 1)));
-      comes-up = λ n p q x y. (ahead n p q, ahead-in n p q (pair-is n p x) (pair-is n q y), comes-up n (ahead n p q) p q (pair-is n p x) (pair-is n q y) refl);
+      comes-up = λ n p q x y. record { after = ahead n p q; within = ahead-in n p q (pair-is n p x) (pair-is n q y); there = comes-up n (ahead n p q) p q (pair-is n p x) (pair-is n q y) refl };
       once = λ n p j k x h l e. sym (later-ahead n j p (pair-is n p x) h) ∙ ap (ahead n p) e ∙ later-ahead n k p (pair-is n p x) l;
     }

@@ -6,7 +6,8 @@ use mathlib.Core.Bool.{Bool, true, false, _&&_, _||_, true≢false}
 use mathlib.Core.Path.{_≡_, refl, sym, _∙_, ap, subst}
 use mathlib.Core.List.{List, [], _∷_, _++_, append-assoc}
 use lib.Dec.{eqb, leb, ltb}
-use lib.ListN.{replicate}
+use lib.ListN.{length, drop, replicate}
+use lib.Seq.{drop-append-le, drop-drop}
 use borrow.Author.Tests.{eqb-true, eq-eqb, leb-true, leb-false, lt-ltb}
 use Rattle.model.specs.Pick.{by-test}
 use Rattle.model.specs.Counts.{countAt, one}
@@ -24,23 +25,23 @@ use Rattle.model.proofs.Whole.{run-append}
 use Rattle.model.specs.declared.Message.{Message}
 use Rattle.model.specs.declared.Event.{Event}
 use Rattle.model.specs.declared.Event.the-variants.{Deliver, Lose}
-use Rattle.round.specs.Order.{pair, isInRound, pairs, nextPair}
-use Rattle.round.specs.Turn.{turnDoes, eventOf, Turn, turnRefused, turnGrounds, turnTaken, turnAt, tableAfter, placeAfter, doneIn}
-use Rattle.round.specs.Schedule.{Move, turn, event, turns, Drive, drive, moved, driven, moveEvents, eventsOf, Waits, messageAt, outOf, outIn}
-use Rattle.round.specs.Claims.{Looks, RoundOfTheCable}
-use Rattle.round.specs.declared.Pair.{Pair}
+use Rattle.round.specs.Order.{pair, isInRound, roundSize, nextPair, later}
+use Rattle.round.specs.Turn.{turnDoes, eventOf, Turn, turnRefused, turnGrounds, lookedAt, turnAt, tableAfter, placeAfter, doneIn}
+use Rattle.round.specs.Schedule.{Move, turn, event, turns, Drive, drive, moved, driven, moveEvents, eventsOf, pairQueue, Waits, messageAt, outOf, outIn, cameInBy}
+use Rattle.round.specs.Claims.{AtPair, ScheduleIsRun, RoundOfTheCable}
+use Rattle.round.specs.declared.Place.{Place}
 use Rattle.round.specs.declared.Done.{Done}
 use Rattle.round.specs.declared.Done.the-variants.{Nothing, Delivered, Lost}
 use Rattle.round.proofs.Order.{IsPair, pair-is, is-pair, next-valid, ahead, ahead-in, ahead-none, ahead-nearer, ahead-again}
-use Rattle.round.proofs.Lines.{oldest-first, out-by-counts}
+use Rattle.round.proofs.PairQueues.{some-waits, oldest-first, out-by-counts}
 use Rattle.round.proofs.Turns.{turn-is, takes-one}
 
 -- ── a schedule is its events ──
 
 -- what a turn leaves is what its event leaves
-pub turn-event : (s : State) (p : Pair) → tableAfter s (turnAt s p) ≡ runFrom s (eventOf p (doneIn (turnAt s p)))
-unfolding turnAt turnTaken runFrom
-turn-event s p = judged-by turnRefused P (turnTaken s p) (turnGrounds s p) (λ _. refl) (λ _. by-test P (λ _. refl) (λ _. refl))
+pub turn-event : (s : State) (p : Place) → tableAfter s (turnAt s p) ≡ runFrom s (eventOf p (doneIn (turnAt s p)))
+unfolding turnAt lookedAt runFrom
+turn-event s p = judged-by turnRefused P (lookedAt s p) (turnGrounds s p) (λ _. refl) (λ _. by-test P (λ _. refl) (λ _. refl))
   where
     P : Turn → Type 0
     P t = tableAfter s t ≡ runFrom s (eventOf p (doneIn t))
@@ -59,11 +60,6 @@ schedule-events d (m ∷ ms) =
     ∙ sym (run-append (d .table) (moveEvents d m) (eventsOf (moved d m) ms))
 
 -- one schedule behind another
-pub driven-append : (d : Drive) (ms ns : List Move) → driven d (ms ++ ns) ≡ driven (driven d ms) ns
-unfolding driven
-driven-append d [] ns = refl
-driven-append d (m ∷ ms) ns = driven-append (moved d m) ms ns
-
 pub events-append : (d : Drive) (ms ns : List Move) → eventsOf d (ms ++ ns) ≡ eventsOf d ms ++ eventsOf (driven d ms) ns
 unfolding eventsOf driven
 events-append d [] ns = refl
@@ -85,19 +81,6 @@ out-first a b d m ms =
     ∙ ap (λ (s : State). outOf a b (d .table) (moveEvents d m) + outOf a b s (eventsOf (moved d m) ms)) (sym (move-events d m))
 
 -- ── the message ──
-
--- a message of a pair waits where more than none do
-pub waits-some : (a b : ℕ) (q : List Message) → waits a b q ≡ ltb 0 (waiting q a b)
-unfolding waits howMany
-waits-some a b [] = refl
-waits-some a b (m ∷ ms) = by (goes a b m) (waits-some a b ms)
-  where
-    by : (t : Bool) → waits a b ms ≡ ltb 0 (waiting ms a b) → (t || waits a b ms) ≡ ltb 0 (one t + waiting ms a b)
-    by true f = sym (lt-ltb 0 (1 + waiting ms a b) (omega arith))
-    by false f = let z : waiting ms a b ≡ 0 + waiting ms a b = omega arith in f ∙ ap (ltb 0) z
-
-some-waits : (a b : ℕ) (q : List Message) → 0 < waiting q a b → waits a b q ≡ true
-some-waits a b q h = waits-some a b q ∙ lt-ltb 0 (waiting q a b) h
 
 -- the two nodes that a message waits between are a pair
 waiting-pair : (s : State) (a b k : ℕ) → inRange s ≡ true → Waits (s .queue) a b k → IsPair (s .n) (pair a b)
@@ -134,7 +117,7 @@ module _ (n : ℕ) where
       }
 
   module _ (d : Drive) (x : On n d) where
-    looks : Looks (d .table) (d .place)
+    looks : AtPair (d .table) (d .place)
     looks = record { in-range = x .range; in-round = subst (λ (i : ℕ). isInRound i (d .place) ≡ true) (sym (x .size)) (is-pair n (d .place) (x .at)) }
 
     turned-place : moved d turn .place ≡ nextPair n (d .place)
@@ -144,29 +127,29 @@ module _ (n : ℕ) where
     turned-on = stays-on d turn x (subst (IsPair n) (sym turned-place) (next-valid n (d .place) (x .at)))
 
     -- how far ahead a pair is then
-    turned-ahead : (q : Pair) → ahead n (moved d turn .place) q ≡ ahead n (nextPair n (d .place)) q
-    turned-ahead q = ap (λ (p : Pair). ahead n p q) turned-place
+    turned-ahead : (q : Place) → ahead n (moved d turn .place) q ≡ ahead n (nextPair n (d .place)) q
+    turned-ahead q = ap (λ (p : Place). ahead n p q) turned-place
 
 -- whether a turn is at the pair of a and b
-here : ℕ → ℕ → Pair → Bool
+here : ℕ → ℕ → Place → Bool
 here a b p = eqb (p .sender) a && eqb (p .receiver) b
 
-here-is : (a b : ℕ) (p : Pair) → here a b p ≡ true → p ≡ pair a b
+here-is : (a b : ℕ) (p : Place) → here a b p ≡ true → p ≡ pair a b
 unfolding here
 here-is a b p q =
     let u = eqb-true (p .sender) a (both-left (eqb (p .sender) a) _ q) in
     let v = eqb-true (p .receiver) b (both-right (eqb (p .sender) a) _ q) in
     ap (λ (i : ℕ). pair i (p .receiver)) u ∙ ap (pair a) v
 
-not-here : (a b : ℕ) (p : Pair) → here a b p ≡ false → p ≡ pair a b → ⊥
+not-here : (a b : ℕ) (p : Place) → here a b p ≡ false → p ≡ pair a b → ⊥
 unfolding here
-not-here a b p q e = true≢false (sym (ap (λ (p : Pair). eqb (p .sender) a && eqb (p .receiver) b) e ∙ both) ∙ q)
+not-here a b p q e = true≢false (sym (ap (λ (p : Place). eqb (p .sender) a && eqb (p .receiver) b) e ∙ both) ∙ q)
   where
     both : eqb a a && eqb b b ≡ true
     both = rw (eq-eqb a a refl, eq-eqb b b refl)
 
 -- a turn takes one of the pair out at most, and none at another pair
-takes-at : (a b : ℕ) (s : State) (p : Pair) (d : Done) → outOf a b s (eventOf p d) ≤ one (here a b p)
+takes-at : (a b : ℕ) (s : State) (p : Place) (d : Done) → outOf a b s (eventOf p d) ≤ one (here a b p)
 unfolding tally here
 takes-at a b s p Nothing = omega arith
 takes-at a b s p Delivered = by (step s (Deliver (p .sender) (p .receiver)))
@@ -194,9 +177,8 @@ module _ (n a b : ℕ) where
     -- a turn at its pair
     turned-here : d .place ≡ pair a b → outOf a b (d .table) (moveEvents d turn) ≡ 1
     turned-here e =
-        ap (λ (t : Turn). outOf a b (d .table) (eventOf (d .place) (doneIn t))) (turn-is (d .table) (d .place) (looks n d x))
-        ∙ ap (λ (p : Pair). outOf a b (d .table) (eventOf p (turnDoes (d .table) p))) e
-        ∙ takes-one (d .table) (pair a b) (subst (Looks (d .table)) e (looks n d x)) (some-waits a b (d .table .queue) (omega (arith, w)))
+        ap (λ (p : Place). outOf a b (d .table) (eventOf p (doneIn (turnAt (d .table) p)))) e
+        ∙ takes-one (d .table) (pair a b) (subst (AtPair (d .table)) e (looks n d x)) (some-waits a b (d .table .queue) (omega (arith, w)))
 
     -- what is left to show where the move takes no more than k out
     left : (m : Move) (ms : List Move) → (outOf a b (d .table) (moveEvents d m) ≤ k → k - outOf a b (d .table) (moveEvents d m) < outIn a b (moved d m) ms) → k < outIn a b d (m ∷ ms)
@@ -206,15 +188,15 @@ module _ (n a b : ℕ) where
         by true e = let h = leb-true (outOf a b (d .table) (moveEvents d m)) k e in omega (arith, out-first a b d m ms, h, f h)
         by false e = omega (arith, out-first a b d m ms, leb-false (outOf a b (d .table) (moveEvents d m)) k e)
 
-  fewer : (j k : ℕ) → j ≤ k → j * pairs n ≤ k * pairs n
-  fewer j k h = mul-le-mul-right {m = j} {n = k} (pairs n) h
+  fewer : (j k : ℕ) → j ≤ k → j * roundSize n ≤ k * roundSize n
+  fewer j k h = mul-le-mul-right {m = j} {n = k} (roundSize n) h
 
   -- a round more
-  one-more : (j k : ℕ) → k ≡ suc j → k * pairs n ≡ j * pairs n + pairs n
-  one-more j k e = ap (_* pairs n) e ∙ suc-mul j (pairs n)
+  one-more : (j k : ℕ) → k ≡ suc j → k * roundSize n ≡ j * roundSize n + roundSize n
+  one-more j k e = ap (_* roundSize n) e ∙ suc-mul j (roundSize n)
 
   -- the turns that are enough: a round for each older message, those to the message's pair, and the one there
-  gone-within : (ms : List Move) (k : ℕ) (d : Drive) → On n d → Waits (d .table .queue) a b k → k * pairs n + ahead n (d .place) (pair a b) + 1 ≤ turns ms → k < outIn a b d ms
+  gone-within : (ms : List Move) (k : ℕ) (d : Drive) → On n d → Waits (d .table .queue) a b k → k * roundSize n + ahead n (d .place) (pair a b) + 1 ≤ turns ms → k < outIn a b d ms
   unfolding turns
   gone-within [] k d x w h = absurd (omega (arith, h))
   gone-within (event e ∷ ms) k d x w h =
@@ -226,7 +208,7 @@ module _ (n a b : ℕ) where
       gone-within ms (k - outOf a b (d .table) (moveEvents d turn)) (moved d turn) (turned-on n d x) (waits-on k d x w turn l) (by (here a b (d .place)) refl l))
     where
       by : (t : Bool) → here a b (d .place) ≡ t → outOf a b (d .table) (moveEvents d turn) ≤ k
-          → (k - outOf a b (d .table) (moveEvents d turn)) * pairs n + ahead n (moved d turn .place) (pair a b) + 1 ≤ turns ms
+          → (k - outOf a b (d .table) (moveEvents d turn)) * roundSize n + ahead n (moved d turn .place) (pair a b) + 1 ≤ turns ms
       by true q l =
           let e = here-is a b (d .place) q in
           let o = turned-here k d x w e in
@@ -235,7 +217,7 @@ module _ (n a b : ℕ) where
             arith,
             one-more (k - outOf a b (d .table) (moveEvents d turn)) k j,
             turned-ahead n d x (pair a b),
-            ap (λ (p : Pair). ahead n (nextPair n p) (pair a b)) e,
+            ap (λ (p : Place). ahead n (nextPair n p) (pair a b)) e,
             ahead-again n (pair a b) (to k d x w),
             h,
           )
@@ -249,7 +231,7 @@ module _ (n a b : ℕ) where
           )
 
   -- and in turns alone no more than k go out in a round for each of k, and those to the message's pair
-  few-within : (m k : ℕ) (d : Drive) → On n d → IsPair n (pair a b) → m ≤ k * pairs n + ahead n (d .place) (pair a b) → outIn a b d (replicate m turn) ≤ k
+  few-within : (m k : ℕ) (d : Drive) → On n d → IsPair n (pair a b) → m ≤ k * roundSize n + ahead n (d .place) (pair a b) → outIn a b d (replicate m turn) ≤ k
   unfolding eventsOf tally
   few-within zero k d x y h = omega arith
   few-within (suc m) k d x y h = by (here a b (d .place)) refl (takes-at a b (d .table) (d .place) (doneIn (turnAt (d .table) (d .place)))) (λ j l. few-within m j (moved d turn) (turned-on n d x) y l)
@@ -258,11 +240,11 @@ module _ (n a b : ℕ) where
       all = out-first a b d turn (replicate m turn)
 
       by : (t : Bool) → here a b (d .place) ≡ t → outOf a b (d .table) (moveEvents d turn) ≤ one (here a b (d .place))
-          → ((j : ℕ) → m ≤ j * pairs n + ahead n (moved d turn .place) (pair a b) → outIn a b (moved d turn) (replicate m turn) ≤ j)
+          → ((j : ℕ) → m ≤ j * roundSize n + ahead n (moved d turn .place) (pair a b) → outIn a b (moved d turn) (replicate m turn) ≤ j)
           → outIn a b d (turn ∷ replicate m turn) ≤ k
       by true q o f =
           let e = here-is a b (d .place) q in
-          let z = ap (λ (p : Pair). ahead n p (pair a b)) e ∙ ahead-none n (pair a b) in
+          let z = ap (λ (p : Place). ahead n p (pair a b)) e ∙ ahead-none n (pair a b) in
           let j = some k (omega (arith, h, z)) in
           let u : outOf a b (d .table) (moveEvents d turn) ≤ 1 = subst (λ (t : Bool). outOf a b (d .table) (moveEvents d turn) ≤ one t) q o in
           omega (
@@ -270,42 +252,76 @@ module _ (n a b : ℕ) where
             all,
             u,
             j .1,
-            f (j .0) (omega (arith, h, z, one-more (j .0) k (j .1), turned-ahead n d x (pair a b), ap (λ (p : Pair). ahead n (nextPair n p) (pair a b)) e, ahead-again n (pair a b) y)),
+            f (j .0) (omega (arith, h, z, one-more (j .0) k (j .1), turned-ahead n d x (pair a b), ap (λ (p : Place). ahead n (nextPair n p) (pair a b)) e, ahead-again n (pair a b) y)),
           )
         where
-          some : (k : ℕ) → suc m ≤ k * pairs n → (j : ℕ) × (k ≡ suc j)
+          some : (k : ℕ) → suc m ≤ k * roundSize n → (j : ℕ) × (k ≡ suc j)
           some zero h = absurd (omega (arith, h))
           some (suc j) h = (j, refl)
       by false q o f =
           let u : outOf a b (d .table) (moveEvents d turn) ≤ 0 = subst (λ (t : Bool). outOf a b (d .table) (moveEvents d turn) ≤ one t) q o in
           omega (arith, all, u, f k (omega (arith, h, turned-ahead n d x (pair a b), ahead-nearer n (d .place) (x .at) (pair a b) y (not-here a b (d .place) q))))
 
+-- ── every later table and place ──
+driven-on : (n : ℕ) (d : Drive) (ms : List Move) → On n d → On n (driven d ms) × (driven d ms .place ≡ later n (turns ms) (d .place))
+unfolding driven turns later
+driven-on n d [] x = (x, refl)
+driven-on n d (event e ∷ ms) x = driven-on n (moved d (event e)) ms (stays-on n d (event e) x (x .at))
+driven-on n d (turn ∷ ms) x =
+    let y = driven-on n (moved d turn) ms (turned-on n d x) in
+    (y .0, y .1 ∙ ap (later n (turns ms)) (turned-place n d x) ∙ sym (later-first n (turns ms) (d .place)))
+  where
+    later-first : (n k : ℕ) (p : Place) → later n (1 + k) p ≡ later n k (nextPair n p)
+    later-first n k p = let e : 1 + k ≡ suc k = omega arith in ap (λ (j : ℕ). later n j p) e
+
 -- ── the claim ──
-gone : (s : State) (p : Pair) (a b k : ℕ) (ms : List Move) → Looks s p → Waits (s .queue) a b k → (k + 1) * pairs (s .n) ≤ turns ms → k < outIn a b (drive s p) ms
-gone s p a b k ms x w h =
+start-on : (s : State) (p : Place) → AtPair s p → On (s .n) (drive s p)
+start-on s p x = record { size = refl; range = x .in-range; at = pair-is (s .n) p (x .in-round) }
+
+goes-out : (s : State) (p : Place) (a b k : ℕ) (ms : List Move) → AtPair s p → Waits (s .queue) a b k → (k + 1) * roundSize (s .n) ≤ turns ms → k < outIn a b (drive s p) ms
+goes-out s p a b k ms x w h =
     let y = pair-is (s .n) p (x .in-round) in
     let z = waiting-pair s a b k (x .in-range) w in
     let e : k + 1 ≡ suc k = omega arith in
-    gone-within (s .n) a b ms k (drive s p) (record { size = refl; range = x .in-range; at = y }) w
-    (omega (arith, h, ap (_* pairs (s .n)) e ∙ suc-mul k (pairs (s .n)), ahead-in (s .n) p (pair a b) y z))
+    gone-within (s .n) a b ms k (drive s p) (start-on s p x) w
+    (omega (arith, h, one-more (s .n) a b k (k + 1) e, ahead-in (s .n) p (pair a b) y z))
 
-sharp : (s : State) (a b k : ℕ) → Looks s (pair a b) → outIn a b (drive s (nextPair (s .n) (pair a b))) (replicate ((k + 1) * pairs (s .n) - 1) turn) ≤ k
+sharp : (s : State) (a b k : ℕ) → AtPair s (pair a b) → outIn a b (drive s (nextPair (s .n) (pair a b))) (replicate ((k + 1) * roundSize (s .n) - 1) turn) ≤ k
 sharp s a b k x =
     let y = pair-is (s .n) (pair a b) (x .in-round) in
     let e : k + 1 ≡ suc k = omega arith in
-    few-within (s .n) a b ((k + 1) * pairs (s .n) - 1) k (drive s (nextPair (s .n) (pair a b))) (record { size = refl; range = x .in-range; at = next-valid (s .n) (pair a b) y }) y
+    few-within (s .n) a b ((k + 1) * roundSize (s .n) - 1) k (drive s (nextPair (s .n) (pair a b))) (record { size = refl; range = x .in-range; at = next-valid (s .n) (pair a b) y }) y
     (omega (arith, one-more (s .n) a b k (k + 1) e, ahead-again (s .n) (pair a b) y))
+
+-- what is left where j go out of l and m, one after the other, and i of them stood in l
+drop-more : (i j : ℕ) (l m : List Message) → i ≤ j → i ≤ length l → drop j (l ++ m) ≡ drop (j - i) (drop i l ++ m)
+drop-more i j l m h k =
+    let e : j ≡ i + (j - i) = omega arith in
+    ap (λ (o : ℕ). drop o (l ++ m)) e ∙ sym (drop-drop (j - i) i (l ++ m)) ∙ ap (drop (j - i)) (drop-append-le i l m k)
 
 pub round-of-the-cable : RoundOfTheCable
 round-of-the-cable =
     record {
-      gone = gone;
+      goes-out = goes-out;
+      gone = λ s p a b k ms x w h.
+          ap (λ (u : State). pairQueue (u .queue) a b) (schedule-events (drive s p) ms)
+          ∙ oldest-first .queue s (eventsOf (drive s p) ms) a b
+          ∙ drop-more (k + 1) (outIn a b (drive s p) ms) (pairQueue (s .queue) a b) (cameInBy a b (drive s p) ms) (omega (arith, goes-out s p a b k ms x w h)) (omega (arith, w, oldest-first .size (s .queue) a b));
+      counted = λ s p a b k ms x w h.
+          subst (λ (u : State). countAt (s .delivered) a b + countAt (s .lost) a b + k < countAt (u .delivered) a b + countAt (u .lost) a b)
+          (sym (schedule-events (drive s p) ms))
+          (omega (
+            arith,
+            goes-out s p a b k ms x w h,
+            out-by-counts s (eventsOf (drive s p) ms) a b (pair-counting (s .n) a b (in-range-size s (x .in-range) .1) (is-pair (s .n) (pair a b) (waiting-pair s a b k (x .in-range) w))),
+          ));
       same = λ s p a b k ms w h.
           subst (λ (u : State). Waits (u .queue) a b (k - outIn a b (drive s p) ms) × (messageAt (u .queue) a b (k - outIn a b (drive s p) ms) ≡ messageAt (s .queue) a b k))
           (sym (schedule-events (drive s p) ms)) (oldest-first .same s (eventsOf (drive s p) ms) a b k w h);
       sharp = sharp;
-      counted = λ s p a b k ms x w h.
-          subst (λ (u : State). countAt (s .delivered) a b + countAt (s .lost) a b + k < countAt (u .delivered) a b + countAt (u .lost) a b)
-          (sym (schedule-events (drive s p) ms))
-          (omega (arith, gone s p a b k ms x w h, out-by-counts s (eventsOf (drive s p) ms) a b (pair-counting (s .n) a b (in-range-size s (x .in-range) .1) (is-pair (s .n) (pair a b) (waiting-pair s a b k (x .in-range) w)))));
+      stays = λ s p ms x. looks (s .n) (driven (drive s p) ms) (driven-on (s .n) (drive s p) ms (start-on s p x) .0);
+      places = λ s p ms x. driven-on (s .n) (drive s p) ms (start-on s p x) .1;
     }
+
+pub schedule-is-run : ScheduleIsRun
+schedule-is-run = record { move = move-events; schedule = schedule-events; beginning = events-append }

@@ -3,3 +3,4 @@ pub mod Order
 pub mod Turn
 pub mod Schedule
 pub mod Claims
+pub mod Cases

@@ -7,40 +7,41 @@ use mathlib.Core.List.{List, [], _∷_}
 use lib.Dec.{eqb, leb, ltb}
 use Rattle.model.specs.Pick.{pick}
 use Rattle.model.specs.Range.{isPair}
-use Rattle.round.specs.declared.Pair.{Pair}
+use Rattle.round.specs.declared.Place.{Place}
 
-abbrev pub pair : ℕ → ℕ → Pair
+-- the place of the pair of a and b
+abbrev pub pair : ℕ → ℕ → Place
 pair a b = record { sender = a; receiver = b }
 
 -- a pair of the round: an ordered pair of the n nodes
-abbrev pub isInRound : ℕ → Pair → Bool
+abbrev pub isInRound : ℕ → Place → Bool
 isInRound n p = isPair n (p .sender) (p .receiver)
 
 -- how many pairs the round has
-abbrev pub pairs : ℕ → ℕ
-pairs n = n * (n - 1)
+abbrev pub roundSize : ℕ → ℕ
+roundSize n = n * (n - 1)
 
--- the receiver behind b of the sender a: the next number, a itself passed over
+-- the receiver after b, for the sender a: the next number, a itself passed over
 unfoldable pub nextReceiver : ℕ → ℕ → ℕ
 nextReceiver a b = pick (eqb (b + 1) a) (b + 2) (b + 1)
 
--- the pair behind p: its sender's next receiver; where there is none, the next sender, from receiver 1 on; where there is none, "then from the start"
-unfoldable pub nextPair : ℕ → Pair → Pair
+-- the pair after p: its sender's next receiver; where there is none, the next sender, from receiver 1 on; where there is none, "then from the start"
+unfoldable pub nextPair : ℕ → Place → Place
 nextPair n p =
     pick (leb (nextReceiver (p .sender) (p .receiver)) n)
     (pair (p .sender) (nextReceiver (p .sender) (p .receiver)))
     (pick (ltb (p .sender) n) (pair (p .sender + 1) 1) (pair 1 2))
 
--- the pair that comes k turns behind p
-unfoldable pub later : ℕ → ℕ → Pair → Pair
+-- the pair that comes k turns after p
+unfoldable pub later : ℕ → ℕ → Place → Place
 later n zero p = p
 later n (suc k) p = later n k (nextPair n p)
 
--- p and the pairs behind it, k of them
-unfoldable pub inOrder : ℕ → ℕ → Pair → List Pair
+-- k pairs in the order of the round, from p on
+unfoldable pub inOrder : ℕ → ℕ → Place → List Place
 inOrder n zero p = []
 inOrder n (suc k) p = p ∷ inOrder n k (nextPair n p)
 
 -- p stands before q: by the sender, and for one sender by the receiver
-abbrev pub Before : Pair → Pair → Type 0
+abbrev pub Before : Place → Place → Type 0
 Before p q = (p .sender < q .sender) ⊎ ((p .sender ≡ q .sender) × (p .receiver < q .receiver))
