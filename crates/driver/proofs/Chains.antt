@@ -135,7 +135,7 @@ does-step {t} {p} {r} x d e q z =
     subst (λ (a : Answer). Stepped t e (record { table = r .table; answer = a })) (sym (done-accepted x d e q z)) (one-step x e (m .state) (m .mark) (m .is) w)
 
 pub code-driver-runs : CodeDriverRuns
-code-driver-runs = 
+code-driver-runs =
     record {
       delivers = λ {t} {p} x q. does-step x Delivered (Deliver (p .sender) (p .receiver)) q refl;
       loses = λ {t} {p} x q. does-step x Lost (Lose (p .sender) (p .receiver)) q refl;

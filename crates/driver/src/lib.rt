@@ -66,7 +66,7 @@ fn some_wait(t: Table, a: u8, b: u8) -> bool
     requires { ⌜ AtPair (view t) (order.pair a b) ⌝ }
     ensures { λ r. ⌜ r ≡ waits a b (view t .queue) ⌝ }
 {
-    let k = (a as usize + 15) % 16 * 16 + (b as usize + 15) % 16;
+    let k = machine::count_place(a, b);
     t.delivered[k] + t.lost[k] < t.sent[k]
 }
 

@@ -312,7 +312,7 @@ pub fn left_of(waiting: u8, found: bool) -> u8
 }
 
 // The place of the count from a to b, where both are 1 to 16; for other numbers one of the 256 all the same.
-fn place(a: u8, b: u8) -> usize
+pub fn count_place(a: u8, b: u8) -> usize
     ensures { λ r. ⌜ (r ≡ parts.placeOf a b) × (r < 256) ⌝ }
 {
     (a as usize + 15) % 16 * 16 + (b as usize + 15) % 16
@@ -324,7 +324,7 @@ pub fn sent_place(o: Outgoing) -> usize
 {
     match o {
         Outgoing::Nothing => 0,
-        Outgoing::Send(m) => place(m.sender, m.receiver),
+        Outgoing::Send(m) => count_place(m.sender, m.receiver),
     }
 }
 
@@ -341,7 +341,7 @@ pub fn sent_by(o: Outgoing) -> u32
 pub fn moved_place(e: Event) -> usize
     ensures { λ r. ⌜ (r ≡ parts.movedPlace e) × (r < 256) ⌝ }
 {
-    place(sender(e), actor(e))
+    count_place(sender(e), actor(e))
 }
 
 pub fn delivered_by(e: Event) -> u32

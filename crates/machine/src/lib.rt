@@ -11,6 +11,7 @@ ghost use Rattle.model.specs.Answers.{startNumber};
 ghost use Rattle.machine.specs.Stepped.{Stepped, startingTable, begunNumber, Begun, RecoveryAnswered};
 pub use grounds::actor;
 pub use grounds::answer_number;
+pub use grounds::count_place;
 pub use grounds::delivered_by;
 pub use grounds::is_accepted;
 pub use grounds::is_pair;

@@ -8,22 +8,21 @@ use Rattle.driver.proofs.some_wait.Tie as tie
 
 add-result : tie.Need-add-result
 add-result c =
-    let s = c .before .before in
-    record { fits = omega (arith, counts-fit (s .args .t1) (pair (s .args .a) (s .args .b)) (s .pre)) }
+    let k = c .before .before in
+    let s = k .before in
+    record { fits = rw (k .count-place .ensures .0) (omega (arith, counts-fit (s .args .t1) (pair (s .args .a) (s .args .b)) (s .pre))) }
 
 returns : tie.Need-returns
 returns c =
-    let s = c .before .before .before in
-    more-sent (s .args .t1) (pair (s .args .a) (s .args .b)) (s .pre)
+    let k = c .before .before .before in
+    let s = k .before in
+    rw (k .count-place .ensures .0) (more-sent (s .args .t1) (pair (s .args .a) (s .args .b)) (s .pre))
 
 pub some-wait-spec : {M : Type 1} → statement M
 some-wait-spec =
     tie.close
     (tie.spec
-    (λ c. search needs)
-    (λ c. search needs)
-    (λ c. search needs)
-    (λ c. search needs)
+    (λ c κs. search needs)
     (λ c. search needs)
     (λ c. search needs)
     (λ c. search needs)

@@ -4,7 +4,7 @@ use Rattle.machine.proofs.grounds.sent_place.Statement.{statement}
 use Rattle.machine.proofs.grounds.sent_place.Tie as tie
 
 returns-2 : tie.Need-returns-2
-returns-2 c = rw (c .before .before .o .given .1) (c .place .ensures)
+returns-2 c = rw (c .before .before .o .given .1) (c .count-place .ensures)
 
 pub sent-place-spec : {M : Type 1} → statement M
 sent-place-spec = tie.close (tie.spec (λ c. search needs) (λ c. search needs) (λ c κs. search needs) (λ c. search needs) returns-2)
