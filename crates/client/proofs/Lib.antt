@@ -1,2 +1,3 @@
 pub mod Chains
 pub mod Agreement
+pub mod Rounds

@@ -1,7 +1,9 @@
-// What a user of the library writes: the public entries called one after another, and a part of demand 3, or of T-05, cited for the table that comes out.
+// What a user of the library writes: the public entries called one after another, and a part of demand 3, or of T-05, T-07 or T-09, cited for the table that comes out.
 mod bully;
+mod turns;
 
 pub use bully::agreed;
+pub use turns::whole_round;
 ghost use mathlib.Core.Path.{_≡_};
 ghost use mathlib.Core.List.{[], _∷_};
 ghost use Rattle.model.specs.Counts.{rowsOf};
