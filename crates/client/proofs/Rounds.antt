@@ -2,18 +2,14 @@
 use Prim.Native.Nat.{ℕ, zero, suc, _+_, _-_, _*_, _≤_, _<_}
 use native.Mathlib.Nat.{mul-le-mul-right}
 use native.Mathlib.Omega.{arith}
-use mathlib.Core.Bool.{true}
 use mathlib.Core.Path.{_≡_, refl, sym, _∙_, ap, subst}
 use mathlib.Core.List.{List, [], _∷_, _++_}
 use lib.ListN.{replicate}
 use borrow.Author.Tests.{ltb-true}
-use lib.Dec.{ltb}
-use Rattle.model.specs.State.{waits, waiting, view}
-use Rattle.model.specs.Counts.{countAt}
+use Rattle.model.specs.State.{waiting, view}
 use Rattle.model.specs.declared.Table.{Table}
 use Rattle.round.specs.Order.{roundSize}
 use Rattle.round.specs.Schedule.{Move, turn, turns}
-use Rattle.round.specs.Claims.{AtPair}
 use Rattle.round.specs.declared.Place.{Place}
 use Rattle.round.specs.declared.TurnOutcome.{TurnOutcome}
 use Rattle.round.proofs.PairQueues.{waits-some}

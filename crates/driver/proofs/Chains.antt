@@ -19,7 +19,7 @@ use Rattle.machine.specs.Folded.{Folded}
 use Rattle.machine.specs.Folded as Folded
 use Rattle.machine.proofs.Runs.{folded-append, answer-known, chain-runs, chain-fixes, chain-both}
 use Rattle.round.specs.Turn.{Turn, turnRefused, turnAccepted, turnAt, turnNumber, doneIn, eventOf}
-use Rattle.round.specs.Schedule.{Move, turn, event, Drive, drive, moved, driven, eventsOf, pairQueue, Waits, messageAt, outIn}
+use Rattle.round.specs.Schedule.{Move, turn, Drive, drive, moved, driven, eventsOf, pairQueue, Waits, messageAt, outIn}
 use Rattle.round.specs.Claims.{AtPair}
 use Rattle.round.specs.declared.Place.{Place}
 use Rattle.round.specs.declared.Done.{Done}

@@ -1,7 +1,7 @@
 -- What the functions of a turn return meets its promise: nothing, a loss, a delivery, and the refusals.
 use Prim.Native.Nat.{ℕ, _+_, _-_, _*_, _≤_}
 use native.Mathlib.Omega.{arith}
-use mathlib.Core.Bool.{Bool, true, false, not, true≢false}
+use mathlib.Core.Bool.{Bool, true, false, true≢false}
 use mathlib.Core.Path.{_≡_, refl, sym, _∙_, ap, subst}
 use lib.Dec.{ltb}
 use lib.ListN.{getD}
@@ -10,7 +10,7 @@ use Rattle.model.specs.Limits.{trafficEnd}
 use Rattle.model.specs.Counts.{countAt}
 use Rattle.model.specs.Node.{isDown}
 use Rattle.model.specs.State.{State, nodeAt, waits, waiting, view}
-use Rattle.model.specs.Step.{Result, refused, accepted, step, kept, after}
+use Rattle.model.specs.Step.{Result, refused, accepted, step, kept}
 use Rattle.model.specs.Answers.{answerNumber}
 use Rattle.model.proofs.Fields.{in-range-size, in-range-sum}
 use Rattle.model.proofs.Traffic.{traffic-rules}
@@ -24,8 +24,8 @@ use Rattle.machine.specs.Stepped.{Stepped}
 use Rattle.machine.proofs.Places.{place-pair}
 use Rattle.machine.proofs.Runs.{answer-known, accepted-alike}
 use Rattle.machine.proofs.Parts.{zero-accepted}
-use Rattle.round.specs.Order.{pair, nextPair}
-use Rattle.round.specs.Turn.{Turn, turnRefused, turnAccepted, turnAt, turnNumber, tableAfter, placeAfter, doneIn}
+use Rattle.round.specs.Order.{nextPair}
+use Rattle.round.specs.Turn.{turnRefused, turnAccepted, turnAt, turnNumber, tableAfter, placeAfter, doneIn}
 use Rattle.round.specs.Claims.{AtPair, withLoss}
 use Rattle.round.specs.declared.Place.{Place}
 use Rattle.round.specs.declared.Done.{Done}

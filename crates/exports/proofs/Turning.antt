@@ -1,28 +1,25 @@
 -- The promise of `nevraspu_turn` by its cases: too little room, a refusal, and a turn that is taken; and the claims `TurnClaims`.
 use Prim.Native.Nat.{ℕ, _+_, _≤_, _<_}
 use native.Mathlib.Omega.{arith}
-use mathlib.Core.Bool.{Bool, true, false, not, _&&_}
+use mathlib.Core.Bool.{Bool, true, false}
 use mathlib.Core.Logic.{_⊎_, inl, inr, ⊎-elim}
 use mathlib.Core.Path.{_≡_, refl, sym, _∙_, ap, subst}
 use mathlib.Core.List.{List, [], _∷_, _++_, append-assoc}
 use lib.ListN.{length, take, drop, set, getD, length-append, length-drop, length-set}
 use lib.Seq.{drop-drop, drop-set-add, take-at, getD-append-add}
-use borrow.Author.Tests.{eq-eqb, ne-eqb}
-use Rattle.model.specs.Pick.{pick, pick-true, pick-false, by-test}
-use Rattle.model.specs.Grounds.{judged}
+use borrow.Author.Tests.{eq-eqb}
+use Rattle.model.specs.Pick.{pick-true}
 use Rattle.model.specs.State.{State, inRange, view}
-use Rattle.model.specs.Step.{accepted, step, runFrom}
+use Rattle.model.specs.Step.{runFrom}
 use Rattle.model.specs.Answers.{answerNumber, resultNumber}
 use Rattle.model.proofs.InRange.{run-in}
-use Rattle.model.specs.declared.Answer.{Answer}
 use Rattle.model.specs.declared.Event.{Event}
 use Rattle.event_list.specs.Format.{nextAt}
-use Rattle.event_list.specs.declared.Next.{Next}
 use Rattle.event_list.specs.declared.Next.the-variants.{Got}
 use Rattle.number_bytes.specs.Bytes.{written}
 use Rattle.table_bytes.specs.Bytes.{decoded, size}
 use Rattle.round.specs.Order.{pair}
-use Rattle.round.specs.Turn.{Turn, turnRefused, turnAccepted, lookedAt, turnAt, turnNumber, tableAfter, placeAfter, doneIn, doneNumber, eventOf}
+use Rattle.round.specs.Turn.{Turn, turnRefused, turnAccepted, turnAt, turnNumber, tableAfter, placeAfter, doneIn, doneNumber, eventOf}
 use Rattle.round.specs.declared.Place.{Place}
 use Rattle.round.specs.declared.Done.{Done}
 use Rattle.round.specs.declared.TurnOutcome.{TurnOutcome}

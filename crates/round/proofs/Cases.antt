@@ -4,7 +4,7 @@ use native.Mathlib.Omega.{arith}
 use mathlib.Core.Bool.{true, false}
 use mathlib.Core.Logic.{_⊎_, inl, inr}
 use mathlib.Core.Path.{_≡_, refl, _∙_}
-use mathlib.Core.List.{List, [], _∷_}
+use mathlib.Core.List.{List, []}
 use lib.Count.{onesIn, ones, leadingZeros}
 use lib.Bits.{bitAnd, bitOr}
 use Rattle.model.specs.Pick.{pick}
@@ -14,7 +14,7 @@ use Rattle.model.specs.React.{resumed, onAreYouCoordinator, onInvitation, onRep
 use Rattle.model.specs.Range.{TwoPairs, activityInRange, nodeInRange, messageInRange, isPair, countInRange}
 use Rattle.model.specs.State.{State, start, allWaiting, waits, oldest, withoutOldest, howMany, countsOf, every, upTo, baseInRange, countsInRange, inRange}
 use Rattle.model.specs.Grounds.{judged}
-use Rattle.model.specs.Step.{reactionTo, remaining, effect, grounds, Result, refused, accepted, step}
+use Rattle.model.specs.Step.{reactionTo, remaining, effect, grounds, refused, accepted}
 use Rattle.model.specs.Cases.{past, only, withCounts, none, question}
 use Rattle.model.specs.Cases as cases
 use Rattle.model.proofs.InRange.{start-in}
@@ -27,11 +27,10 @@ use Rattle.model.specs.declared.Message.{Message}
 use Rattle.model.specs.declared.Mark.{Mark}
 use Rattle.model.specs.declared.Event.the-variants.{Deliver}
 use Rattle.round.specs.Order.{pair, nextReceiver, nextPair, inOrder}
-use Rattle.round.specs.Turn.{turnRefused, turnAccepted, turnAt}
+use Rattle.round.specs.Turn.{turnAccepted, turnAt}
 use Rattle.round.specs.Claims.{AtPair, withLoss}
-use Rattle.round.specs.Cases.{contacting, calledAt, RoundCases}
-use Rattle.round.specs.declared.Place.{Place}
-use Rattle.round.specs.declared.Done.the-variants.{Nothing, Delivered, Lost}
+use Rattle.round.specs.Cases.{RoundCases}
+use Rattle.round.specs.declared.Done.the-variants.{Delivered, Lost}
 use Rattle.round.proofs.Turns.{turn-rules}
 
 -- the starting tables of one node and of two are in range

@@ -2,19 +2,18 @@
 use Prim.Native.Nat.{ℕ, _+_, _-_, _≤_, _<_}
 use native.Mathlib.Omega.{arith}
 use mathlib.Core.Bool.{Bool, true, false, _&&_, _||_}
-use mathlib.Core.Path.{_≡_, refl, sym, _∙_, ap, subst}
+use mathlib.Core.Path.{_≡_, refl, sym, _∙_, ap}
 use mathlib.Core.List.{List, [], _∷_, _++_, append-nil, append-assoc}
 use lib.Dec.{eqb, ltb}
 use lib.ListN.{length, getD, drop, length-append, length-drop, List·getD-append}
 use lib.Seq.{drop-append-le, getD-drop, drop-drop}
 use borrow.Author.Tests.{eqb-true, lt-ltb}
 use Rattle.model.specs.Pick.{pick, pick-true, pick-false}
-use Rattle.model.specs.Limits.{nodeLimit}
 use Rattle.model.specs.Counts.{countAt, one}
 use Rattle.model.specs.State.{State, noMessage, goes, waits, oldest, withoutOldest, howMany, waiting}
 use Rattle.model.specs.Step.{reactionTo, remaining, sent, effect, Result, refused, accepted, step, kept, after, runFrom}
 use Rattle.model.specs.Traffic.{delivers, loses, ofAccepted, tally}
-use Rattle.model.proofs.Judged.{Clear, by-step}
+use Rattle.model.proofs.Judged.{by-step}
 use Rattle.model.proofs.Local.{both-left, both-right}
 use Rattle.model.proofs.Fields.{Counting}
 use Rattle.model.proofs.Counts.{out-counted}

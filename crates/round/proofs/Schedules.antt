@@ -2,17 +2,16 @@
 use Prim.Native.Nat.{ℕ, zero, suc, _+_, _-_, _*_, _≤_, _<_}
 use native.Mathlib.Omega.{arith}
 use native.Mathlib.Nat.{suc-mul, mul-le-mul-right}
-use mathlib.Core.Bool.{Bool, true, false, _&&_, _||_, true≢false}
+use mathlib.Core.Bool.{Bool, true, false, _&&_, true≢false}
 use mathlib.Core.Path.{_≡_, refl, sym, _∙_, ap, subst}
 use mathlib.Core.List.{List, [], _∷_, _++_, append-assoc}
-use lib.Dec.{eqb, leb, ltb}
+use lib.Dec.{eqb, leb}
 use lib.ListN.{length, drop, replicate}
 use lib.Seq.{drop-append-le, drop-drop}
-use borrow.Author.Tests.{eqb-true, eq-eqb, leb-true, leb-false, lt-ltb}
+use borrow.Author.Tests.{eqb-true, eq-eqb, leb-true, leb-false}
 use Rattle.model.specs.Pick.{by-test}
 use Rattle.model.specs.Counts.{countAt, one}
-use Rattle.model.specs.Grounds.{judged}
-use Rattle.model.specs.State.{State, goes, waits, oldest, howMany, waiting, inRange}
+use Rattle.model.specs.State.{State, oldest, inRange}
 use Rattle.model.specs.Step.{Result, refused, accepted, step, after, runFrom}
 use Rattle.model.specs.Traffic.{ofAccepted, tally}
 use Rattle.model.proofs.Grounds.{judged-by}
@@ -26,7 +25,7 @@ use Rattle.model.specs.declared.Message.{Message}
 use Rattle.model.specs.declared.Event.{Event}
 use Rattle.model.specs.declared.Event.the-variants.{Deliver, Lose}
 use Rattle.round.specs.Order.{pair, isInRound, roundSize, nextPair, later}
-use Rattle.round.specs.Turn.{turnDoes, eventOf, Turn, turnRefused, turnGrounds, lookedAt, turnAt, tableAfter, placeAfter, doneIn}
+use Rattle.round.specs.Turn.{eventOf, Turn, turnRefused, turnGrounds, lookedAt, turnAt, tableAfter, placeAfter, doneIn}
 use Rattle.round.specs.Schedule.{Move, turn, event, turns, Drive, drive, moved, driven, moveEvents, eventsOf, pairQueue, Waits, messageAt, outOf, outIn, cameInBy}
 use Rattle.round.specs.Claims.{AtPair, ScheduleIsRun, RoundOfTheCable}
 use Rattle.round.specs.declared.Place.{Place}

@@ -5,7 +5,7 @@ use mathlib.Core.Bool.{Bool, true, false, not, _&&_, true≢false, and-false}
 use mathlib.Core.Logic.{_⊎_, inl, inr}
 use mathlib.Core.Path.{_≡_, refl, sym, _∙_, ap, subst}
 use mathlib.Core.List.{List, [], _∷_, _++_, append-nil}
-use lib.Dec.{eqb, ltb}
+use lib.Dec.{eqb}
 use lib.ListN.{length, getD, drop}
 use lib.Seq.{set-getD}
 use borrow.Author.Tests.{eqb-true, eqb-false, ltb-true, eq-eqb, ne-eqb, not-false}
@@ -14,10 +14,9 @@ use Rattle.model.specs.Limits.{counterEnd, callEnd}
 use Rattle.model.specs.Counts.{one, oneMore}
 use Rattle.model.specs.Grounds.{judged}
 use Rattle.model.specs.Node.{isDown}
-use Rattle.model.specs.Procedures.{stays}
 use Rattle.model.specs.State.{State, startingNode, nodeAt, noMessage, waits, oldest, withoutOldest, waiting, inRange}
-use Rattle.model.specs.Step.{reactionTo, remaining, sent, effect, noneWaits, forms, isCalling, isSending, pairAtEnd, grounds, Result, refused, accepted, step, kept, runFrom}
-use Rattle.model.specs.Traffic.{ofAccepted, tally}
+use Rattle.model.specs.Step.{reactionTo, remaining, sent, effect, forms, isCalling, isSending, pairAtEnd, grounds, Result, refused, accepted, step, kept, runFrom}
+use Rattle.model.specs.Traffic.{tally}
 use Rattle.model.specs.Claims.{Accepts}
 use Rattle.model.proofs.Judged.{Clear, clear-accepts, accepted-apart, accepted-is, passed}
 use Rattle.model.proofs.Judged as step-judged

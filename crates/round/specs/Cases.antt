@@ -1,11 +1,11 @@
 -- Single rounds and single turns: both sides of each rule of T-09. The tables with two nodes are those of model/specs/Cases: node 1 is Normal in its own group, and node 2 is given.
-use Prim.Native.Nat.{ℕ, suc}
-use mathlib.Core.Bool.{true, false}
+use Prim.Native.Nat.{ℕ}
+use mathlib.Core.Bool.{false}
 use mathlib.Core.Path.{_≡_}
 use mathlib.Core.List.{List, [], _∷_, map}
 use Rattle.model.specs.Limits.{tower}
-use Rattle.model.specs.State.{State, startingNode, start, allWaiting}
-use Rattle.model.specs.Cases.{beside, node, follower, none, past, invitation, question, plain, reply, only, withCounts}
+use Rattle.model.specs.State.{State, start, allWaiting}
+use Rattle.model.specs.Cases.{beside, node, none, past, invitation, question, plain, reply, only, withCounts}
 use Rattle.model.specs.Cases as cases
 use Rattle.model.specs.Counts.{noCounts}
 use Rattle.model.specs.declared.Status.the-variants.{Down, Normal}

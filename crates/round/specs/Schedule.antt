@@ -8,7 +8,7 @@ use Rattle.model.specs.Step.{reactionTo, sent, Result, refused, accepted, step,
 use Rattle.model.specs.Traffic.{delivers, loses, tally}
 use Rattle.model.specs.declared.Message.{Message}
 use Rattle.model.specs.declared.Event.{Event}
-use Rattle.round.specs.Turn.{Turn, turnAt, tableAfter, placeAfter, doneIn, eventOf}
+use Rattle.round.specs.Turn.{turnAt, tableAfter, placeAfter, doneIn, eventOf}
 use Rattle.round.specs.declared.Place.{Place}
 
 -- ── schedules: "Other events may come between turns." ──

@@ -1,9 +1,8 @@
 -- `turn` meets its contract: 1, n = 1, 7, and then `look`.
 use borrow.Author.Needs.{needs}
 use borrow.Author.Tests.{not-true, not-false}
-use mathlib.Core.Path.{_≡_, sym, _∙_}
-use mathlib.Core.Bool.{true, false}
-use Rattle.model.specs.State.{view, inRange}
+use mathlib.Core.Path.{sym, _∙_}
+use Rattle.model.specs.State.{view}
 use Rattle.model.specs.declared.Answer.the-variants.{NotInRange, WrongNumber}
 use Rattle.round.proofs.Turns.{turn-rules}
 use Rattle.driver.proofs.Turns.{refuses, stays-alone}

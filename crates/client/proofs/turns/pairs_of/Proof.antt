@@ -1,8 +1,7 @@
 -- `pairs_of` meets its contract: n times n less 1, which fits 16 bits.
 use borrow.Author.Needs.{needs}
 use native.Mathlib.Omega.{arith}
-use mathlib.Core.Path.{sym, ap}
-use Prim.Native.Nat.{_-_, _*_}
+use Prim.Native.Nat.{_-_}
 use Rattle.client.proofs.Rounds.{few-pairs}
 use Rattle.client.proofs.turns.pairs_of.Statement.{statement}
 use Rattle.client.proofs.turns.pairs_of.Tie as tie
