@@ -7,6 +7,7 @@ use crate::machine::TOWER;
 use crate::proved::{
     limits_to_bytes, table_from_bytes, traffic_to_bytes, Library, COUNTS_AT, TABLE_BYTES,
 };
+use crate::round;
 use crate::traffic_tables::count_waiting;
 use crate::vectors::{number, read_hex};
 use std::ops::Range;
@@ -34,16 +35,16 @@ pub struct Function {
     pub takes: &'static [Takes],
     pub call: fn(&dyn Library, &Arguments, &mut [u8]) -> u8,
     /// Which of the bytes that out begins with after the call are free.
-    pub free: fn(&[u8]) -> Range<usize>,
+    pub free: fn(&[u8]) -> Vec<Range<usize>>,
 }
 
 /// Every byte is as the vector says.
-pub fn none_free(_: &[u8]) -> Range<usize> {
-    0..0
+pub fn none_free(_: &[u8]) -> Vec<Range<usize>> {
+    Vec::new()
 }
 
 /// The functions of the library that vectors call.
-pub static FUNCTIONS: [Function; 2] = [
+pub static FUNCTIONS: [Function; 3] = [
     Function {
         name: "nevraspu_recovery",
         takes: &[Takes::OlderTable, Takes::Number],
@@ -54,7 +55,15 @@ pub static FUNCTIONS: [Function; 2] = [
         name: "nevraspu_bully_step",
         takes: &[Takes::Slice, Takes::Slice],
         call: |library, given, out| library.bully_step(&given.slices[0], &given.slices[1], out),
-        free: bully::bytes::free,
+        free: |written| vec![bully::bytes::free(written)],
+    },
+    Function {
+        name: "nevraspu_turn",
+        takes: &[Takes::Slice, Takes::Number, Takes::Number],
+        call: |library, given, out| {
+            library.turn(&given.slices[0], given.numbers[0], given.numbers[1], out)
+        },
+        free: round::bytes::free,
     },
 ];
 

@@ -1,7 +1,7 @@
 //! Compares a library with this program's machine: on runs, on lists of any bytes, and on events and
 //! recoveries from any table; and with calls of the vectors. A difference is shortened and told in words.
 
-use crate::calls::{none_free, CallCase};
+use crate::calls::CallCase;
 use crate::corners::{Before, Corners, Source};
 use crate::history::Checker;
 use crate::list::{first_event, read_list, write_event, write_list};
@@ -53,7 +53,7 @@ impl Lent {
     }
 
     /// The first byte from a place on that is not as it was.
-    fn changed(&self, from: usize) -> Option<usize> {
+    pub fn changed(&self, from: usize) -> Option<usize> {
         if self.now[from..] == self.before[from..] {
             return None;
         }
@@ -107,16 +107,17 @@ impl Lent {
         answer: u8,
         number: u8,
         written: &[u8],
-        free: Range<usize>,
+        free: &[Range<usize>],
     ) -> Option<String> {
         if answer != number {
             let expected = answer_words(number);
             return Some(format!("{}, expected: {expected}", answer_words(answer)));
         }
+        let is_free = |place: usize| free.iter().any(|places| places.contains(&place));
         let mut places = self.now.iter().zip(written).enumerate();
-        let differs =
-            |&(place, (now, byte)): &(usize, (&u8, &u8))| now != byte && !free.contains(&place);
-        if let Some((place, (now, byte))) = places.find(differs) {
+        let differs = |&(place, (now, byte)): &(usize, (&u8, &u8))| now != byte && !is_free(place);
+        let differing = if self.now.starts_with(written) { None } else { places.find(differs) };
+        if let Some((place, (now, byte))) = differing {
             return Some(format!("byte {place} of the buffer is {now:02x}, expected: {byte:02x}"));
         }
         let place = self.changed(written.len())?;
@@ -193,7 +194,7 @@ fn answer_words(answer: u8) -> String {
     }
 }
 
-fn two_tables(library: &Table, own: &Table) -> String {
+pub fn two_tables(library: &Table, own: &Table) -> String {
     format!(
         "library's, n {}:\n{}here, n {}:\n{}",
         library.n,
@@ -368,7 +369,7 @@ pub fn recovery_difference(
     let mut own = vec![0; room];
     let number = Own.recovery(&bytes, i, &mut own);
     let written = if number == 0 { RECORDS_BYTES } else { 0 };
-    if let Some(words) = lent.judge_bytes(answer, number, &own[..written], none_free(&own)) {
+    if let Some(words) = lent.judge_bytes(answer, number, &own[..written], &[]) {
         if (answer, number) != (0, 0) {
             return Some(words);
         }
@@ -399,7 +400,7 @@ pub fn call_difference(library: &dyn Library, case: &CallCase) -> Option<String>
     let mut lent = Lent::new(case.room, &mut Numbers::new(case.line as u64));
     let answer = (case.function.call)(library, &case.arguments, &mut lent.now);
     let free = (case.function.free)(&case.written);
-    let words = lent.judge_bytes(answer, case.answer, &case.written, free)?;
+    let words = lent.judge_bytes(answer, case.answer, &case.written, &free)?;
     Some(format!("line {}, {}: {words}", case.line, case.function.name))
 }
 

@@ -281,6 +281,11 @@ pub fn acting(event: &Event) -> u8 {
     }
 }
 
+/// The event's name.
+pub fn event_name(event: &Event) -> &'static str {
+    EVENTS[event_place(event)]
+}
+
 fn event_place(event: &Event) -> usize {
     match event {
         Event::Crash(_) => 0,

@@ -1,4 +1,4 @@
-//! A second implementation of document 01 (coordinator election among cabinets) and of T-01 to T-08 of
+//! A second implementation of document 01 (coordinator election among cabinets) and of T-01 to T-09 of
 //! document 02, written from the papers alone, so that other implementations can be compared with it.
 //! Document 01's cabinet is called node here, and its book history.
 
@@ -20,6 +20,7 @@ pub mod numbers;
 pub mod print;
 pub mod proved;
 pub mod recovery_corners;
+pub mod round;
 pub mod sha256;
 pub mod short;
 pub mod shortest;

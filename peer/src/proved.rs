@@ -9,6 +9,8 @@ use crate::machine::{
 };
 use crate::numbers::Numbers;
 use crate::print::run_list;
+use crate::round::{self, bytes::turn_by};
+use std::ops::Range;
 
 pub const NODE_BYTES: usize = 29;
 pub const MESSAGE_BYTES: usize = 14;
@@ -61,6 +63,12 @@ pub trait Library {
     /// number, and out stays as it was: here 3, 4 or 5, where the field is none, come before 1. TOO_SHORT,
     /// which comes first, is for an out shorter than a table, and out stays as it was.
     fn bully_step(&self, table: &[u8], field: &[u8], out: &mut [u8]) -> u8;
+
+    /// A turn of the round (T-09) at the pair of a and b, on a table, which is read as in `step`. Accepted is 0,
+    /// and out begins with the table after it, the pair of the next turn, and what was done: 0 nothing, 1
+    /// delivered, 2 lost; what stands behind these stays as it was. A refusal is 1 or 7, and out stays as it was.
+    /// TOO_SHORT, which comes first, is for an out shorter than that, and out stays as it was.
+    fn turn(&self, table: &[u8], a: u8, b: u8, out: &mut [u8]) -> u8;
 }
 
 /// The proved library.
@@ -99,6 +107,14 @@ mod linked {
             out: *mut u8,
             out_len: usize,
         ) -> u8;
+        pub fn nevraspu_turn(
+            table: *const u8,
+            table_len: usize,
+            a: u8,
+            b: u8,
+            out: *mut u8,
+            out_len: usize,
+        ) -> u8;
     }
 }
 
@@ -133,6 +149,9 @@ mod linked {
         _: *mut u8,
         _: usize,
     ) -> u8 {
+        unreachable!()
+    }
+    pub unsafe fn nevraspu_turn(_: *const u8, _: usize, _: u8, _: u8, _: *mut u8, _: usize) -> u8 {
         unreachable!()
     }
 }
@@ -208,6 +227,13 @@ impl Library for Proved {
             )
         }
     }
+
+    fn turn(&self, table: &[u8], a: u8, b: u8, out: &mut [u8]) -> u8 {
+        // Safety: as above.
+        unsafe {
+            linked::nevraspu_turn(table.as_ptr(), table.len(), a, b, out.as_mut_ptr(), out.len())
+        }
+    }
 }
 
 /// This program's own machine behind the same boundary.
@@ -235,6 +261,10 @@ impl Library for Own {
 
     fn bully_step(&self, table: &[u8], field: &[u8], out: &mut [u8]) -> u8 {
         bully_step_by(bully::machine::step, table, field, out)
+    }
+
+    fn turn(&self, table: &[u8], a: u8, b: u8, out: &mut [u8]) -> u8 {
+        turn_by(round::driver::turn, table, (a, b), out)
     }
 }
 
@@ -392,20 +422,26 @@ pub fn same_table(a: &TableBytes, b: &TableBytes) -> bool {
             .all(|(ours, theirs)| message(ours) == message(theirs))
 }
 
-/// Puts random bytes into every place that is no part of the table: behind the nodes and the messages, and
-/// in what a message's kind does not carry.
-pub fn fill_unused(bytes: &mut TableBytes, numbers: &mut Numbers) {
+/// The places that are no part of a table: behind the nodes and the messages, and what a message's kind does not
+/// carry.
+pub fn unused(bytes: &TableBytes) -> Vec<Range<usize>> {
     let (nodes, messages) = parts(bytes);
-    numbers.fill(&mut bytes[nodes..MESSAGES_AT]);
-    numbers.fill(&mut bytes[messages..WAITING_AT]);
-    for message in bytes[MESSAGES_AT..messages].chunks_exact_mut(MESSAGE_BYTES) {
-        let unused = match message[2] {
+    let not_carried = (MESSAGES_AT..messages).step_by(MESSAGE_BYTES).map(|at| {
+        let Range { start, end } = match bytes[at + 2] {
             1 => 7..14,
             5 => 13..14,
             6 => 7..13,
             _ => 11..14,
         };
-        numbers.fill(&mut message[unused]);
+        at + start..at + end
+    });
+    [nodes..MESSAGES_AT, messages..WAITING_AT].into_iter().chain(not_carried).collect()
+}
+
+/// Puts random bytes into every place that is no part of the table.
+pub fn fill_unused(bytes: &mut TableBytes, numbers: &mut Numbers) {
+    for places in unused(bytes) {
+        numbers.fill(&mut bytes[places]);
     }
 }
 
@@ -481,7 +517,8 @@ fn message_to_bytes(message: &Message, bytes: &mut [u8; MESSAGE_BYTES]) {
     bytes[13] = u8::from(yes);
 }
 
-/// What the message's kind does not carry is read past.
+/// What the message's kind does not carry is read past. Yes or no is read by the lowest bit, as a status is by its
+/// remainder.
 fn message_from_bytes(bytes: &[u8; MESSAGE_BYTES]) -> Message {
     let group = four(&bytes[7..11]);
     Message {
@@ -494,7 +531,7 @@ fn message_from_bytes(bytes: &[u8; MESSAGE_BYTES]) -> Message {
             3 => Body::Invitation { group },
             4 => Body::Accept { group },
             5 => Body::Ready { group, task: two(&bytes[11..13]) },
-            6 => Body::Reply { yes: bytes[13] != 0 },
+            6 => Body::Reply { yes: bytes[13] % 2 == 1 },
             kind => Body::Unknown { kind },
         },
     }

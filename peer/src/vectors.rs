@@ -115,6 +115,22 @@ pub fn read_hex(word: &str) -> Option<Vec<u8>> {
     Some(bytes)
 }
 
+/// The same bytes in hex; from four zero bytes on their number is written.
+pub fn write_hex(bytes: &[u8]) -> String {
+    if bytes.is_empty() {
+        return "-".to_string();
+    }
+    let mut word = String::new();
+    for part in bytes.chunk_by(|a, b| (*a == 0) == (*b == 0)) {
+        if part[0] == 0 && part.len() >= 4 {
+            write!(word, "_{}_", part.len()).expect("a String takes it");
+        } else {
+            part.iter().for_each(|byte| write!(word, "{byte:02x}").expect("a String takes it"));
+        }
+    }
+    word
+}
+
 /// The parts of a case as its lines come.
 struct Draft {
     number: u32,

@@ -1,10 +1,12 @@
-//! The vectors' calls: how a line is read, what is compared, and the calls of T-04 and T-07 on this program's
-//! own machines.
+//! The vectors' calls: how a line is read, what is compared, and the calls of T-04, T-07 and T-09 on this
+//! program's own machines.
 
 mod functions;
 
 use functions::Functions;
-use peer::calls::{completed, none_free, read_calls, Arguments, Function, Takes, FUNCTIONS};
+use peer::calls::{
+    completed, none_free, read_calls, Arguments, CallCase, Function, Takes, FUNCTIONS,
+};
 use peer::compare::call_difference;
 use peer::machine::{Body, Message, Table, TOWER};
 use peer::proved::{table_to_bytes, Library, Own, COUNTS_AT, TABLE_BYTES};
@@ -172,6 +174,65 @@ fn bully_steps_of_the_vectors() {
     }
 }
 
+fn turns() -> Vec<CallCase> {
+    let file = Path::new(env!("CARGO_MANIFEST_DIR")).join("../tests/turns.txt");
+    read_calls(&std::fs::read_to_string(file).unwrap(), &FUNCTIONS).unwrap()
+}
+
+/// The vectors of T-09, with every answer of a turn, and everything that a turn does.
+#[test]
+fn turns_of_the_vectors() {
+    let cases = turns();
+    assert_eq!(cases.len(), 600);
+    for case in &cases {
+        assert_eq!(call_difference(&Own, case), None);
+        assert_eq!(case.written.len(), if case.answer == 0 { 4439 } else { 0 });
+    }
+    for answer in [0, 1, 7, 255] {
+        assert!(cases.iter().filter(|case| case.answer == answer).count() >= 20, "{answer}");
+    }
+    for done in [0, 1, 2] {
+        let does = |case: &&CallCase| case.written.last() == Some(&done);
+        assert!(cases.iter().filter(does).count() > 80, "{done}");
+    }
+}
+
+/// Of a turn, everything is compared that is part of the table, the next place and what was done; what stands
+/// behind the n records and behind the waiting messages is free, and what a message's kind does not carry.
+#[test]
+fn every_byte_of_a_turn_that_is_not_free_is_compared() {
+    let wrong = |place: usize| {
+        let turn = move |table: &[u8], a: u8, b: u8, out: &mut [u8]| {
+            let answer = Own.turn(table, a, b, out);
+            if answer == 0 {
+                out[place] ^= 1;
+            }
+            answer
+        };
+        Functions { turn: Box::new(turn), ..Functions::default() }
+    };
+    let cases = turns();
+    let many = |case: &&CallCase| case.written.len() == 4439 && case.written[1361] > 3;
+    let case = cases.iter().find(many).unwrap();
+    let (n, waiting) = (usize::from(case.written[0]), usize::from(case.written[1361]));
+    let mut free = [false; 4439];
+    free[1 + 29 * n..465].fill(true);
+    free[465 + 14 * waiting..1361].fill(true);
+    for at in (465..465 + 14 * waiting).step_by(14) {
+        // Group 7 to 10, task 11 to 12, yes 13.
+        let not_carried = match case.written[at + 2] {
+            1 => 7..14,
+            5 => 13..14,
+            6 => 7..13,
+            _ => 11..14,
+        };
+        free[at..][not_carried].fill(true);
+    }
+    for (place, free) in free.into_iter().enumerate() {
+        assert_eq!(call_difference(&wrong(place), case).is_none(), free, "{place}");
+    }
+}
+
 /// Of the bytes that out begins with, those that are free are not compared.
 #[test]
 fn free_bytes_are_not_compared() {
@@ -182,13 +243,14 @@ fn free_bytes_are_not_compared() {
             out[..5].copy_from_slice(&[1, 2, 3, 4, 5]);
             0
         },
-        free: |written| 1..written.len() - 1,
+        free: |written| vec![1..2, 3..written.len() - 1],
     }];
     let told = |line: &str| call_difference(&Own, &read_calls(line, &WRITER).unwrap()[0]);
-    assert_eq!(told("writes out 9 answer 0 0109090905"), None);
-    assert!(told("writes out 9 answer 0 0909090905").is_some());
-    assert!(told("writes out 9 answer 0 0109090909").is_some());
-    assert!(told("writes out 9 answer 0 01090904").is_some());
+    assert_eq!(told("writes out 9 answer 0 0109030905"), None);
+    assert!(told("writes out 9 answer 0 0909030905").is_some());
+    assert!(told("writes out 9 answer 0 0109090905").is_some());
+    assert!(told("writes out 9 answer 0 0109030909").is_some());
+    assert!(told("writes out 9 answer 0 01090304").is_some());
 }
 
 /// T-04's tables get counts, what waits of each pair was sent, and the tower's limits. One that was cut short is

@@ -22,7 +22,7 @@ fn time_to_go_on() {
     }
 }
 
-/// Both fuzzers go on to the end of the longer time where no corner is met often enough.
+/// The fuzzers go on to the end of the longer time where no corner is met often enough.
 #[test]
 fn fuzzers_go_on() {
     let asked = Duration::from_millis(100);
@@ -31,5 +31,8 @@ fn fuzzers_go_on() {
     assert!(start.elapsed() >= 4 * asked);
     let start = Instant::now();
     peer::bully::fuzzing::Fuzz::new(Own, 1).go_on(asked, u64::MAX);
+    assert!(start.elapsed() >= 4 * asked);
+    let start = Instant::now();
+    peer::round::fuzzing::Fuzz::new(Own, 1).go_on(asked, u64::MAX);
     assert!(start.elapsed() >= 4 * asked);
 }

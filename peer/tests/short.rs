@@ -5,7 +5,7 @@ use peer::list::write_event;
 use peer::machine::{step, Event, Table, TOWER};
 use peer::sha256::sha256;
 use peer::short::{alphabet, print, print_lists, read_input, Counts, REFUSAL};
-use peer::vectors::{read_hex, read_sums, read_wrong_inputs, table_text};
+use peer::vectors::{read_hex, read_sums, read_wrong_inputs, table_text, write_hex};
 use std::collections::BTreeMap;
 use std::fs::File;
 use std::io::Write;
@@ -257,6 +257,15 @@ fn bytes_in_hex() {
     assert_eq!(read_hex("01_2_0a_1_"), Some(vec![1, 0, 0, 10, 0]));
     for wrong in ["3", "0g", "_3", "01_x_", "01_2_a"] {
         assert_eq!(read_hex(wrong), None, "{wrong}");
+    }
+    for (bytes, word) in [
+        (&[][..], "-"),
+        (&[3, 0, 0, 0, 255], "03000000ff"),
+        (&[0, 0, 0, 0], "_4_"),
+        (&[1, 0, 0, 0, 0, 0, 10, 0], "01_5_0a00"),
+    ] {
+        assert_eq!(write_hex(bytes), word);
+        assert_eq!(read_hex(word), Some(bytes.to_vec()));
     }
 }
 

@@ -42,7 +42,7 @@ pub fn call(
     let room = lent.now.len().min(TABLE_BYTES);
     let number = Own.bully_step(table, field, &mut own[..room]);
     let written = if number == 0 { &own[..] } else { &[] };
-    match lent.judge_bytes(answer, number, written, free(written)) {
+    match lent.judge_bytes(answer, number, written, &[free(written)]) {
         None => Ok(answer),
         Some(words) => match (answer, lent.now.first_chunk()) {
             (0, Some(after)) => Err(format!(

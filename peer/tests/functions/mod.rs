@@ -7,6 +7,7 @@ type Print<'a> = Box<dyn Fn(&[u8], &mut [u8]) -> Option<usize> + 'a>;
 type Step<'a> = Box<dyn Fn(&[u8], &[u8], &mut [u8]) -> u8 + 'a>;
 type Fold<'a> = Box<dyn Fn(&[u8]) -> u32 + 'a>;
 type Recovery<'a> = Box<dyn Fn(&[u8], u8, &mut [u8]) -> u8 + 'a>;
+type Turn<'a> = Box<dyn Fn(&[u8], u8, u8, &mut [u8]) -> u8 + 'a>;
 
 /// What each takes and gives is said in `Library`.
 pub struct Functions<'a> {
@@ -15,6 +16,7 @@ pub struct Functions<'a> {
     pub fold: Fold<'a>,
     pub recovery: Recovery<'a>,
     pub bully_step: Step<'a>,
+    pub turn: Turn<'a>,
 }
 
 impl Default for Functions<'_> {
@@ -25,6 +27,7 @@ impl Default for Functions<'_> {
             fold: Box::new(|list| Own.fold(list)),
             recovery: Box::new(|table, node, out| Own.recovery(table, node, out)),
             bully_step: Box::new(|table, field, out| Own.bully_step(table, field, out)),
+            turn: Box::new(|table, a, b, out| Own.turn(table, a, b, out)),
         }
     }
 }
@@ -44,5 +47,8 @@ impl Library for Functions<'_> {
     }
     fn bully_step(&self, table: &[u8], field: &[u8], out: &mut [u8]) -> u8 {
         (self.bully_step)(table, field, out)
+    }
+    fn turn(&self, table: &[u8], a: u8, b: u8, out: &mut [u8]) -> u8 {
+        (self.turn)(table, a, b, out)
     }
 }
