@@ -1,10 +1,10 @@
 -- Laws of what is answered with a lent buffer b of `size` bytes, and of what it then holds.
 use Prim.Native.Nat.{ℕ, _≤_, _<_}
 use native.Mathlib.Omega.{arith}
-use mathlib.Core.Path.{_≡_, refl}
-use mathlib.Core.List.{List}
-use lib.ListN.{length, drop}
-use lib.Seq.{drop-at}
+use mathlib.Core.Path.{_≡_, refl, _∙_, ap}
+use mathlib.Core.List.{List, [], _++_, append-nil}
+use lib.ListN.{length, take, drop, drop-of-length-le}
+use lib.Seq.{drop-at, length-take-le}
 use borrow.Author.Tests.{lt-ltb, le-ltb, ltb-true, eqb-true, ne-eqb}
 use Rattle.model.specs.Pick.{pick-true, pick-false, by-test}
 use Rattle.event_list.specs.Format.{stopNumber}
@@ -33,6 +33,12 @@ module _ (size : ℕ) (b : List ℕ) (r : ℕ) (l : List ℕ) where
 
   pub behind-in : (r ≡ 0 → length l ≡ size) → drop size (bufferIn size b r l) ≡ drop size b
   behind-in h = by-test (λ (m : List ℕ). drop size m ≡ drop size b) (λ q. drop-at l (drop size b) size (h (eqb-true r 0 q))) (λ _. refl)
+
+-- l written over the first `size` bytes of b, as a part of it
+pub written-part : (size : ℕ) (b l m : List ℕ) → size ≤ length b → m ≡ l ++ drop size (take size b) → m ++ drop size b ≡ l ++ drop size b
+written-part size b l m h e =
+    let z : drop size (take size b) ≡ [] = drop-of-length-le (take size b) {i = size} (omega (arith, length-take-le size b h)) in
+    ap (λ (k : List ℕ). k ++ drop size b) (e ∙ ap (λ (k : List ℕ). l ++ k) z ∙ append-nil l)
 
 -- no ground of a field has the number 0
 pub refuses : (s : Stop) → stopNumber s ≡ 0 → ⊥

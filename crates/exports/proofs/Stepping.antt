@@ -43,8 +43,8 @@ module _ (t f b : List ℕ) where
     unfolding stepBytes
     event x i {e} {next} g u s o r a = record {
       number = q;
-      buffer = by-test (λ (l : List ℕ). o ≡ l) (λ y. let z = q ∙ eqb-true _ 0 y in a .whole z room ∙ ap (λ (v : State). stateBytes v ++ drop size b) after-it) (λ y. a .kept (λ z. eqb-false _ 0 y (sym q ∙ z)));
-      back = λ z. a .back z room ∙ after-it;
+      buffer = by-test (λ (l : List ℕ). o ≡ l) (λ y. let z = q ∙ eqb-true _ 0 y in a .whole z ∙ ap (λ (v : State). stateBytes v ++ drop size b) after-it) (λ y. a .kept (λ z. eqb-false _ 0 y (sym q ∙ z)));
+      back = λ z. a .back z ∙ after-it;
     }
       where
         w : nextAt f 0 ≡ Got e next

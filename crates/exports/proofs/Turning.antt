@@ -5,7 +5,7 @@ use mathlib.Core.Bool.{Bool, true, false}
 use mathlib.Core.Logic.{_⊎_, inl, inr, ⊎-elim}
 use mathlib.Core.Path.{_≡_, refl, sym, _∙_, ap, subst}
 use mathlib.Core.List.{List, [], _∷_, _++_, append-assoc}
-use lib.ListN.{length, take, drop, set, getD, length-append, length-drop, length-set}
+use lib.ListN.{length, take, drop, set, getD, length-append, length-drop}
 use lib.Seq.{drop-drop, drop-set-add, take-at, getD-append-add}
 use borrow.Author.Tests.{eq-eqb}
 use Rattle.model.specs.Pick.{pick-true}
@@ -71,10 +71,6 @@ table-behind : (l : List ℕ) (p : Place) (d : Done) → turnSize ≤ length l �
 unfolding written
 table-behind l p d h = written-behind 4436 l (p .sender) (p .receiver) (doneNumber d) h
 
-written-long : (l : List ℕ) (p : Place) (d : Done) → length (written l size (behindTable p d)) ≡ length l
-unfolding written
-written-long l p d = length-set (set (set l 4436 (p .sender)) 4437 (p .receiver)) 4438 (doneNumber d) ∙ length-set (set l 4436 (p .sender)) 4437 (p .receiver) ∙ length-set l 4436 (p .sender)
-
 -- and read back
 place-behind : (k m : List ℕ) (p : Place) (d : Done) → length k ≡ size → pair (getD (k ++ (behindTable p d ++ m)) size 0) (getD (k ++ (behindTable p d ++ m)) (size + 1) 0) ≡ p
 place-behind k m p d e =
@@ -116,23 +112,20 @@ module _ (t : List ℕ) (a b : ℕ) (l : List ℕ) where
         record {
           number = y .number ∙ sym e ∙ number-is;
           buffer =
-              y .whole zero size-m
+              y .whole zero
               ∙ ap (λ (k : List ℕ). stateBytes (view (q .table)) ++ k) behind-m
               ∙ sym (append-assoc (stateBytes (view (q .table))) (behindTable (q .place) (q .done)) (drop turnSize l))
               ∙ ap (λ (k : List ℕ). k ++ drop turnSize l) given
               ∙ sym (rw (eq-eqb (turnAnswer t a b l) 0 (sym number-is ∙ z), pick-true));
-          back = λ _. y .back zero size-m ∙ x .table;
+          back = λ _. y .back zero ∙ x .table;
           back-place = λ _.
-              ap (λ (k : List ℕ). pair (getD k size 0) (getD k (size + 1) 0)) (y .whole zero size-m ∙ ap (λ (k : List ℕ). stateBytes (view (q .table)) ++ k) behind-m)
+              ap (λ (k : List ℕ). pair (getD k size 0) (getD k (size + 1) 0)) (y .whole zero ∙ ap (λ (k : List ℕ). stateBytes (view (q .table)) ++ k) behind-m)
               ∙ place-behind (stateBytes (view (q .table))) (drop turnSize l) (q .place) (q .done) table-long
               ∙ x .place;
         }
       where
         zero : n ≡ 0
         zero = y .number ∙ sym e ∙ z
-
-        size-m : size ≤ length m
-        size-m = omega (arith, room, ap length w ∙ written-long l (q .place) (q .done))
 
         behind-m : drop size m ≡ behindTable (q .place) (q .done) ++ drop turnSize l
         behind-m = ap (drop size) w ∙ table-behind l (q .place) (q .done) room

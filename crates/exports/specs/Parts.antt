@@ -16,15 +16,14 @@ use Rattle.table_bytes.specs.Bytes.{size}
 use Rattle.exports.specs.Boundary.{stateOf, stateBytes}
 use Rattle.exports.specs.BullyBoundary as bully-boundary
 
--- the answer a, and the table t, given out in a buffer that held b: r is answered, and o is what the buffer then holds
+-- the answer a, and the table t, given out in a buffer that held b and has the room of a table: r is answered, and o is what the buffer then holds
 pub record Answered (a : Answer) (t : Table) (b o : List ℕ) (r : ℕ) : Type 0 where
   pub number : r ≡ answerNumber a
   pub kept : (r ≡ 0 → ⊥) → o ≡ b
-  -- where the buffer has the room of a table
-  pub whole : r ≡ 0 → size ≤ length b → o ≡ stateBytes (view t) ++ drop size b
-  pub back : r ≡ 0 → size ≤ length b → stateOf o ≡ view t
+  pub whole : r ≡ 0 → o ≡ stateBytes (view t) ++ drop size b
+  pub back : r ≡ 0 → stateOf o ≡ view t
 
--- the same of the Bully machine
+-- the same of the Bully machine, where the buffer has that room
 pub record BullyAnswered (a : bully-answer.Answer) (t : bully-table.Table) (b o : List ℕ) (r : ℕ) : Type 0 where
   pub number : r ≡ bully-answers.answerNumber a
   pub kept : (r ≡ 0 → ⊥) → o ≡ b

@@ -25,6 +25,7 @@ ghost use Prim.Native.Nat.{_≤_};
 ghost use lib.ListN.{length};
 ghost use Rattle.model.specs.State.{startingNode, noMessage, firstOf, view, tableOf};
 ghost use Rattle.event_list.specs.Format.{rest};
+ghost use Rattle.table_bytes.specs.Bytes.{size};
 ghost use Rattle.exports.specs.Boundary.{StepExported, RecoveryExported, plusAccepted, acceptedFrom, acceptedIn};
 ghost use Rattle.exports.specs.Parts.{Answered};
 
@@ -82,15 +83,16 @@ fn cleared(t: Table) -> Table
     }
 }
 
-// The number of an answer; where it is 0, the table is written to out.
+// The number of an answer; where it is 0, the table is written to out, over just the bytes that it needs: so the compiler knows how many there are, and tests no place.
 fn answered(answer: Answer, t: Table, out: &mut [u8]) -> u8
+    requires { ⌜ size ≤ length (now out) ⌝ }
     ensures { λ r. ⌜ Answered answer t (now (out .entry)) (now (out .exit)) r ⌝ }
 {
     let r = machine::answer_number(answer);
     if r != 0 {
         return r;
     }
-    table_bytes::encode(cleared(t), out);
+    table_bytes::encode(cleared(t), &mut out[..table_bytes::SIZE]);
     r
 }
 

@@ -131,7 +131,7 @@ read-back = record { long = encoded-long; decode-encode = decode-encode; decode-
 
 -- what `encode` leaves in a buffer
 pub stored : (t : Table) → Fits t → (b o : List ℕ) → o ≡ written b 0 (encoded t) → Stored t b o
-stored t h b o e = record { bytes = e; whole = λ room. e ∙ over t h b room; back = λ room. ap decoded e ∙ round-trip t h b room }
+stored t h b o e = record { bytes = e; whole = λ room. e ∙ over t h b room; back = λ room l. ap (λ (k : List ℕ). decoded (k ++ l)) (e ∙ over t h b room) ∙ ap decoded (append-assoc (encoded t) (drop size b) l) ∙ decode-more t h (drop size b ++ l) }
 
 -- ── eight records ──
 

@@ -133,8 +133,8 @@ pub record Stored (t : Table) (b o : List ℕ) : Type 0 where
   pub bytes : o ≡ written b 0 (encoded t)
   -- where b has room for all, they stand there whole, and behind them what was there
   pub whole : size ≤ length b → o ≡ encoded t ++ drop size b
-  -- and the very same table is read back
-  pub back : size ≤ length b → decoded o ≡ t
+  -- and the very same table is read back, whatever else stands behind its bytes
+  pub back : size ≤ length b → (l : List ℕ) → decoded (o ++ l) ≡ t
 
 -- ── the bytes of eight records (02, T-04), one after another ──
 
