@@ -16,7 +16,7 @@ use crate::list::{first_event, read_list, write_event, write_list, MAX_LIST};
 use crate::machine::{advance, step, Event, Limits, Table};
 use crate::numbers::Numbers;
 use crate::print::run_list;
-use crate::proved::{Library, RECORDS_BYTES, TABLE_BYTES};
+use crate::proved::{Library, Proved, RECORDS_BYTES, TABLE_BYTES};
 use crate::tables::{in_range, move_to_ends, scramble, spoil, to_check, to_recover};
 use crate::traffic_corners::BROKEN;
 use crate::traffic_tables::{break_counts, raise_to_calls, to_send, to_take_last};
@@ -27,8 +27,22 @@ pub const ENOUGH: u64 = 5;
 
 const SEED: u64 = 20_260;
 
+/// What each fuzzing program does: `fuzz` is given the library, the seed, the time, and how often each corner must be
+/// met, and gives how many comparisons passed and how many failed. With fewer seconds than `enough` no corner must.
+pub fn fuzzed(
+    program: &str,
+    enough: u64,
+    fuzz: impl FnOnce(Proved, u64, Duration, u64) -> (u64, u64),
+) -> Result<(u64, u64), String> {
+    let (seconds, seed) = seconds_and_seed(program)?;
+    let library = Proved::linked()?;
+    println!("seed {seed}");
+    let least = if seconds < enough { 0 } else { 1000 };
+    Ok(fuzz(library, seed, Duration::from_secs(seconds), least))
+}
+
 /// What a program is given that goes on for so long: SECONDS [SEED].
-pub fn seconds_and_seed(program: &str) -> Result<(u64, u64), String> {
+fn seconds_and_seed(program: &str) -> Result<(u64, u64), String> {
     let arguments: Vec<String> = std::env::args().skip(1).collect();
     let numbers: Option<Vec<u64>> = arguments.iter().map(|word| word.parse().ok()).collect();
     match numbers.as_deref() {

@@ -5,21 +5,13 @@
 //! times, up to four times as long in all; such a corner is then a failure. The exit code is 1 on a failure.
 
 use peer::ending::ended;
-use peer::fuzzing::{seconds_and_seed, Fuzz};
-use peer::proved::Proved;
+use peer::fuzzing::{fuzzed, Fuzz};
 use std::process::ExitCode;
-use std::time::Duration;
 
 fn main() -> ExitCode {
-    ended(run())
-}
-
-fn run() -> Result<(u64, u64), String> {
-    let (seconds, seed) = seconds_and_seed("fuzz")?;
-    let library = Proved::linked()?;
-    println!("seed {seed}");
-    let mut fuzz = Fuzz::new(library, seed);
-    let least = if seconds < 60 { 0 } else { 1000 };
-    fuzz.go_on(Duration::from_secs(seconds), least);
-    Ok(fuzz.tell(least))
+    ended(fuzzed("fuzz", 60, |library, seed, time, least| {
+        let mut fuzz = Fuzz::new(library, seed);
+        fuzz.go_on(time, least);
+        fuzz.tell(least)
+    }))
 }

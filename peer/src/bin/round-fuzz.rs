@@ -6,22 +6,14 @@
 //! corner is then a failure. The exit code is 1 on a failure.
 
 use peer::ending::ended;
-use peer::fuzzing::seconds_and_seed;
-use peer::proved::Proved;
+use peer::fuzzing::fuzzed;
 use peer::round::fuzzing::Fuzz;
 use std::process::ExitCode;
-use std::time::Duration;
 
 fn main() -> ExitCode {
-    ended(run())
-}
-
-fn run() -> Result<(u64, u64), String> {
-    let (seconds, seed) = seconds_and_seed("round-fuzz")?;
-    let library = Proved::linked()?;
-    println!("seed {seed}");
-    let mut fuzz = Fuzz::new(library, seed);
-    let least = if seconds < 10 { 0 } else { 1000 };
-    fuzz.go_on(Duration::from_secs(seconds), least);
-    Ok(fuzz.tell(least))
+    ended(fuzzed("round-fuzz", 10, |library, seed, time, least| {
+        let mut fuzz = Fuzz::new(library, seed);
+        fuzz.go_on(time, least);
+        fuzz.tell(least)
+    }))
 }
