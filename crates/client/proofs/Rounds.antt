@@ -2,17 +2,16 @@
 use Prim.Native.Nat.{ℕ, zero, suc, _+_, _-_, _*_, _≤_, _<_}
 use native.Mathlib.Nat.{mul-le-mul-right}
 use native.Mathlib.Omega.{arith}
-use mathlib.Core.Path.{_≡_, refl, sym, _∙_, ap, subst}
+use mathlib.Core.Path.{_≡_, refl, _∙_, ap, subst}
 use mathlib.Core.List.{List, [], _∷_, _++_}
 use lib.ListN.{replicate}
-use borrow.Author.Tests.{ltb-true}
-use Rattle.model.specs.State.{waiting, view}
+use Rattle.model.specs.State.{view}
 use Rattle.model.specs.declared.Table.{Table}
 use Rattle.round.specs.Order.{roundSize}
 use Rattle.round.specs.Schedule.{Move, turn, turns}
 use Rattle.round.specs.declared.Place.{Place}
 use Rattle.round.specs.declared.TurnOutcome.{TurnOutcome}
-use Rattle.round.proofs.PairQueues.{waits-some}
+use Rattle.round.proofs.PairQueues.{waits-positive}
 use Rattle.driver.specs.Turned.{Turned}
 use Rattle.driver.specs.Scheduled.{Scheduled, none, turned, stepped}
 use Rattle.driver.proofs.Chains.{code-round}
@@ -44,10 +43,12 @@ rounded t p u q d =
     record {
       next = q;
       turned = d;
-      oldest-gone = λ x a b w.
-          let h = code-round .counted d a b 0 x (ltb-true 0 (waiting (view t .queue) a b) (sym (waits-some a b (view t .queue)) ∙ w)) (omega (arith, turns-all (roundSize (t .n)))) in
-          omega (arith, h);
+      oldest-gone = λ x a b w. code-round .gone d a b 0 x (waits-positive a b (view t .queue) w) enough;
+      counted = λ x a b w. omega (arith, code-round .counted d a b 0 x (waits-positive a b (view t .queue) w) enough);
     }
+  where
+    enough : (0 + 1) * roundSize (t .n) ≤ turns (replicate (roundSize (t .n)) turn)
+    enough = omega (arith, turns-all (roundSize (t .n)))
 
 -- the pairs of up to 255 nodes fit 16 bits
 pub few-pairs : (n : ℕ) → n ≤ 255 → n * (n - 1) < 65536

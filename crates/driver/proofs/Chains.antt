@@ -3,9 +3,8 @@ use Prim.Native.Nat.{ℕ, _+_, _-_, _≤_, _<_}
 use native.Mathlib.Omega.{arith}
 use mathlib.Core.Path.{_≡_, refl, sym, _∙_, ap, subst}
 use mathlib.Core.List.{List, [], _∷_}
-use lib.ListN.{length}
 use Rattle.model.specs.Counts.{countAt}
-use Rattle.model.specs.State.{State, view}
+use Rattle.model.specs.State.{State, oldest, view}
 use Rattle.model.specs.Step.{accepted, step, runFrom}
 use Rattle.model.specs.Answers.{answerNumber, resultNumber}
 use Rattle.model.specs.declared.Table.{Table}
@@ -25,7 +24,7 @@ use Rattle.round.specs.declared.Place.{Place}
 use Rattle.round.specs.declared.Done.{Done}
 use Rattle.round.specs.declared.Done.the-variants.{Delivered, Lost}
 use Rattle.round.specs.declared.TurnOutcome.{TurnOutcome}
-use Rattle.round.proofs.Turns.{Does, idles, loses, passes-on, turn-cases, turn-is, turn-rules, lose-accepted}
+use Rattle.round.proofs.Turns.{Does, idles, loses, passes-on, turn-cases, turn-is, turn-rules, event-accepted, lose-accepted}
 use Rattle.round.proofs.Schedules.{turn-event, round-of-the-cable}
 use Rattle.round.proofs.Driver.{in-range-not-one}
 use Rattle.driver.specs.Turned.{Turned}
@@ -52,6 +51,8 @@ pub code-round : CodeRound
 code-round =
     record {
       drives = drives;
+      takes-oldest = λ {t} {a} {b} {r} x y w.
+          turn-rules .takes-oldest (view t) a b y w ∙ ap (λ (s : State). oldest a b (view t .queue) ∷ pairQueue (s .queue) a b) (sym (x .table));
       gone = λ {t} {u} {p} {q} {ms} d a b k x w h. ap (λ (s : State). pairQueue (s .queue) a b) (tables d) ∙ round-of-the-cable .gone (view t) p a b k ms x w h;
       counted = λ {t} {u} {p} {q} {ms} d a b k x w h.
           subst (λ (s : State). countAt (t .delivered) a b + countAt (t .lost) a b + k < countAt (s .delivered) a b + countAt (s .lost) a b) (sym (tables d))
@@ -100,49 +101,38 @@ module _ {t : Table} {p : Place} {r : TurnOutcome} (x : Turned t p r) where
       by (loses y w d) = folds-by (Lose (p .sender) (p .receiver)) _ _ (lose-accepted (view t) (p .sender) (p .receiver) y w) (ap (λ (z : Turn). eventOf p (doneIn z)) d)
       by (passes-on u k q d) = folds-by (Deliver (p .sender) (p .receiver)) u k q (ap (λ (z : Turn). eventOf p (doneIn z)) d)
 
-scheduled-folds : {t u : Table} {p q : Place} {ms : List Move} → Scheduled t p ms u q → Folded t (eventsOf (drive (view t) p) ms) u
+schedudriver-folds : {t u : Table} {p q : Place} {ms : List Move} → Scheduled t p ms u q → Folded t (eventsOf (drive (view t) p) ms) u
 unfolding eventsOf
-scheduled-folds none = Folded.none
-scheduled-folds {u = u} (turned {r = r} {ms = ms} x d) =
-    folded-append (turn-folds x) (subst (λ (e : Drive). Folded (r .table) (eventsOf e ms) u) (turned-drive x) (scheduled-folds d))
-scheduled-folds {u = u} (stepped {p = p} {r = r} {ms = ms} x d) =
-    Folded.more x (subst (λ (s : State). Folded (r .table) (eventsOf (drive s p) ms) u) (x .table) (scheduled-folds d))
+schedudriver-folds none = Folded.none
+schedudriver-folds {u = u} (turned {r = r} {ms = ms} x d) =
+    folded-append (turn-folds x) (subst (λ (e : Drive). Folded (r .table) (eventsOf e ms) u) (turned-drive x) (schedudriver-folds d))
+schedudriver-folds {u = u} (stepped {p = p} {r = r} {ms = ms} x d) =
+    Folded.more x (subst (λ (s : State). Folded (r .table) (eventsOf (drive s p) ms) u) (x .table) (schedudriver-folds d))
 
-led-folds : (t : Table) (es : List Event) (u : Table) → ByDriver t es u → Folded t es u
-led-folds t es u l = subst (λ (fs : List Event). Folded t fs u) (sym (l .events)) (scheduled-folds (l .led))
+driver-folds : (t : Table) (es : List Event) (u : Table) → ByDriver t es u → Folded t es u
+driver-folds t es u l = subst (λ (fs : List Event). Folded t fs u) (sym (l .events)) (schedudriver-folds (l .schedule))
 
 -- a turn with a number is that refusal
 refused-by : (x : Turn) (r : ℕ) → 1 ≤ r → r ≡ turnNumber x → x ≡ turnRefused r
 refused-by (turnRefused k) r l h = ap turnRefused (sym h)
 refused-by (turnAccepted u q d) r l h = absurd (omega (arith, l, h))
 
--- one that does something is accepted
-done-accepted : {t : Table} {p : Place} {r : TurnOutcome} (x : Turned t p r) (d : Done) (e : Event) → r .done ≡ d → eventOf p d ≡ e ∷ [] → r .answer ≡ Accepted
-done-accepted {t} {p} {r} x d e q z = by (turnAt (view t) p) refl
-  where
-    none-apart : [] ≡ e ∷ [] → ⊥
-    none-apart w = let y : _≡_ {A = ℕ} 0 1 = ap length w in omega (arith, y)
-
-    by : (y : Turn) → turnAt (view t) p ≡ y → r .answer ≡ Accepted
-    by (turnRefused k) h = absurd (none-apart (ap (eventOf p) (sym (ap doneIn h) ∙ sym (x .done) ∙ q) ∙ z))
-    by (turnAccepted u v k) h = answer-known (r .answer) Accepted (x .answer ∙ ap turnNumber h)
-
 -- a turn that did d, which is the event e
 does-step : {t : Table} {p : Place} {r : TurnOutcome} (x : Turned t p r) (d : Done) (e : Event) → r .done ≡ d → eventOf p d ≡ e ∷ [] → Stepped t e (record { table = r .table; answer = r .answer })
 does-step {t} {p} {r} x d e q z =
     let w = ap (eventOf p) (sym (x .done) ∙ q) ∙ z in
     let m = turn-rules .accepts (view t) p e w in
-    subst (λ (a : Answer). Stepped t e (record { table = r .table; answer = a })) (sym (done-accepted x d e q z)) (one-step x e (m .state) (m .mark) (m .is) w)
+    subst (λ (a : Answer). Stepped t e (record { table = r .table; answer = a })) (sym (answer-known (r .answer) Accepted (x .answer ∙ event-accepted (turnAt (view t) p) p e w))) (one-step x e (m .state) (m .mark) (m .is) w)
 
 pub code-driver-runs : CodeDriverRuns
 code-driver-runs =
     record {
       delivers = λ {t} {p} x q. does-step x Delivered (Deliver (p .sender) (p .receiver)) q refl;
       loses = λ {t} {p} x q. does-step x Lost (Lose (p .sender) (p .receiver)) q refl;
-      folds = led-folds;
-      runs = chain-runs ByDriver led-folds;
-      fixes = chain-fixes ByDriver led-folds;
-      both = chain-both ByDriver led-folds;
+      folds = driver-folds;
+      runs = chain-runs ByDriver driver-folds;
+      fixes = chain-fixes ByDriver driver-folds;
+      both = chain-both ByDriver driver-folds;
       never-one = λ n l m {es} {u} {q} {r} c x a.
-          in-range-not-one (view u) q (chain-runs ByDriver led-folds .in-range n l m es u c) (refused-by (turnAt (view u) q) 1 (omega arith) (sym (ap answerNumber a) ∙ x .answer));
+          in-range-not-one (view u) q (chain-runs ByDriver driver-folds .in-range n l m es u c) (refused-by (turnAt (view u) q) 1 (omega arith) (sym (ap answerNumber a) ∙ x .answer));
     }

@@ -34,7 +34,7 @@ module _ {t : Table} {p : Place} {r : TurnOutcome} (x : Turned t p r) where
   answers : (a : Answer) → turnAt (view t) p ≡ turnRefused (answerNumber a) → r .answer ≡ a
   answers a e = answer-known (r .answer) a (x .answer ∙ ap turnNumber e)
 
-  -- where it is taken
+  -- where it is accepted
   module _ {u : State} {q : Place} {d : Done} (e : turnAt (view t) p ≡ turnAccepted u q d) where
     accepts : r .answer ≡ Accepted
     accepts = answer-known (r .answer) Accepted (x .answer ∙ ap turnNumber e)

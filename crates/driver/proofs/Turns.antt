@@ -39,10 +39,10 @@ use Rattle.driver.specs.Parts.{outcome, Losing}
 
 -- ── what a turn returns ──
 
--- a turn that is taken, with the table v after it
-took : (t : Table) (p : Place) {u : State} {q : Place} {d : Done} (v : Table) (r : TurnOutcome)
+-- a turn that is accepted, with the table v after it
+accepted-turn : (t : Table) (p : Place) {u : State} {q : Place} {d : Done} (v : Table) (r : TurnOutcome)
     → turnAt (view t) p ≡ turnAccepted u q d → view v ≡ u → (d ≡ Nothing → v ≡ t) → r ≡ outcome v q d Accepted → Turned t p r
-took t p {u} {q} {d} v r e z s o =
+accepted-turn t p {u} {q} {d} v r e z s o =
     subst (Turned t p) (sym o)
     (record { answer = sym (ap turnNumber e); table = z ∙ sym (ap (tableAfter (view t)) e); place = sym (ap (placeAfter p) e); done = sym (ap doneIn e); same = s })
 
@@ -53,7 +53,7 @@ refuses t p a r e o =
     (record { answer = sym (ap turnNumber e); table = sym (ap (tableAfter (view t)) e); place = sym (ap (placeAfter p) e); done = sym (ap doneIn e); same = λ _. refl })
 
 pub stays-alone : (t : Table) (p : Place) (r : TurnOutcome) → turnAt (view t) p ≡ turnAccepted (view t) p Nothing → r ≡ outcome t p Nothing Accepted → Turned t p r
-stays-alone t p r e o = took t p t r e refl (λ _. refl) o
+stays-alone t p r e o = accepted-turn t p t r e refl (λ _. refl) o
 
 pub lost-not-nothing : Lost ≡ Nothing → ⊥
 lost-not-nothing e = let z : _≡_ {A = ℕ} 0 1 = cc in omega arith
@@ -101,13 +101,13 @@ module _ (t : Table) (p : Place) (x : AtPair (view t) p) where
 
   -- no message
   pub nothing : (q : Place) (r : TurnOutcome) → waits (p .sender) (p .receiver) (view t .queue) ≡ false → q ≡ nextPair (t .n) p → r ≡ outcome t q Nothing Accepted → Turned t p r
-  nothing q r w e o = took t p t r (turn-rules .no-message (view t) (p .sender) (p .receiver) x w) refl (λ _. refl) (o ∙ ap (λ (q : Place). outcome t q Nothing Accepted) e)
+  nothing q r w e o = accepted-turn t p t r (turn-rules .no-message (view t) (p .sender) (p .receiver) x w) refl (λ _. refl) (o ∙ ap (λ (q : Place). outcome t q Nothing Accepted) e)
 
   -- a delivery that is accepted
   pub delivered : (q : Place) (o : Outcome) (r : TurnOutcome) → Stepped t (Deliver (p .sender) (p .receiver)) o → isAccepted (o .answer) ≡ true → q ≡ nextPair (t .n) p
       → r ≡ outcome (o .table) q Delivered Accepted → Turned t p r
   delivered q o r s i e z =
-      took t p (o .table) r
+      accepted-turn t p (o .table) r
       (turn-rules .delivers (view t) (p .sender) (p .receiver) (view (o .table)) _ x (accepted-alike .model-accepts s (is-accepted (o .answer) i)))
       refl (λ n. absurd (delivered-not-nothing n)) (z ∙ ap (λ (q : Place). outcome (o .table) q Delivered Accepted) e)
 
@@ -126,4 +126,4 @@ module _ (t : Table) (p : Place) (x : AtPair (view t) p) where
 -- the loss itself
 pub lost : (t : Table) (p q : Place) (o : Outcome) (r : TurnOutcome) → Losing t p q → Stepped t (Lose (p .sender) (p .receiver)) o → r ≡ outcome (o .table) q Lost Accepted → Turned t p r
 lost t p q o r l s z =
-    took t p (o .table) r (l .turn) (s .table ∙ ap (kept (view t)) (lose-accepted (view t) (p .sender) (p .receiver) (l .looks) (l .waits))) (λ n. absurd (lost-not-nothing n)) z
+    accepted-turn t p (o .table) r (l .turn) (s .table ∙ ap (kept (view t)) (lose-accepted (view t) (p .sender) (p .receiver) (l .looks) (l .waits))) (λ n. absurd (lost-not-nothing n)) z

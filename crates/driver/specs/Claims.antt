@@ -1,13 +1,14 @@
 -- What is claimed of the tables that the code's turns and steps return: they are those of the model's schedules, T-09's claim holds of them, and so do demand 3, the traffic and
 -- the range. The proofs are in proofs/Chains.
 use Prim.Native.Nat.{ℕ, _+_, _-_, _*_, _≤_, _<_}
+use mathlib.Core.Bool.{true}
 use mathlib.Core.Path.{_≡_}
-use mathlib.Core.List.{List, _++_}
+use mathlib.Core.List.{List, _∷_, _++_}
 use lib.ListN.{drop}
 use Rattle.model.specs.Limits.{nodeLimit}
 use Rattle.model.specs.Counts.{countAt}
 use Rattle.model.specs.Range.{TwoPairs}
-use Rattle.model.specs.State.{view}
+use Rattle.model.specs.State.{waits, oldest, view}
 use Rattle.model.specs.Claims.{MayStart}
 use Rattle.model.specs.declared.Limits.{Limits}
 use Rattle.model.specs.declared.Table.{Table}
@@ -17,7 +18,7 @@ use Rattle.model.specs.declared.Answer.the-variants.{Accepted, NotInRange}
 use Rattle.machine.specs.Stepped.{Stepped}
 use Rattle.machine.specs.Claims.{Reached, CodeRuns, CodeFixes, CodeTowerAndStand}
 use Rattle.machine.specs.Folded.{Folded}
-use Rattle.round.specs.Order.{roundSize}
+use Rattle.round.specs.Order.{pair, roundSize}
 use Rattle.round.specs.Schedule.{Move, turns, drive, driven, pairQueue, Waits, messageAt, outIn, cameInBy}
 use Rattle.round.specs.Claims.{AtPair}
 use Rattle.round.specs.declared.Place.{Place}
@@ -40,6 +41,9 @@ pub record TurnedAlike : Type 0 where
 pub record CodeRound : Type 0 where
   -- the tables and places are those of the model's schedule
   pub drives : {t u : Table} {p q : Place} {ms : List Move} → Scheduled t p ms u q → drive (view u) q ≡ driven (drive (view t) p) ms
+  -- a turn at a pair with a waiting message takes out the oldest, and leaves the others of the pair as they were
+  pub takes-oldest : {t : Table} {a b : ℕ} {r : TurnOutcome} → Turned t (pair a b) r → AtPair (view t) (pair a b) → waits a b (view t .queue) ≡ true
+      → pairQueue (view t .queue) a b ≡ oldest a b (view t .queue) ∷ pairQueue (view (r .table) .queue) a b
   -- "a message with k older ones of its own pair is no longer waiting after (k + 1) × n × (n − 1) turns": all that wait of its pair in u stood after it in t, or came in since
   pub gone : {t u : Table} {p q : Place} {ms : List Move} → Scheduled t p ms u q → (a b k : ℕ) → AtPair (view t) p → Waits (view t .queue) a b k → (k + 1) * roundSize (t .n) ≤ turns ms
       → pairQueue (view u .queue) a b

@@ -22,5 +22,5 @@ pub record ByDriver (t : Table) (es : List Event) (u : Table) : Type 0 where
   pub place : Place
   pub moves : List Move
   pub next : Place
-  pub led : Scheduled t place moves u next
+  pub schedule : Scheduled t place moves u next
   pub events : es ≡ eventsOf (drive (view t) place) moves

@@ -1,7 +1,7 @@
 // The driver of T-09 over a table, by value: a turn of the round, for any table and any place.
 ghost use mathlib.Core.Path.{_≡_};
 ghost use mathlib.Core.Bool.{true};
-ghost use Prim.Native.Nat.{ℕ, _≤_};
+ghost use Prim.Native.Nat.{_≤_};
 ghost use Rattle.model.specs.State.{view, waits};
 ghost use Rattle.round.specs.Order as order;
 ghost use Rattle.round.specs.Turn as spec;

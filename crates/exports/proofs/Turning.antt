@@ -1,4 +1,4 @@
--- The promise of `nevraspu_turn` by its cases: too little room, a refusal, and a turn that is taken; and the claims `TurnClaims`.
+-- The promise of `nevraspu_turn` by its cases: too little room, a refusal, and a turn that is accepted; and the claims `TurnClaims`.
 use Prim.Native.Nat.{ℕ, _+_, _≤_, _<_}
 use native.Mathlib.Omega.{arith}
 use mathlib.Core.Bool.{Bool, true, false}
@@ -23,7 +23,7 @@ use Rattle.round.specs.Turn.{Turn, turnRefused, turnAccepted, turnAt, turnNumbe
 use Rattle.round.specs.declared.Place.{Place}
 use Rattle.round.specs.declared.Done.{Done}
 use Rattle.round.specs.declared.TurnOutcome.{TurnOutcome}
-use Rattle.round.proofs.Turns.{turn-rules}
+use Rattle.round.proofs.Turns.{turn-rules, event-accepted}
 use Rattle.round.proofs.Schedules.{turn-event}
 use Rattle.driver.specs.Turned.{Turned}
 use Rattle.exports.specs.Boundary.{stateOf, stateBytes, fieldNumber, fieldAfter, stepNumber, stepBytes}
@@ -42,7 +42,7 @@ turn-number (turnAccepted u q d) f = inl refl
 numbers : (t : List ℕ) (a b : ℕ) → (turnNumber (turnOn t a b) ≡ 0) ⊎ ((turnNumber (turnOn t a b) ≡ 1) ⊎ (turnNumber (turnOn t a b) ≡ 7))
 numbers t a b = turn-number (turnOn t a b) (turn-rules .numbers (stateOf t) (pair a b))
 
--- a turn that is taken is on a table in range, and leaves one
+-- a turn that is accepted is on a table in range, and leaves one
 in-range : (s : State) (p : Place) → turnNumber (turnAt s p) ≡ 0 → inRange s ≡ true
 in-range s p z = by (inRange s) refl
   where
@@ -69,7 +69,7 @@ written-behind k l x y z h =
 
 table-behind : (l : List ℕ) (p : Place) (d : Done) → turnSize ≤ length l → drop size (written l size (behindTable p d)) ≡ behindTable p d ++ drop turnSize l
 unfolding written
-table-behind l p d h = written-behind 4436 l (p .sender) (p .receiver) (doneNumber d) h
+table-behind l p d h = written-behind size l (p .sender) (p .receiver) (doneNumber d) h
 
 -- and read back
 place-behind : (k m : List ℕ) (p : Place) (d : Done) → length k ≡ size → pair (getD (k ++ (behindTable p d ++ m)) size 0) (getD (k ++ (behindTable p d ++ m)) (size + 1) 0) ≡ p
@@ -106,9 +106,9 @@ module _ (t : List ℕ) (a b : ℕ) (l : List ℕ) where
     pub refused : (r ≡ 0 → ⊥) → TurnExported t a b l l r
     refused h = kept-by r number-is h
 
-    pub took : r ≡ 0 → (m o : List ℕ) (n : ℕ) → m ≡ written l size (behindTable (q .place) (q .done)) → Answered (q .answer) (q .table) m o n → TurnExported t a b l o n
+    pub accepted-turn : r ≡ 0 → (m o : List ℕ) (n : ℕ) → m ≡ written l size (behindTable (q .place) (q .done)) → Answered (q .answer) (q .table) m o n → TurnExported t a b l o n
     unfolding turnBytes
-    took z m o n w y =
+    accepted-turn z m o n w y =
         record {
           number = y .number ∙ sym e ∙ number-is;
           buffer =
@@ -168,14 +168,6 @@ module _ (t : List ℕ) (a b : ℕ) (l : List ℕ) where
       ap (take size) (bytes-are z ∙ append-assoc (stateBytes (tableAfter (stateOf t) (turnOn t a b))) (behindTable (placeAfter (pair a b) (turnOn t a b)) (doneIn (turnOn t a b))) (drop turnSize l))
       ∙ take-at (stateBytes (tableAfter (stateOf t) (turnOn t a b))) _ size (table-long z)
 
--- a turn that is an event is accepted
-does-zero : (x : Turn) (p : Place) (e : Event) → eventOf p (doneIn x) ≡ e ∷ [] → turnNumber x ≡ 0
-does-zero (turnRefused r) p e q = absurd (none-apart (ap length q))
-  where
-    none-apart : _≡_ {A = ℕ} 0 1 → ⊥
-    none-apart z = omega (arith, z)
-does-zero (turnAccepted u q d) p e z = refl
-
 -- a turn's event, as a field for the step
 module _ (t : List ℕ) (a b : ℕ) (l m : List ℕ) (e : Event) (f : List ℕ) (room : size ≤ length m) (z : turnAnswer t a b l ≡ 0) (x : eventOf (pair a b) (doneIn (turnOn t a b)) ≡ e ∷ []) (k : ℕ) (g : nextAt f 0 ≡ Got e k) where
   good : inRange (stateOf t) ≡ true
@@ -209,6 +201,6 @@ turn-claims =
       behind = λ t a b l. behind-in turnSize l (turnAnswer t a b l) (turnGiven (stateOf t) (pair a b) (turnOn t a b)) (given-long t a b l);
       not-in-range = λ t a b l h r. long t a b l h ∙ ap turnNumber (turn-rules .not-in-range (stateOf t) (pair a b) r);
       as-step = λ t a b l m e f k h room x g.
-          let z = long t a b l h ∙ does-zero (turnOn t a b) (pair a b) e x in
+          let z = long t a b l h ∙ event-accepted (turnOn t a b) (pair a b) e x in
           (z, step-zero t a b l m e f room z x k g, same-table t a b l m e f room z x k g);
     }

@@ -23,7 +23,7 @@ pub record Answered (a : Answer) (t : Table) (b o : List ℕ) (r : ℕ) : Type 0
   pub whole : r ≡ 0 → o ≡ stateBytes (view t) ++ drop size b
   pub back : r ≡ 0 → stateOf o ≡ view t
 
--- the same of the Bully machine, where the buffer has that room
+-- the same of the Bully machine; `whole` and `back` ask that the buffer has the room
 pub record BullyAnswered (a : bully-answer.Answer) (t : bully-table.Table) (b o : List ℕ) (r : ℕ) : Type 0 where
   pub number : r ≡ bully-answers.answerNumber a
   pub kept : (r ≡ 0 → ⊥) → o ≡ b

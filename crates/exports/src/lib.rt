@@ -83,7 +83,7 @@ fn cleared(t: Table) -> Table
     }
 }
 
-// The number of an answer; where it is 0, the table is written to out, over just the bytes that it needs: so the compiler knows how many there are, and tests no place.
+// The number of an answer; where it is 0, the table is written to out, over just the bytes that it needs: so that the compiler knows their number and leaves out the test of each place.
 fn answered(answer: Answer, t: Table, out: &mut [u8]) -> u8
     requires { ⌜ size ≤ length (now out) ⌝ }
     ensures { λ r. ⌜ Answered answer t (now (out .entry)) (now (out .exit)) r ⌝ }

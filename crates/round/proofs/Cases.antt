@@ -98,9 +98,16 @@ round-cases =
       twelve = becomes-loss _ _ 1 2 refl refl 12 (inl refl) refl;
       not-twelve = delivers _ _ 1 2 refl refl _ _ refl;
       thirteen = becomes-loss _ _ 1 2 refl refl 13 (inr (inl refl)) refl;
+      not-thirteen = delivers _ _ 1 2 refl refl _ _ refl;
       seventeen =
           turn-rules .becomes-loss (past 2 1 33554430 0 (cases.pair Normal none Idle question)) 1 2 17
           (record { in-range = past-in (cases.pair Normal none Idle question) 2 1 33554430 0 (waiting-in TwoPairs 2 tower _ _ refl refl refl) refl (omega arith); in-round = refl })
           (inr (inr refl)) (traffic-cases .at-end-reply);
+      not-seventeen =
+          turn-rules .delivers (past 2 1 33554429 0 (cases.pair Normal none Idle question)) 1 2 _ _
+          (record { in-range = past-in (cases.pair Normal none Idle question) 2 1 33554429 0 (waiting-in TwoPairs 2 tower _ _ refl refl refl) refl (omega arith); in-round = refl })
+          (known-is (past 2 1 33554429 0 (cases.pair Normal none Idle question)) (Deliver 1 2) (past-in (cases.pair Normal none Idle question) 2 1 33554429 0 (waiting-in TwoPairs 2 tower _ _ refl refl refl) refl (omega arith)));
+      oldest-lost = turn-rules .down _ 1 2 (record { in-range = waiting-in TwoPairs 2 tower _ _ refl refl refl; in-round = refl }) refl refl;
+      full = delivers _ _ 1 2 refl refl _ _ refl;
       done-numbers = refl;
     }

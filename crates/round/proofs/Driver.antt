@@ -13,21 +13,20 @@ use Rattle.model.specs.Step.{step, runBy}
 use Rattle.model.specs.Claims.{RunHolds}
 use Rattle.model.proofs.TowerAndStand.{tower-and-stand}
 use Rattle.model.specs.declared.Limits.{Limits}
-use Rattle.model.specs.declared.Status.{Status}
 use Rattle.model.specs.declared.Status.the-variants.{Normal}
 use Rattle.model.specs.declared.Event.{Event}
 use Rattle.round.specs.Turn.{Turn, turnRefused, turnGrounds, lookedAt, turnAt}
 use Rattle.round.specs.Schedule.{Move, drive}
 use Rattle.round.specs.Claims.{tableBy, eventsBy, DriverHolds, DriverRuns}
 use Rattle.round.specs.declared.Place.{Place}
-use Rattle.round.proofs.Turns.{taken-apart}
+use Rattle.round.proofs.Turns.{turn-apart}
 use Rattle.round.proofs.Schedules.{schedule-is-run}
 
 -- a turn on a table in range does not meet 1
 pub in-range-not-one : (s : State) (p : Place) → inRange s ≡ true → turnAt s p ≡ turnRefused 1 → ⊥
 unfolding turnAt turnGrounds lookedAt judged
 in-range-not-one s p r =
-    by-test P (λ e _. true≢false (sym e ∙ ap not r)) (λ _. by-test P (λ _ q. one-apart q) (λ _. by-test P (λ _ q. taken-apart q) (λ _ q. taken-apart q)))
+    by-test P (λ e _. true≢false (sym e ∙ ap not r)) (λ _. by-test P (λ _ q. one-apart q) (λ _. by-test P (λ _ q. turn-apart q) (λ _ q. turn-apart q)))
   where
     P : Turn → Type 0
     P t = t ≡ turnRefused 1 → ⊥
@@ -42,9 +41,6 @@ module _ (r : PairRule) (n : ℕ) (lim : Limits) (h : RunHolds r n lim) where
   in-range : (p : Place) (ms : List Move) → inRange (tableBy r n lim p ms) ≡ true
   in-range p ms = ap inRange (is-run p ms) ∙ h .in-range (eventsBy r n lim p ms)
 
-  normal-active : (s : Status) → s ≡ Normal → isActive s ≡ true
-  normal-active s e = ap isActive e
-
   agree : (s : State) (es : List Event) → s ≡ runBy r n lim es → (i j : ℕ) → 1 ≤ i → i ≤ n → 1 ≤ j → j ≤ n → nodeAt s i .status ≡ Normal → nodeAt s j .status ≡ Normal
       → nodeAt s i .group .number ≡ nodeAt s j .group .number → (nodeAt s i .coordinator ≡ nodeAt s j .coordinator) × (nodeAt s i .task .number ≡ nodeAt s j .task .number)
   agree s es z =
@@ -53,9 +49,9 @@ module _ (r : PairRule) (n : ℕ) (lim : Limits) (h : RunHolds r n lim) where
       → nodeAt s i .group .number ≡ nodeAt s j .group .number → (nodeAt s i .coordinator ≡ nodeAt s j .coordinator) × (nodeAt s i .task .number ≡ nodeAt s j .task .number))
       (sym z)
       (λ i j a b c d p q g.
-      (h .fixes .same-coordinator es i j a b c d (normal-active _ p) (normal-active _ q) g, h .fixes .same-task es i j a b c d p q g))
+      (h .fixes .same-coordinator es i j a b c d (ap isActive p) (ap isActive q) g, h .fixes .same-task es i j a b c d p q g))
 
-  pub driver-holds : DriverHolds r n lim
+  driver-holds : DriverHolds r n lim
   driver-holds =
       record {
         is-run = is-run;

@@ -34,7 +34,7 @@ is-pair n p x =
     simp (le-leb 1 _ (x .sender-low), le-leb _ n (x .sender-high), le-leb 1 _ (x .receiver-low), le-leb _ n (x .receiver-high), ne-eqb _ _ (x .other))
 
 -- two pairs with the same numbers
-same-pair : (p q : Place) → p .sender ≡ q .sender → p .receiver ≡ q .receiver → p ≡ q
+pub same-pair : (p q : Place) → p .sender ≡ q .sender → p .receiver ≡ q .receiver → p ≡ q
 same-pair p q s r = ap (λ (a : ℕ). pair a (p .receiver)) s ∙ ap (pair (q .sender)) r
 
 -- what is known of a number by the side of another on which it stands
@@ -114,51 +114,51 @@ from-start n l q (start c f h k) = refl
 -- ── where a pair stands in the round, counted from 0 ──
 
 -- where the receiver b stands among the others of a
-seat : ℕ → ℕ → ℕ
-seat a b = pick (ltb b a) (b - 1) (b - 2)
+receiverRank : ℕ → ℕ → ℕ
+receiverRank a b = pick (ltb b a) (b - 1) (b - 2)
 
 rank : ℕ → Place → ℕ
-rank n p = (p .sender - 1) * (n - 1) + seat (p .sender) (p .receiver)
+rank n p = (p .sender - 1) * (n - 1) + receiverRank (p .sender) (p .receiver)
 
-seat-low : (a b : ℕ) → b < a → seat a b ≡ b - 1
-unfolding seat
-seat-low a b h = by-test (λ k. k ≡ b - 1) (λ _. refl) (λ e. omega (arith, ltb-false b a e))
+receiver-rank-low : (a b : ℕ) → b < a → receiverRank a b ≡ b - 1
+unfolding receiverRank
+receiver-rank-low a b h = by-test (λ k. k ≡ b - 1) (λ _. refl) (λ e. omega (arith, ltb-false b a e))
 
-seat-high : (a b : ℕ) → a < b → seat a b ≡ b - 2
-unfolding seat
-seat-high a b h = by-test (λ k. k ≡ b - 2) (λ e. omega (arith, ltb-true b a e)) (λ _. refl)
+receiver-rank-high : (a b : ℕ) → a < b → receiverRank a b ≡ b - 2
+unfolding receiverRank
+receiver-rank-high a b h = by-test (λ k. k ≡ b - 2) (λ e. omega (arith, ltb-true b a e)) (λ _. refl)
 
-rank-is : (n a b : ℕ) → rank n (pair a b) ≡ (a - 1) * (n - 1) + seat a b
+rank-is : (n a b : ℕ) → rank n (pair a b) ≡ (a - 1) * (n - 1) + receiverRank a b
 unfolding rank
 rank-is n a b = refl
 
-seat-in : (n : ℕ) (p : Place) → IsPair n p → seat (p .sender) (p .receiver) + 1 ≤ n - 1
-seat-in n p x =
-    by-side (p .sender) (p .receiver) (x .other) (λ h. omega (arith, seat-low (p .sender) (p .receiver) h, x)) (λ h. omega (arith, seat-high (p .sender) (p .receiver) h, x))
+receiver-rank-in : (n : ℕ) (p : Place) → IsPair n p → receiverRank (p .sender) (p .receiver) + 1 ≤ n - 1
+receiver-rank-in n p x =
+    by-side (p .sender) (p .receiver) (x .other) (λ h. omega (arith, receiver-rank-low (p .sender) (p .receiver) h, x)) (λ h. omega (arith, receiver-rank-high (p .sender) (p .receiver) h, x))
 
-seat-apart : (a b c : ℕ) → (b ≡ a → ⊥) → (c ≡ a → ⊥) → 1 ≤ b → 1 ≤ c → 1 ≤ a → seat a b ≡ seat a c → b ≡ c
-seat-apart a b c x y i j k e =
+receiver-rank-apart : (a b c : ℕ) → (b ≡ a → ⊥) → (c ≡ a → ⊥) → 1 ≤ b → 1 ≤ c → 1 ≤ a → receiverRank a b ≡ receiverRank a c → b ≡ c
+receiver-rank-apart a b c x y i j k e =
     by-side a b x
-    (λ h. by-side a c y (λ l. omega (arith, seat-low a b h, seat-low a c l)) (λ l. omega (arith, seat-low a b h, seat-high a c l)))
-    (λ h. by-side a c y (λ l. omega (arith, seat-high a b h, seat-low a c l)) (λ l. omega (arith, seat-high a b h, seat-high a c l)))
+    (λ h. by-side a c y (λ l. omega (arith, receiver-rank-low a b h, receiver-rank-low a c l)) (λ l. omega (arith, receiver-rank-low a b h, receiver-rank-high a c l)))
+    (λ h. by-side a c y (λ l. omega (arith, receiver-rank-high a b h, receiver-rank-low a c l)) (λ l. omega (arith, receiver-rank-high a b h, receiver-rank-high a c l)))
 
 -- a row of n - 1 more
 row : (n a : ℕ) → 1 ≤ a → a * (n - 1) ≡ (a - 1) * (n - 1) + (n - 1)
 row n a h = let e : a ≡ suc (a - 1) = omega arith in ap (_* (n - 1)) e ∙ suc-mul (a - 1) (n - 1)
 
 rank-first : (n : ℕ) → rank n (pair 1 2) ≡ 0
-rank-first n = omega (arith, rank-is n 1 2, seat-high 1 2 (omega arith))
+rank-first n = omega (arith, rank-is n 1 2, receiver-rank-high 1 2 (omega arith))
 
 rank-in : (n : ℕ) (p : Place) → IsPair n p → rank n p < roundSize n
 rank-in n p x =
-    omega (arith, rank-is n (p .sender) (p .receiver), seat-in n p x, row n (p .sender) (x .sender-low), mul-le-mul-right {m = p .sender} {n = n} (n - 1) (x .sender-high))
+    omega (arith, rank-is n (p .sender) (p .receiver), receiver-rank-in n p x, row n (p .sender) (x .sender-low), mul-le-mul-right {m = p .sender} {n = n} (n - 1) (x .sender-high))
 
 -- a receiver after which there is none is the last of its row
-row-end : (n : ℕ) (p : Place) → IsPair n p → (c : ℕ) → Follows (p .sender) (p .receiver) c → n < c → seat (p .sender) (p .receiver) + 1 ≡ n - 1
-row-end n p x c (inl z) h = omega (arith, z .0, z .1, h, seat-low (p .sender) (p .receiver) (omega (arith, z .0)), x .receiver-low, x .sender-high)
+row-end : (n : ℕ) (p : Place) → IsPair n p → (c : ℕ) → Follows (p .sender) (p .receiver) c → n < c → receiverRank (p .sender) (p .receiver) + 1 ≡ n - 1
+row-end n p x c (inl z) h = omega (arith, z .0, z .1, h, receiver-rank-low (p .sender) (p .receiver) (omega (arith, z .0)), x .receiver-low, x .sender-high)
 row-end n p x c (inr z) h =
     by-side (p .sender) (p .receiver) (x .other) (λ l. absurd (omega (arith, z .1, h, l, x .sender-high)))
-    (λ l. omega (arith, z .1, h, l, seat-high (p .sender) (p .receiver) l, x .receiver-high, x .sender-low))
+    (λ l. omega (arith, z .1, h, l, receiver-rank-high (p .sender) (p .receiver) l, x .receiver-high, x .sender-low))
 
 -- the next pair stands one further on, or p is the last and it is the first
 next-rank : (n : ℕ) (p : Place) → IsPair n p → (q : Place) → Next n p q → (rank n q ≡ rank n p + 1) ⊎ ((rank n p + 1 ≡ roundSize n) × (q ≡ pair 1 2))
@@ -170,13 +170,13 @@ next-rank n p x q (receiver c f h) = inl (omega (arith, rank-is n a b, rank-is n
     b : ℕ
     b = p .receiver
 
-    one : Follows a b c → seat a c ≡ seat a b + 1
-    one (inl z) = omega (arith, z .0, z .1, seat-low a b (omega (arith, z .0)), seat-high a c (omega (arith, z .0, z .1)), x .receiver-low)
+    one : Follows a b c → receiverRank a c ≡ receiverRank a b + 1
+    one (inl z) = omega (arith, z .0, z .1, receiver-rank-low a b (omega (arith, z .0)), receiver-rank-high a c (omega (arith, z .0, z .1)), x .receiver-low)
     one (inr z) =
-        by-side a b (x .other) (λ l. omega (arith, z .1, seat-low a b l, seat-low a c (omega (arith, z .0, z .1, l)), x .receiver-low))
-        (λ l. omega (arith, z .1, seat-high a b l, seat-high a c (omega (arith, z .1, l)), x .sender-low, l))
+        by-side a b (x .other) (λ l. omega (arith, z .1, receiver-rank-low a b l, receiver-rank-low a c (omega (arith, z .0, z .1, l)), x .receiver-low))
+        (λ l. omega (arith, z .1, receiver-rank-high a b l, receiver-rank-high a c (omega (arith, z .1, l)), x .sender-low, l))
 next-rank n p x q (sender c f h l) =
-    inl (omega (arith, rank-is n (p .sender) (p .receiver), rank-is n (p .sender + 1) 1, seat-low (p .sender + 1) 1 (omega (arith, x .sender-low)), row n (p .sender) (x .sender-low), row-end n p x c f h, plus-one))
+    inl (omega (arith, rank-is n (p .sender) (p .receiver), rank-is n (p .sender + 1) 1, receiver-rank-low (p .sender + 1) 1 (omega (arith, x .sender-low)), row n (p .sender) (x .sender-low), row-end n p x c f h, plus-one))
   where
     plus-one : (p .sender + 1 - 1) * (n - 1) ≡ p .sender * (n - 1)
     plus-one = let e : p .sender + 1 - 1 ≡ p .sender = omega arith in ap (_* (n - 1)) e
@@ -193,12 +193,12 @@ rank-apart : (n : ℕ) (p q : Place) → IsPair n p → IsPair n q → rank n p 
 rank-apart n p q x y e =
     let s : p .sender ≡ q .sender = omega (arith, not-below (below p q x y e), not-below (below q p y x (sym e))) in
     same-pair p q s
-    (seat-apart (p .sender) (p .receiver) (q .receiver) (x .other) (λ z. y .other (z ∙ s)) (x .receiver-low) (y .receiver-low) (x .sender-low)
-    (omega (arith, e, rank-is n (p .sender) (p .receiver), rank-is n (q .sender) (q .receiver), ap (λ (a : ℕ). (a - 1) * (n - 1)) s, ap (λ (a : ℕ). seat a (q .receiver)) s)))
+    (receiver-rank-apart (p .sender) (p .receiver) (q .receiver) (x .other) (λ z. y .other (z ∙ s)) (x .receiver-low) (y .receiver-low) (x .sender-low)
+    (omega (arith, e, rank-is n (p .sender) (p .receiver), rank-is n (q .sender) (q .receiver), ap (λ (a : ℕ). (a - 1) * (n - 1)) s, ap (λ (a : ℕ). receiverRank a (q .receiver)) s)))
   where
     below : (p q : Place) → IsPair n p → IsPair n q → rank n p ≡ rank n q → p .sender < q .sender → ⊥
     below p q x y e h =
-        omega (arith, e, rank-is n (p .sender) (p .receiver), rank-is n (q .sender) (q .receiver), seat-in n p x, row n (p .sender) (x .sender-low), mul-le-mul-right {m = p .sender} {n = q .sender - 1} (n - 1) (omega arith))
+        omega (arith, e, rank-is n (p .sender) (p .receiver), rank-is n (q .sender) (q .receiver), receiver-rank-in n p x, row n (p .sender) (x .sender-low), mul-le-mul-right {m = p .sender} {n = q .sender - 1} (n - 1) (omega arith))
 
 -- ── how many turns a pair is ahead ──
 gap : ℕ → ℕ → ℕ → ℕ
@@ -229,9 +229,6 @@ pub next-valid : (n : ℕ) (p : Place) → IsPair n p → IsPair n (nextPair n p
 next-valid n p x = next-in n p x (nextPair n p) (next-is n p)
 
 module _ (n : ℕ) (p : Place) (x : IsPair n p) where
-  i : ℕ
-  i = rank n p
-
   ranked : (rank n (nextPair n p) ≡ rank n p + 1) ⊎ ((rank n p + 1 ≡ roundSize n) × (nextPair n p ≡ pair 1 2))
   ranked = next-rank n p x (nextPair n p) (next-is n p)
 

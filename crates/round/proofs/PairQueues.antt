@@ -7,7 +7,7 @@ use mathlib.Core.List.{List, [], _∷_, _++_, append-nil, append-assoc}
 use lib.Dec.{eqb, ltb}
 use lib.ListN.{length, getD, drop, length-append, length-drop, List·getD-append}
 use lib.Seq.{drop-append-le, getD-drop, drop-drop}
-use borrow.Author.Tests.{eqb-true, lt-ltb}
+use borrow.Author.Tests.{eqb-true, ltb-true, lt-ltb}
 use Rattle.model.specs.Pick.{pick, pick-true, pick-false}
 use Rattle.model.specs.Counts.{countAt, one}
 use Rattle.model.specs.State.{State, noMessage, goes, waits, oldest, withoutOldest, howMany, waiting}
@@ -38,6 +38,9 @@ waits-some a b (m ∷ ms) = by (goes a b m) (waits-some a b ms)
 
 pub some-waits : (a b : ℕ) (q : List Message) → 0 < waiting q a b → waits a b q ≡ true
 some-waits a b q h = waits-some a b q ∙ lt-ltb 0 (waiting q a b) h
+
+pub waits-positive : (a b : ℕ) (q : List Message) → waits a b q ≡ true → 0 < waiting q a b
+waits-positive a b q w = ltb-true 0 (waiting q a b) (sym (waits-some a b q) ∙ w)
 
 pick-append : (t : Bool) (m : Message) (x y z : List Message) → x ≡ y ++ z → pick t (m ∷ x) x ≡ pick t (m ∷ y) y ++ z
 unfolding pick

@@ -8,7 +8,7 @@ use mathlib.Core.List.{List, [], _∷_, _++_, append-assoc}
 use lib.Dec.{eqb, leb}
 use lib.ListN.{length, drop, replicate}
 use lib.Seq.{drop-append-le, drop-drop}
-use borrow.Author.Tests.{eqb-true, eq-eqb, leb-true, leb-false}
+use borrow.Author.Tests.{eqb-true, leb-true, leb-false}
 use Rattle.model.specs.Pick.{by-test}
 use Rattle.model.specs.Counts.{countAt, one}
 use Rattle.model.specs.State.{State, oldest, inRange}
@@ -31,9 +31,9 @@ use Rattle.round.specs.Claims.{AtPair, ScheduleIsRun, RoundOfTheCable}
 use Rattle.round.specs.declared.Place.{Place}
 use Rattle.round.specs.declared.Done.{Done}
 use Rattle.round.specs.declared.Done.the-variants.{Nothing, Delivered, Lost}
-use Rattle.round.proofs.Order.{IsPair, pair-is, is-pair, next-valid, ahead, ahead-in, ahead-none, ahead-nearer, ahead-again}
+use Rattle.round.proofs.Order.{IsPair, pair-is, is-pair, same-pair, next-valid, ahead, ahead-in, ahead-none, ahead-nearer, ahead-again}
 use Rattle.round.proofs.PairQueues.{some-waits, oldest-first, out-by-counts}
-use Rattle.round.proofs.Turns.{turn-is, takes-one}
+use Rattle.round.proofs.Turns.{same-two, turn-is, takes-one}
 
 -- ── a schedule is its events ──
 
@@ -45,12 +45,12 @@ turn-event s p = judged-by turnRefused P (lookedAt s p) (turnGrounds s p) (λ _.
     P : Turn → Type 0
     P t = tableAfter s t ≡ runFrom s (eventOf p (doneIn t))
 
-pub move-events : (d : Drive) (m : Move) → moved d m .table ≡ runFrom (d .table) (moveEvents d m)
+move-events : (d : Drive) (m : Move) → moved d m .table ≡ runFrom (d .table) (moveEvents d m)
 unfolding runFrom
 move-events d turn = turn-event (d .table) (d .place)
 move-events d (event e) = refl
 
-pub schedule-events : (d : Drive) (ms : List Move) → driven d ms .table ≡ runFrom (d .table) (eventsOf d ms)
+schedule-events : (d : Drive) (ms : List Move) → driven d ms .table ≡ runFrom (d .table) (eventsOf d ms)
 unfolding driven eventsOf runFrom
 schedule-events d [] = refl
 schedule-events d (m ∷ ms) =
@@ -59,7 +59,7 @@ schedule-events d (m ∷ ms) =
     ∙ sym (run-append (d .table) (moveEvents d m) (eventsOf (moved d m) ms))
 
 -- one schedule behind another
-pub events-append : (d : Drive) (ms ns : List Move) → eventsOf d (ms ++ ns) ≡ eventsOf d ms ++ eventsOf (driven d ms) ns
+events-append : (d : Drive) (ms ns : List Move) → eventsOf d (ms ++ ns) ≡ eventsOf d ms ++ eventsOf (driven d ms) ns
 unfolding eventsOf driven
 events-append d [] ns = refl
 events-append d (m ∷ ms) ns =
@@ -136,16 +136,11 @@ here a b p = eqb (p .sender) a && eqb (p .receiver) b
 here-is : (a b : ℕ) (p : Place) → here a b p ≡ true → p ≡ pair a b
 unfolding here
 here-is a b p q =
-    let u = eqb-true (p .sender) a (both-left (eqb (p .sender) a) _ q) in
-    let v = eqb-true (p .receiver) b (both-right (eqb (p .sender) a) _ q) in
-    ap (λ (i : ℕ). pair i (p .receiver)) u ∙ ap (pair a) v
+    same-pair p (pair a b) (eqb-true (p .sender) a (both-left (eqb (p .sender) a) _ q)) (eqb-true (p .receiver) b (both-right (eqb (p .sender) a) _ q))
 
 not-here : (a b : ℕ) (p : Place) → here a b p ≡ false → p ≡ pair a b → ⊥
 unfolding here
-not-here a b p q e = true≢false (sym (ap (λ (p : Place). eqb (p .sender) a && eqb (p .receiver) b) e ∙ both) ∙ q)
-  where
-    both : eqb a a && eqb b b ≡ true
-    both = rw (eq-eqb a a refl, eq-eqb b b refl)
+not-here a b p q e = true≢false (sym (ap (λ (p : Place). eqb (p .sender) a && eqb (p .receiver) b) e ∙ same-two a b) ∙ q)
 
 -- a turn takes one of the pair out at most, and none at another pair
 takes-at : (a b : ℕ) (s : State) (p : Place) (d : Done) → outOf a b s (eventOf p d) ≤ one (here a b p)

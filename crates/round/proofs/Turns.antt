@@ -8,7 +8,7 @@ use mathlib.Core.List.{List, [], _∷_, _++_, append-nil}
 use lib.Dec.{eqb}
 use lib.ListN.{length, getD, drop}
 use lib.Seq.{set-getD}
-use borrow.Author.Tests.{eqb-true, eqb-false, ltb-true, eq-eqb, ne-eqb, not-false}
+use borrow.Author.Tests.{eqb-true, eqb-false, eq-eqb, ne-eqb, not-false}
 use Rattle.model.specs.Pick.{pick, by-test}
 use Rattle.model.specs.Limits.{counterEnd, callEnd}
 use Rattle.model.specs.Counts.{one, oneMore}
@@ -35,14 +35,14 @@ use Rattle.model.specs.declared.Mark.the-variants.{Plain}
 use Rattle.model.specs.declared.Event.{Event}
 use Rattle.model.specs.declared.Event.the-variants.{Deliver, Lose}
 use Rattle.round.specs.Order.{pair, isInRound, nextPair}
-use Rattle.round.specs.Turn.{meetsEnd, turnDoes, eventOf, Turn, turnRefused, turnAccepted, turnGrounds, lookedAt, turnAt, tableAfter, doneIn}
+use Rattle.round.specs.Turn.{meetsEnd, turnDoes, eventOf, Turn, turnRefused, turnAccepted, turnGrounds, lookedAt, turnAt, turnNumber, tableAfter, doneIn}
 use Rattle.round.specs.Schedule.{pairQueue, outOf}
 use Rattle.round.specs.Claims.{AtPair, withLoss, TurnRules}
 use Rattle.round.specs.declared.Place.{Place}
 use Rattle.round.specs.declared.Done.{Done}
 use Rattle.round.specs.declared.Done.the-variants.{Nothing, Delivered, Lost}
 use Rattle.round.proofs.Order.{IsPair, pair-is}
-use Rattle.round.proofs.PairQueues.{waits-some, queue-append, queue-size, queue-first, queue-without}
+use Rattle.round.proofs.PairQueues.{waits-positive, queue-append, queue-size, queue-first, queue-without}
 
 -- ── refusals, and n = 1 ──
 not-in-range : (s : State) (p : Place) → inRange s ≡ false → turnAt s p ≡ turnRefused 1
@@ -61,13 +61,13 @@ no-pair s p h e q = rw (h, ne-eqb (s .n) 1 e, q)
 refused-same : {a b : ℕ} → turnRefused a ≡ turnRefused b → a ≡ b
 refused-same q = cc
 
-pub taken-apart : {u : State} {q : Place} {d : Done} {r : ℕ} → turnAccepted u q d ≡ turnRefused r → ⊥
-taken-apart e = let z : _≡_ {A = ℕ} 0 1 = cc in omega arith
+pub turn-apart : {u : State} {q : Place} {d : Done} {r : ℕ} → turnAccepted u q d ≡ turnRefused r → ⊥
+turn-apart e = let z : _≡_ {A = ℕ} 0 1 = cc in omega arith
 
 numbers : (s : State) (p : Place) (r : ℕ) → turnAt s p ≡ turnRefused r → (r ≡ 1) ⊎ (r ≡ 7)
 unfolding turnAt turnGrounds lookedAt judged
 numbers s p r =
-    by-test P (λ _ q. inl (sym (refused-same q))) (λ _. by-test P (λ _ q. inr (sym (refused-same q))) (λ _. by-test P (λ _ q. absurd (taken-apart q)) (λ _ q. absurd (taken-apart q))))
+    by-test P (λ _ q. inl (sym (refused-same q))) (λ _. by-test P (λ _ q. inr (sym (refused-same q))) (λ _. by-test P (λ _ q. absurd (turn-apart q)) (λ _ q. absurd (turn-apart q))))
   where
     P : Turn → Type 0
     P t = t ≡ turnRefused r → (r ≡ 1) ⊎ (r ≡ 7)
@@ -81,8 +81,11 @@ turn-is s p x = rw (x .in-range, ne-eqb (s .n) 1 (λ e. single e (pair-is (s .n)
     single e y = y .other (omega (arith, e, y .sender-low, y .sender-high, y .receiver-low, y .receiver-high))
 
 -- which does d
-pub turn-does : (s : State) (p : Place) (d : Done) → AtPair s p → turnDoes s p ≡ d → turnAt s p ≡ turnAccepted (runFrom s (eventOf p d)) (nextPair (s .n) p) d
+turn-does : (s : State) (p : Place) (d : Done) → AtPair s p → turnDoes s p ≡ d → turnAt s p ≡ turnAccepted (runFrom s (eventOf p d)) (nextPair (s .n) p) d
 turn-does s p d x e = turn-is s p x ∙ ap (λ (d : Done). turnAccepted (runFrom s (eventOf p d)) (nextPair (s .n) p) d) e
+
+pub same-two : (a b : ℕ) → eqb a a && eqb b b ≡ true
+same-two a b = rw (eq-eqb a a refl, eq-eqb b b refl)
 
 -- ── a message waits ──
 module _ (s : State) (a b : ℕ) (x : AtPair s (pair a b)) (w : waits a b (s .queue) ≡ true) where
@@ -212,16 +215,16 @@ module _ (s : State) (a b : ℕ) (x : AtPair s (pair a b)) (w : waits a b (s .qu
         by (passes e) = e
 
   -- one goes out
-  same-two : one (eqb a a && eqb b b) ≡ 1
-  same-two = rw (eq-eqb a a refl, eq-eqb b b refl)
+  one-same : one (eqb a a && eqb b b) ≡ 1
+  one-same = ap one (same-two a b)
 
   lose-takes : outOf a b s (Lose a b ∷ []) ≡ 1
   unfolding tally
-  lose-takes = rw lose-accepted (omega (arith, same-two))
+  lose-takes = rw lose-accepted (omega (arith, one-same))
 
   deliver-takes : isDown (nodeAt s b .status) ≡ false → meetsEnd (step s (Deliver a b)) ≡ false → outOf a b s (Deliver a b ∷ []) ≡ 1
   unfolding tally
-  deliver-takes u h = rw (delivered-accepted u h) (omega (arith, same-two))
+  deliver-takes u h = rw (delivered-accepted u h) (omega (arith, one-same))
 
   does-take : outOf a b s (eventOf (pair a b) (turnDoes s (pair a b))) ≡ 1
   unfolding turnDoes
@@ -312,12 +315,17 @@ turn-cases s p = by-range (inRange s) refl
     by-range false r = idles (ap doneIn (not-in-range s p r))
     by-range true r = by-pair r _ _ refl refl
 
+none-apart : {e : Event} → [] ≡ e ∷ [] → ⊥
+none-apart z = let y : _≡_ {A = ℕ} 0 1 = ap length z in omega (arith, y)
+
+-- a turn that is an event is accepted
+pub event-accepted : (x : Turn) (p : Place) (e : Event) → eventOf p (doneIn x) ≡ e ∷ [] → turnNumber x ≡ 0
+event-accepted (turnRefused r) p e q = absurd (none-apart q)
+event-accepted (turnAccepted u v d) p e q = refl
+
 accepts : (s : State) (p : Place) (e : Event) → eventOf p (doneIn (turnAt s p)) ≡ e ∷ [] → Accepts s e
 accepts s p e q = by (turn-cases s p)
   where
-    none-apart : [] ≡ e ∷ [] → ⊥
-    none-apart z = let y : _≡_ {A = ℕ} 0 1 = ap length z in omega (arith, y)
-
     first-same : {f : Event} → f ∷ [] ≡ e ∷ [] → f ≡ e
     first-same z = cc
 
@@ -332,7 +340,7 @@ whole-queue : (q : List Message) (a b : ℕ) → waits a b q ≡ true → pairQu
 whole-queue q a b w = by (pairQueue q a b) (queue-first a b q) some
   where
     some : 0 < length (pairQueue q a b)
-    some = omega (arith, queue-size a b q, ltb-true 0 (waiting q a b) (sym (waits-some a b q) ∙ w))
+    some = omega (arith, queue-size a b q, waits-positive a b q w)
 
     by : (l : List Message) → getD l 0 noMessage ≡ oldest a b q → 0 < length l → l ≡ oldest a b q ∷ drop 1 l
     by [] e h = absurd (omega (arith, h))

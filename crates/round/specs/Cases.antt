@@ -1,19 +1,28 @@
--- Single rounds and single turns: both sides of each rule of T-09. The tables with two nodes are those of model/specs/Cases: node 1 is Normal in its own group, and node 2 is given.
+-- Single rounds and single turns, for each rule of T-09. The tables with two nodes are those of model/specs/Cases: node 1 is Normal in its own group, and node 2 is given.
 use Prim.Native.Nat.{ℕ}
 use mathlib.Core.Bool.{false}
 use mathlib.Core.Path.{_≡_}
-use mathlib.Core.List.{List, [], _∷_, map}
+use mathlib.Core.List.{List, [], _∷_, _++_, map}
 use Rattle.model.specs.Limits.{tower}
 use Rattle.model.specs.State.{State, start, allWaiting}
-use Rattle.model.specs.Cases.{beside, node, none, past, invitation, question, plain, reply, only, withCounts}
+use Rattle.model.specs.Cases.{beside, node, none, past, invitation, question, plain, reply, queued, only, withCounts}
 use Rattle.model.specs.Cases as cases
 use Rattle.model.specs.Counts.{noCounts}
-use Rattle.model.specs.declared.Status.the-variants.{Down, Normal}
-use Rattle.model.specs.declared.Activity.the-variants.{Idle, Contacting}
+use Rattle.model.specs.Node.{asks, calls}
+use Rattle.model.specs.declared.Status.the-variants.{Down, Election, Normal}
+use Rattle.model.specs.declared.Activity.the-variants.{Idle, Contacting, Accepting}
+use Rattle.model.specs.declared.CallNo.{CallNo}
+use Rattle.model.specs.declared.GroupNo.{GroupNo}
 use Rattle.round.specs.Order.{pair, roundSize, nextPair, inOrder}
 use Rattle.round.specs.Turn.{turnRefused, turnAccepted, turnAt, doneNumber}
 use Rattle.round.specs.declared.Place.{Place}
 use Rattle.round.specs.declared.Done.the-variants.{Nothing, Delivered, Lost}
+
+abbrev callNo : ℕ → CallNo
+callNo k = record { number = k }
+
+abbrev groupNo : ℕ → GroupNo
+groupNo g = record { number = g }
 
 -- the two numbers of each pair
 abbrev pub numbersOf : List Place → List (List ℕ)
@@ -82,8 +91,16 @@ pub record RoundCases : Type 0 where
   pub not-twelve : turnAt (contacting 1048574) (pair 1 2) ≡ turnAccepted (past 1 2 1 0 (beside (node Normal 1048575 16777201 2 2 none 3 Idle) [])) (pair 2 1) Delivered
   -- 13: the invitation of a node that has no call left to accept it
   pub thirteen : turnAt (calledAt 16777215) (pair 1 2) ≡ turnAccepted (past 1 2 0 1 (beside (node Normal 2 33 2 100 none 16777215 Idle) [])) (pair 2 1) Lost
+  pub not-thirteen : turnAt (calledAt 16777214) (pair 1 2)
+      ≡ turnAccepted (past 1 2 1 0 (beside (node Election 2 16 1 100 none 16777215 (Accepting 1 (callNo 3))) (calls 2 4 1 (callNo 16777215) (groupNo 16) ∷ []))) (pair 2 1) Delivered
   -- 17: the question of a node to which no reply can be sent
   pub seventeen : turnAt (past 2 1 33554430 0 (cases.pair Normal none Idle question)) (pair 1 2)
       ≡ turnAccepted (past 1 2 0 1 (past 2 1 33554430 0 (cases.pair Normal none Idle []))) (pair 2 1) Lost
+  pub not-seventeen : turnAt (past 2 1 33554429 0 (cases.pair Normal none Idle question)) (pair 1 2)
+      ≡ turnAccepted (past 1 2 1 0 (past 2 1 33554429 0 (cases.pair Normal none Idle plain))) (pair 2 1) Delivered
+  -- the oldest of two goes, and the other stays
+  pub oldest-lost : turnAt (cases.pair Down none Idle (asks 1 2 (callNo 2) ∷ question)) (pair 1 2) ≡ turnAccepted (past 1 2 0 1 (cases.pair Down none Idle question)) (pair 2 1) Lost
+  -- with 64 waiting a delivery passes, though node 2 replies
+  pub full : turnAt (cases.pair Normal none Idle (question ++ queued 63)) (pair 1 2) ≡ turnAccepted (past 1 2 1 0 (cases.pair Normal none Idle (queued 63 ++ plain))) (pair 2 1) Delivered
   -- the numbers of what was done
   pub done-numbers : doneNumber Nothing ∷ doneNumber Delivered ∷ doneNumber Lost ∷ [] ≡ 0 ∷ 1 ∷ 2 ∷ []

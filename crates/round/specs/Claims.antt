@@ -94,10 +94,10 @@ pub record TurnRules : Type 0 where
   -- there is no other case: the delivery of a waiting message to a node that is not Down is accepted, or meets 12, 13 or 17
   pub no-other : (s : State) (a b r : ℕ) → AtPair s (pair a b) → waits a b (s .queue) ≡ true → isDown (nodeAt s b .status) ≡ false → step s (Deliver a b) ≡ refused r
       → (r ≡ 12) ⊎ ((r ≡ 13) ⊎ (r ≡ 17))
-  -- So a turn at a pair with a waiting message always takes one out, the oldest, and leaves the others of the pair as they were. (Its node sends, if anything, from b.)
+  -- So a turn at a pair with a waiting message always takes one out, the oldest, and leaves the others of the pair as they were. (What the delivery makes node b send, if anything, goes from b.)
   pub takes-oldest : (s : State) (a b : ℕ) → AtPair s (pair a b) → waits a b (s .queue) ≡ true
       → pairQueue (s .queue) a b ≡ oldest a b (s .queue) ∷ pairQueue (tableAfter s (turnAt s (pair a b)) .queue) a b
-  -- as an event it takes one out, which is accepted
+  -- its event takes one out; and the event of a turn is accepted
   pub takes-one : (s : State) (p : Place) → AtPair s p → waits (p .sender) (p .receiver) (s .queue) ≡ true
       → outOf (p .sender) (p .receiver) s (eventOf p (doneIn (turnAt s p))) ≡ 1
   pub accepts : (s : State) (p : Place) (e : Event) → eventOf p (doneIn (turnAt s p)) ≡ e ∷ [] → Accepts s e

@@ -6,6 +6,7 @@ use mathlib.Core.Path.{refl, sym, _∙_, ap}
 use lib.Seq.{length-take-le}
 use Rattle.model.specs.State.{view}
 use Rattle.machine.proofs.Laws.{sized}
+use Rattle.table_bytes.specs.Bytes.{size}
 use Rattle.exports.specs.Boundary.{stateBytes}
 use Rattle.exports.proofs.Clearing.{view-table}
 use Rattle.exports.proofs.Answering.{written-part}
@@ -21,7 +22,7 @@ returns c = record {
 }
 
 slice-aggregate-encode : tie.Need-slice-aggregate-encode
-slice-aggregate-encode c = let s = c .before .before .before .before .before in sym (length-take-le 4436 (now (s .args .out)) (s .pre))
+slice-aggregate-encode c = let s = c .before .before .before .before .before in sym (length-take-le size (now (s .args .out)) (s .pre))
 
 returns-2 : tie.Need-returns-2
 returns-2 c =
@@ -29,11 +30,11 @@ returns-2 c =
     let v = c .before .before .before .before in
     let d = v .cleared .ensures in
     let s = v .before .before .before .before in
-    let long = length-take-le 4436 (now (s .args .out)) (s .pre) in
+    let long = length-take-le size (now (s .args .out)) (s .pre) in
     record {
       number = v .before .before .answer-number .ensures;
       kept = λ h. absurd (h (v .before .if1 .left));
-      whole = λ _. written-part 4436 (now (s .args .out)) (stateBytes (view (s .args .t))) _ (s .pre) (rw d at (e .whole (omega (arith, long))));
+      whole = λ _. written-part size (now (s .args .out)) (stateBytes (view (s .args .t))) _ (s .pre) (rw d at (e .whole (omega (arith, long))));
       back = λ _. ap view (e .back (omega (arith, long)) _ ∙ d) ∙ view-table (s .args .t) (sized (s .args .t) (s .good .1 .0));
     }
 

@@ -1,6 +1,6 @@
 -- `nevraspu_turn` meets its contract: too little room, a refusal, or the turn in bytes.
 use borrow.Author.Needs.{needs}
-use Rattle.exports.proofs.Turning.{short, refused, took}
+use Rattle.exports.proofs.Turning.{short, refused, accepted-turn}
 use Rattle.exports.proofs.turn.nevraspu_turn.Statement.{statement}
 use Rattle.exports.proofs.turn.nevraspu_turn.Tie as tie
 
@@ -22,7 +22,7 @@ returns-3 c =
     let n = l .before in
     let q = n .before .before .before in
     let d = q .before in
-    took _ _ _ _ (d .before .if1 .left) (q .turn .result) (rw (d .decode .ensures) at (q .turn .ensures)) _ (n .answer-number .ensures) (l .if2 .left) _ _ _ (w .put-behind .ensures) (a .answered .ensures)
+    accepted-turn _ _ _ _ (d .before .if1 .left) (q .turn .result) (rw (d .decode .ensures) at (q .turn .ensures)) _ (n .answer-number .ensures) (l .if2 .left) _ _ _ (w .put-behind .ensures) (a .answered .ensures)
 
 pub nevraspu-turn-spec : {M : Type 1} → statement M
 nevraspu-turn-spec =
