@@ -11,7 +11,7 @@ use Rattle.model.specs.Pick.{pick, pick-true, pick-false, by-test}
 use Rattle.model.specs.Range.{isNode}
 use Rattle.model.proofs.Local.{both-left, both-right}
 use Rattle.model.proofs.Fields.{node-is, other-is}
-use Rattle.round.specs.Order.{pair, isInRound, roundSize, nextReceiver, nextPair, later, Before}
+use Rattle.round.specs.Order.{pair, isInRound, firstPair, roundSize, nextReceiver, nextPair, later, Before}
 use Rattle.round.specs.Claims.{RoundOrder}
 use Rattle.round.specs.declared.Place.{Place}
 
@@ -59,7 +59,7 @@ next-receiver a b = by-test (Follows a b) (λ e. inl (eqb-true (b + 1) a e, refl
 data Next (n : ℕ) (p : Place) : Place → Type 0 where
   receiver : (c : ℕ) → Follows (p .sender) (p .receiver) c → c ≤ n → Next n p (pair (p .sender) c)
   sender : (c : ℕ) → Follows (p .sender) (p .receiver) c → n < c → p .sender < n → Next n p (pair (p .sender + 1) 1)
-  start : (c : ℕ) → Follows (p .sender) (p .receiver) c → n < c → n ≤ p .sender → Next n p (pair 1 2)
+  start : (c : ℕ) → Follows (p .sender) (p .receiver) c → n < c → n ≤ p .sender → Next n p firstPair
 
 next-is : (n : ℕ) (p : Place) → Next n p (nextPair n p)
 unfolding nextPair
@@ -76,7 +76,7 @@ module _ (n : ℕ) (p : Place) (x : IsPair n p) where
   next-in q (sender c f h l) =
       record { sender-low = omega arith; sender-high = omega (arith, l); receiver-low = omega arith; receiver-high = omega (arith, l, x .sender-low); other = λ e. omega (arith, e, x .sender-low) }
   next-in q (start c f h l) =
-      record { sender-low = omega arith; sender-high = omega (arith, x .sender-low, x .sender-high); receiver-low = omega arith; receiver-high = two; other = λ e. omega (arith, e) }
+      record { sender-low = omega arith; sender-high = omega (arith, two); receiver-low = omega arith; receiver-high = omega (arith, two); other = λ e. omega (arith, e) }
     where
       two : 2 ≤ n
       two = by-side (p .sender) (p .receiver) (x .other) (λ z. omega (arith, z, x .receiver-low, x .sender-high)) (λ z. omega (arith, z, x .sender-low, x .receiver-high))
@@ -146,7 +146,7 @@ receiver-rank-apart a b c x y i j k e =
 row : (n a : ℕ) → 1 ≤ a → a * (n - 1) ≡ (a - 1) * (n - 1) + (n - 1)
 row n a h = let e : a ≡ suc (a - 1) = omega arith in ap (_* (n - 1)) e ∙ suc-mul (a - 1) (n - 1)
 
-rank-first : (n : ℕ) → rank n (pair 1 2) ≡ 0
+rank-first : (n : ℕ) → rank n firstPair ≡ 0
 rank-first n = omega (arith, rank-is n 1 2, receiver-rank-high 1 2 (omega arith))
 
 rank-in : (n : ℕ) (p : Place) → IsPair n p → rank n p < roundSize n
@@ -161,7 +161,7 @@ row-end n p x c (inr z) h =
     (λ l. omega (arith, z .1, h, l, receiver-rank-high (p .sender) (p .receiver) l, x .receiver-high, x .sender-low))
 
 -- the next pair stands one further on, or p is the last and it is the first
-next-rank : (n : ℕ) (p : Place) → IsPair n p → (q : Place) → Next n p q → (rank n q ≡ rank n p + 1) ⊎ ((rank n p + 1 ≡ roundSize n) × (q ≡ pair 1 2))
+next-rank : (n : ℕ) (p : Place) → IsPair n p → (q : Place) → Next n p q → (rank n q ≡ rank n p + 1) ⊎ ((rank n p + 1 ≡ roundSize n) × (q ≡ firstPair))
 next-rank n p x q (receiver c f h) = inl (omega (arith, rank-is n a b, rank-is n a c, one f))
   where
     a : ℕ
@@ -229,7 +229,7 @@ pub next-valid : (n : ℕ) (p : Place) → IsPair n p → IsPair n (nextPair n p
 next-valid n p x = next-in n p x (nextPair n p) (next-is n p)
 
 module _ (n : ℕ) (p : Place) (x : IsPair n p) where
-  ranked : (rank n (nextPair n p) ≡ rank n p + 1) ⊎ ((rank n p + 1 ≡ roundSize n) × (nextPair n p ≡ pair 1 2))
+  ranked : (rank n (nextPair n p) ≡ rank n p + 1) ⊎ ((rank n p + 1 ≡ roundSize n) × (nextPair n p ≡ firstPair))
   ranked = next-rank n p x (nextPair n p) (next-is n p)
 
   -- a turn at another pair brings it nearer
@@ -243,7 +243,7 @@ module _ (n : ℕ) (p : Place) (x : IsPair n p) where
       differ : rank n p ≡ j → ⊥
       differ e = d (rank-apart n p q x y e)
 
-      by-rank : (rank n (nextPair n p) ≡ rank n p + 1) ⊎ ((rank n p + 1 ≡ roundSize n) × (nextPair n p ≡ pair 1 2)) → gap (roundSize n) (rank n (nextPair n p)) j + 1 ≡ gap (roundSize n) (rank n p) j
+      by-rank : (rank n (nextPair n p) ≡ rank n p + 1) ⊎ ((rank n p + 1 ≡ roundSize n) × (nextPair n p ≡ firstPair)) → gap (roundSize n) (rank n (nextPair n p)) j + 1 ≡ gap (roundSize n) (rank n p) j
       by-rank (inl e) =
           rw e
           (by-side j (rank n p) differ
@@ -260,7 +260,7 @@ module _ (n : ℕ) (p : Place) (x : IsPair n p) where
   unfolding ahead
   ahead-again = by-rank ranked
     where
-      by-rank : (rank n (nextPair n p) ≡ rank n p + 1) ⊎ ((rank n p + 1 ≡ roundSize n) × (nextPair n p ≡ pair 1 2)) → gap (roundSize n) (rank n (nextPair n p)) (rank n p) + 1 ≡ roundSize n
+      by-rank : (rank n (nextPair n p) ≡ rank n p + 1) ⊎ ((rank n p + 1 ≡ roundSize n) × (nextPair n p ≡ firstPair)) → gap (roundSize n) (rank n (nextPair n p)) (rank n p) + 1 ≡ roundSize n
       by-rank (inl e) = rw e (omega (arith, gap-down (roundSize n) (rank n p + 1) (rank n p) (omega arith), rank-in n p x))
       by-rank (inr e) = rw (e .1, rank-first n) (omega (arith, e .0, gap-up (roundSize n) 0 (rank n p) (omega arith)))
 

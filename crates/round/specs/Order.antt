@@ -21,6 +21,10 @@ isInRound n p = isPair n (p .sender) (p .receiver)
 abbrev pub roundSize : ℕ → ℕ
 roundSize n = n * (n - 1)
 
+-- the pair with which the round starts
+abbrev pub firstPair : Place
+firstPair = pair 1 2
+
 -- the receiver after b, for the sender a: the next number, a itself passed over
 unfoldable pub nextReceiver : ℕ → ℕ → ℕ
 nextReceiver a b = pick (eqb (b + 1) a) (b + 2) (b + 1)
@@ -30,7 +34,7 @@ unfoldable pub nextPair : ℕ → Place → Place
 nextPair n p =
     pick (leb (nextReceiver (p .sender) (p .receiver)) n)
     (pair (p .sender) (nextReceiver (p .sender) (p .receiver)))
-    (pick (ltb (p .sender) n) (pair (p .sender + 1) 1) (pair 1 2))
+    (pick (ltb (p .sender) n) (pair (p .sender + 1) 1) firstPair)
 
 -- the pair that comes k turns after p
 unfoldable pub later : ℕ → ℕ → Place → Place
