@@ -1,5 +1,5 @@
--- The named cases, the wrong turnings, the further cases, those of T-03, T-04 and T-06 and the ends of what is in range, computed over the definitions.
-use Prim.Native.Nat.{ℕ, _+_, _≤_, _<_}
+-- The named cases, the wrong turnings, the further cases, those of T-03, T-04, T-06 and T-10 and the ends of what is in range, computed over the definitions.
+use Prim.Native.Nat.{ℕ, _+_, _-_, _≤_, _<_}
 use native.Mathlib.Omega.{arith}
 use native.Mathlib.Nat.{le-trans}
 use mathlib.Core.Bool.{Bool, true, false, _&&_, true≢false}
@@ -23,7 +23,7 @@ use Rattle.model.specs.State.{inRange, State, startingNode, startBy, sta
 use Rattle.model.specs.Grounds.{judged}
 use Rattle.model.specs.Step.{step, grounds, runFrom, reactionTo, remaining, effect, wrongNumber, wrongTask, wrongStatus, wrongActivity, notCoordinator, noneWaits, Result, refused, accepted, kept, aside, after, run}
 use Rattle.model.specs.History.{History, blank, updated, history}
-use Rattle.model.specs.Cases.{NamedCases, StandCases, allAsk, WrongTurnings, FurtherCases, printedFields, among, queued, pair, filled, anyCall, collecting, k10, foundThree, setOf, none, node, three, joinsFormer, inFormerGroup, newMerges, afterMerge, bothInvite, invitedByBoth, joinsNew, inNewGroup, InvitedTwice, HeldGroupCases, RecoveryCases, acceptedInvitation, onlyOne, CheckCases, RangeCases}
+use Rattle.model.specs.Cases.{NamedCases, StandCases, allAsk, WrongTurnings, FurtherCases, printedFields, among, queued, pair, filled, anyCall, collecting, k10, foundThree, setOf, none, node, three, joinsFormer, inFormerGroup, newMerges, afterMerge, bothInvite, invitedByBoth, joinsNew, inNewGroup, InvitedTwice, HeldGroupCases, RecoveryCases, acceptedInvitation, onlyOne, CheckCases, gatheredIn, unanswered, firstTwo, lastTwo, countedTwice, MajorityCases, RangeCases}
 use Rattle.model.proofs.Locality.{step-is-local}
 use Rattle.model.proofs.InRange.{start-in, stays-in-range}
 use Rattle.model.proofs.Pairs.{pair-within, pair-four}
@@ -203,7 +203,7 @@ named-cases =
       k5-no-group = one-after _ _ _ _ refl;
       k6-collects = ap (λ (s : State). nodeAt s 2 .activity) (two collecting (omega arith));
       k6-refused = from-two collecting (Finish 2 (record { number = 99 })) _ (omega arith) refl;
-      k6-passes = ap (λ (s : State). printedFields s 2) (after-two collecting (Finish 2 (record { number = 100 })) (omega arith));
+      k6-passes = ap (λ (s : State). printedFields s 2) (after-two collecting (Finish 2 (record { number = 200 })) (omega arith));
       k6-last = ap (λ (s : State). printedFields s 2) (after-two collecting (Finish 2 (record { number = 65535 })) (omega arith));
       k6-high = from-two collecting (Finish 2 (record { number = 65536 })) _ (omega arith) refl;
       k6-no-member = one-step _ _ _ _ refl;
@@ -261,7 +261,7 @@ stand-cases =
       k5-passes = ap (λ (s : State). printedFields s 4) (one-after-in stand in-stand _ _ _ (Recover 4) refl);
       k5-ends = one-refused-in stand in-stand _ _ _ _ _ refl refl;
       k6-refused = refused-in stand in-stand 2 (omega arith) (omega arith) collecting (Finish 2 (record { number = 99 })) _ (omega arith) refl;
-      k6-passes = ap (λ (s : State). printedFields s 2) (after-in stand in-stand 2 (omega arith) (omega arith) collecting (Finish 2 (record { number = 100 })) (omega arith));
+      k6-passes = ap (λ (s : State). printedFields s 2) (after-in stand in-stand 2 (omega arith) (omega arith) collecting (Finish 2 (record { number = 200 })) (omega arith));
       k7-first = ap (λ (s : State). nodeAt s 1 .activity) (started-in stand in-stand 3 (omega arith) (omega arith) (foundThree ++ (Tick 1 ∷ [])) (omega arith));
       k7-second = ap (λ (s : State). nodeAt s 1 .activity) (started-in stand in-stand 3 (omega arith) (omega arith) (foundThree ++ (Tick 1 ∷ Tick 1 ∷ [])) (omega arith));
       k8 = one-after-in stand in-stand _ _ _ _ refl;
@@ -527,6 +527,63 @@ check-cases =
 
     member-turned-away : step (run 2 tower k10) (Check 1) ≡ refused 18
     member-turned-away = from-two k10 (Check 1) 18 (omega arith) refl
+
+pub majority-cases : MajorityCases
+unfolding pick onesIn ones leadingZeros inviteNext merges handNext finishes forwardNext askedAll askAt askAfter checked timedOut ticked expired resumed onAreYouCoordinator onAreYouThere onInvitation onAccept onReady onReply received react activityInRange nodeInRange messageInRange waits oldest withoutOldest every reactionTo remaining effect grounds judged updated
+majority-cases =
+    record {
+      one-of-two = one-refused _ _ _ _ _ refl refl;
+      one-of-two-between = one-refused _ _ _ _ _ refl refl;
+      one-of-two-end = one-refused _ _ _ _ _ refl refl;
+      one-of-two-below = one-refused _ _ _ _ _ refl refl;
+      one-of-two-above = finished-in tower in-tower 2 none [] 200 refl;
+      one-of-two-last = finished-in tower in-tower 2 none [] 65535 refl;
+      two-of-two = finished-in tower in-tower 2 (setOf (2 ∷ [])) [] 100 refl;
+      two-of-two-end = finished-in tower in-tower 2 (setOf (2 ∷ [])) [] 199 refl;
+      two-of-three = finished-in tower in-tower 3 (setOf (3 ∷ [])) [] 100 refl;
+      two-of-three-end = finished-in tower in-tower 3 (setOf (3 ∷ [])) [] 199 refl;
+      two-of-three-above = finished-in tower in-tower 3 (setOf (3 ∷ [])) [] 200 refl;
+      one-of-one = finished-in tower in-tower 1 none [] 100 refl;
+      one-of-three = one-refused _ _ _ _ _ refl refl;
+      two-of-four = one-refused _ _ _ _ _ refl refl;
+      three-of-four = finished-in tower in-tower 4 (setOf (2 ∷ 4 ∷ [])) [] 100 refl;
+      two-of-five = one-refused _ _ _ _ _ refl refl;
+      three-of-five = finished-in tower in-tower 5 (setOf (2 ∷ 5 ∷ [])) [] 100 refl;
+      seven-of-fifteen = one-refused _ _ _ _ _ refl refl;
+      eight-of-fifteen = finished-in tower in-tower 15 (setOf (2 ∷ 3 ∷ 5 ∷ 7 ∷ 11 ∷ 13 ∷ 15 ∷ [])) [] 100 refl;
+      eight-of-sixteen = one-refused _ _ _ _ _ refl refl;
+      nine-of-sixteen = finished-in tower in-tower 16 (setOf (2 ∷ 3 ∷ 5 ∷ 7 ∷ 11 ∷ 13 ∷ 15 ∷ 16 ∷ [])) [] 100 refl;
+      stand-one-of-two = one-refused-in stand in-stand _ _ _ _ _ refl refl;
+      stand-two-of-two = finished-in stand in-stand 2 (setOf (2 ∷ [])) [] 100 refl;
+      stand-two-of-four = one-refused-in stand in-stand _ _ _ _ _ refl refl;
+      stand-three-of-four = finished-in stand in-stand 4 (setOf (2 ∷ 4 ∷ [])) [] 100 refl;
+      range-first = not-in-range _ _ _ _ refl;
+      number-first = one-refused _ _ _ _ _ refl refl;
+      down-first = one-refused _ _ _ _ _ refl refl;
+      activity-first = one-refused _ _ _ _ _ refl refl;
+      calls-end = one-refused _ _ _ _ _ refl refl;
+      calls-end-above = one-refused _ _ _ _ _ refl refl;
+      calls-end-majority = one-refused _ _ _ _ _ refl refl;
+      full = one-refused _ _ _ _ _ refl refl;
+      full-above = one-refused _ _ _ _ _ refl refl;
+      full-majority = one-refused _ _ _ _ _ refl refl;
+      run-turned-away = no-peal;
+      skipped = step-is-local .refused-skips 2 tower unanswered (Finish 2 (record { number = 100 })) (Finish 2 (record { number = 200 }) ∷ []) 19 no-peal;
+      run-above = ap (λ (s : State). printedFields s 2) (two (unanswered ++ (Finish 2 (record { number = 200 }) ∷ [])) (omega arith));
+      left-counts = ap (λ (s : State). printedFields s 2) (after-two (collecting ++ (Crash 1 ∷ [])) (Finish 2 (record { number = 100 })) (omega arith));
+      both-counted-first = ap (λ (s : State). printedFields s 1) (in-three countedTwice (omega arith));
+      both-counted-second = ap (λ (s : State). printedFields s 2) (in-three countedTwice (omega arith));
+      both-counted-third = ap (λ (s : State). printedFields s 3) (in-three countedTwice (omega arith));
+      number = refl;
+    }
+  where
+    finished-in : (lim : Limits) → Allowed lim → (n m : ℕ) (q : List Message) (t : ℕ) → baseInRange lim n (filled Election 16 1 1 m 4 Collecting ∷ replicate (n - 1) startingNode) q ≡ true
+        → printedFields (after (gatheredIn lim n m 4 q) (Finish 1 (record { number = t }))) 1
+        ≡ printedFields (kept (gatheredIn lim n m 4 q) (resultAside (gatheredIn lim n m 4 q) (Finish 1 (record { number = t })))) 1
+    finished-in lim o n m q t r = ap (λ (s : State). printedFields s 1) (one-after-in lim o n _ q (Finish 1 (record { number = t })) r)
+
+    no-peal : step (run 2 tower unanswered) (Finish 2 (record { number = 100 })) ≡ refused 19
+    no-peal = from-two unanswered (Finish 2 (record { number = 100 })) 19 (omega arith) refl
 
 pub recovery-cases : RecoveryCases
 unfolding pick onesIn ones leadingZeros bitAnd bitOr inviteNext merges handNext finishes forwardNext askedAll askAt askAfter checked timedOut ticked expired resumed onAreYouCoordinator onAreYouThere onInvitation onAccept onReady onReply received react activityInRange nodeInRange messageInRange waits oldest withoutOldest every reactionTo remaining effect wrongNumber wrongTask wrongStatus wrongActivity notCoordinator noneWaits grounds judged updated

@@ -10,17 +10,17 @@ use lib.ListN.{length, set}
 use lib.Seq.{set-getD}
 use borrow.Author.Tests.{not-false, not-true, eqb-true, eqb-false, eq-eqb, ne-eqb, le-leb, lt-ltb, ltb-true}
 use Rattle.model.specs.Pick.{pick, pick-true, pick-false}
-use Rattle.model.specs.Limits.{counterEnd, callEnd, trafficEnd}
+use Rattle.model.specs.Limits.{callEnd, trafficEnd}
 use Rattle.model.specs.Counts.{countAt}
 use Rattle.model.specs.Node.{isNormal, nextCall, calling, asks}
 use Rattle.model.specs.Procedures.{reaction, stays, askAt, askAfter}
 use Rattle.model.specs.React.{leads, checked, react}
 use Rattle.model.specs.State.{State, startingNode, nodeAt}
 use Rattle.model.specs.Grounds.{ground, judged}
-use Rattle.model.specs.Step.{step, grounds, actor, reactionTo, remaining, sent, withSent, effect, notCoordinator, forms, isCalling, isSending, pairAtEnd, Result, refused, accepted, run}
+use Rattle.model.specs.Step.{step, grounds, actor, reactionTo, remaining, effect, notCoordinator, Result, refused, accepted, run}
 use Rattle.model.specs.Claims.{MaySend, firstOther, checkGrounds, withQuestion, withCheck, CheckReaches, DoesNotLead, CheckRules}
 use Rattle.model.proofs.Grounds.{judged-by}
-use Rattle.model.proofs.Judged.{accepted-apart, accepted-is, met, passed}
+use Rattle.model.proofs.Judged.{accepted-apart, accepted-is, met, passed, one-ground, leftBy, endsBy}
 use Rattle.model.proofs.Local.{both-left, both-right}
 use Rattle.model.proofs.Fields.{IsNode, node-is}
 use Rattle.model.proofs.CallOrder.{or-right}
@@ -59,40 +59,12 @@ first-asked n i c h = by (eqb i 1) refl
 
 -- ── all of a check ──
 
--- the same ground in front of both, by its number and its test
-one-ground : (r : ℕ) (t u : Bool) (a b : Result) → t ≡ u → (t ≡ false → a ≡ b) → pick t (refused r) a ≡ pick u (refused r) b
-unfolding pick
-one-ground r true u a b e f = ap (λ (x : Bool). pick x (refused r) b) e
-one-ground r false u a b e f = f refl ∙ ap (λ (x : Bool). pick x (refused r) b) e
-
 not-both : (a b : Bool) → not (a && b) ≡ not a || not b
 not-both true b = refl
 not-both false b = refl
 
 module _ (s : State) (i : ℕ) where
-  abbrev left : Reaction → State
-  left r = record {
-    rule = s .rule;
-    n = s .n;
-    limits = s .limits;
-    nodes = set (s .nodes) (i - 1) (r .node);
-    queue = s .queue ++ sent (r .outgoing);
-    sent = withSent (s .sent) (r .outgoing);
-    delivered = s .delivered;
-    lost = s .lost;
-  }
-
-  -- the ends of the ranges, by what the node does
-  abbrev ends : Reaction → Result
-  ends r =
-      judged refused (accepted (left r) (r .mark))
-      (ground 12 (forms (r .mark) && eqb (nodeAt s i .counter) counterEnd)
-      ∷ ground 13 (isCalling (r .outgoing) && eqb (nodeAt s i .last .number) callEnd)
-      ∷ ground 14 (isSending (r .outgoing) && eqb (length (s .queue)) (s .limits .messages))
-      ∷ ground 17 (pairAtEnd (s .sent) (r .outgoing))
-      ∷ [])
-
-  -- the same as the claim has it
+  -- the ends of the ranges as the claim has them
   abbrev claimed : Result
   claimed =
       judged refused (accepted (withCheck s i) Plain)
@@ -102,16 +74,16 @@ module _ (s : State) (i : ℕ) where
       ∷ [])
 
   -- with n = 1 nothing changes
-  same : left (stays (nodeAt s i)) ≡ s
+  same : leftBy s i (stays (nodeAt s i)) ≡ s
   same =
       ap (λ (l : List Node). record { rule = s .rule; n = s .n; limits = s .limits; nodes = l; queue = s .queue ++ []; sent = s .sent; delivered = s .delivered; lost = s .lost }) (set-getD (s .nodes) (i - 1) startingNode)
       ∙ ap (λ q. record { rule = s .rule; n = s .n; limits = s .limits; nodes = s .nodes; queue = q; sent = s .sent; delivered = s .delivered; lost = s .lost }) (append-nil (s .queue))
 
-  ends-claimed : ends (checked (s .n) i (nodeAt s i)) ≡ claimed
+  ends-claimed : endsBy s i (checked (s .n) i (nodeAt s i)) ≡ claimed
   unfolding checked judged
   ends-claimed = by (ltb 1 (s .n)) refl
     where
-      by : (t : Bool) → ltb 1 (s .n) ≡ t → ends (checked (s .n) i (nodeAt s i)) ≡ claimed
+      by : (t : Bool) → ltb 1 (s .n) ≡ t → endsBy s i (checked (s .n) i (nodeAt s i)) ≡ claimed
       by true e = rw (e, first-asked (s .n) i (nodeAt s i) (ltb-true 1 (s .n) e), pick-true, pick-true, pick-false)
       by false e = rw (e, pick-false, same, pick-false, pick-false, pick-false, pick-false, pick-false, pick-false, pick-false, pick-false)
 
@@ -122,7 +94,7 @@ module _ (s : State) (i : ℕ) where
       (λ _. one-ground 7 _ _ _ _ refl
       (λ _. pick-false _ _ ∙ one-ground 9 _ _ _ _ refl
       (λ _. one-ground 10 _ _ _ _ refl
-      (λ _. one-ground 18 _ _ _ _ (not-both (isNormal (nodeAt s i .status)) (eqb (nodeAt s i .coordinator) i)) (λ _. pick-false _ _ ∙ ends-claimed)))))
+      (λ _. one-ground 18 _ _ _ _ (not-both (isNormal (nodeAt s i .status)) (eqb (nodeAt s i .coordinator) i)) (λ _. pick-false _ _ ∙ pick-false _ _ ∙ ends-claimed)))))
 
 leaves : (s : State) (i : ℕ) (u : State) (k : Mark) → step s (Check i) ≡ accepted u k → u ≡ withCheck s i
 leaves s i u k q =

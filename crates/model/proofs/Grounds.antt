@@ -5,9 +5,9 @@ use mathlib.Core.Bool.{Bool, true, false, not, _&&_, _||_, true≢false}
 use mathlib.Core.Path.{_≡_, refl, sym, _∙_, ap}
 use mathlib.Core.List.{List, [], _∷_, _++_}
 use lib.Dec.{eqb, ltb}
-use borrow.Author.Tests.{eq-eqb, ltb-true}
+use borrow.Author.Tests.{eqb-true, eq-eqb, ltb-true}
 use Rattle.model.specs.Pick.{pick, pick-true, pick-false, by-test}
-use Rattle.model.specs.Grounds.{Ground, judged, NoneApplies, first}
+use Rattle.model.specs.Grounds.{Ground, ground, judged, NoneApplies, leavingOut, first}
 use Rattle.model.proofs.Local.{both-left, both-right}
 
 -- ── a ground by its number ──
@@ -87,6 +87,20 @@ module _ {R : Type 0} (refuse : ℕ → R) where
         by true v n h f e = absurd (true≢false (sym n ∙ ap not (numbered-same e)))
         by false true n h f e = refl
         by false false n h f e = f h e
+
+    -- what is not refused by the ground of number r is judged as without it
+    pub judged-without : (r : ℕ) (gs : List Ground) → (judged refuse x gs ≡ refuse r → ⊥) → judged refuse x gs ≡ judged refuse x (leavingOut r gs)
+    unfolding judged pick
+    judged-without r [] f = refl
+    judged-without r (g ∷ gs) f = by (g .applies) (eqb (g .number) r) refl f (judged-without r gs)
+      where
+        by : (t v : Bool) → eqb (g .number) r ≡ v → (pick t (refuse (g .number)) (judged refuse x gs) ≡ refuse r → ⊥)
+            → ((judged refuse x gs ≡ refuse r → ⊥) → judged refuse x gs ≡ judged refuse x (leavingOut r gs))
+            → pick t (refuse (g .number)) (judged refuse x gs) ≡ judged refuse x (pick v (leavingOut r gs) (ground (g .number) t ∷ leavingOut r gs))
+        by true true n h k = absurd (h (ap refuse (eqb-true (g .number) r n)))
+        by true false n h k = refl
+        by false true n h k = k h
+        by false false n h k = k h
 
 -- ── the first ground that applies ──
 

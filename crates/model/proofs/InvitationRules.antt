@@ -23,7 +23,7 @@ use Rattle.model.specs.Claims.{InvitationReaches, Owns, Holds, NoPlainRe
 use Rattle.model.proofs.Judged.{Clear, by-step, clear-accepts}
 use Rattle.model.proofs.Refusals.{clear-ends}
 use Rattle.model.proofs.Traffic.{run-n, run-within, start-within, within-not-seventeen}
-use Rattle.model.proofs.Local.{both-left, both-right}
+use Rattle.model.proofs.Local.{right-fails, both-left, both-right}
 use Rattle.model.proofs.Whole.{run-append}
 use Rattle.model.proofs.Fields.{IsNode, IsOther, MessageFacts, message-facts, in-range-own, in-range-size, in-range-oldest, oldest-goes}
 use Rattle.model.proofs.InRange.{without-length, run-in}
@@ -118,16 +118,13 @@ module _ (s : State) (a b : ℕ) (x : InvitationReaches s a b) where
         status = x .not-down;
         activity = refl;
         coordinator = refl;
+        majority = refl;
         waiting = ap not waiting;
         counter = ap (λ (t : Bool). t && eqb (nodeAt s b .counter) counterEnd) f;
         calls = h;
-        room = off (isSending (reactionTo s (Deliver a b) .outgoing))
+        room = right-fails (isSending (reactionTo s (Deliver a b) .outgoing))
             (ne-eqb (length (withoutOldest a b (s .queue))) (s .limits .messages) (λ q. omega (arith, q, without-length a b (s .queue) waiting, in-range-own s (x .in-range) .1)));
       }
-    where
-      off : (t : Bool) {y : Bool} → y ≡ false → t && y ≡ false
-      off true e = e
-      off false e = refl
 
   -- what the node does says what the step is
   abbrev left : Reaction → State

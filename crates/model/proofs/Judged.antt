@@ -1,10 +1,11 @@
 -- A step is refused, or no ground applies and it has its effect; what the event's node does then.
-use Prim.Native.Nat.{ℕ}
+use Prim.Native.Nat.{ℕ, _-_}
 use native.Mathlib.Omega.{arith}
-use mathlib.Core.Bool.{true, false, _&&_}
-use mathlib.Core.Path.{_≡_, refl, sym}
+use mathlib.Core.Bool.{Bool, true, false, _&&_}
+use mathlib.Core.Path.{_≡_, refl, sym, _∙_, ap}
+use mathlib.Core.List.{[], _∷_, _++_}
 use lib.Dec.{eqb}
-use lib.ListN.{length}
+use lib.ListN.{length, set}
 use borrow.Author.Tests.{not-false}
 use Rattle.model.specs.Pick.{pick}
 use Rattle.model.specs.Limits.{counterEnd, callEnd}
@@ -12,8 +13,8 @@ use Rattle.model.specs.Node.{isIdle, isWaiting, isCollecting, hasOpenCal
 use Rattle.model.specs.Procedures.{stays}
 use Rattle.model.specs.React.{react}
 use Rattle.model.specs.State.{State, nodeAt, oldest, inRange}
-use Rattle.model.specs.Grounds.{judged, NoneApplies}
-use Rattle.model.specs.Step.{actor, reactionTo, remaining, effect, wrongNumber, wrongTask, wrongStatus, wrongActivity, notCoordinator, noneWaits, forms, isCalling, isSending, pairAtEnd, grounds, Result, refused, accepted, step}
+use Rattle.model.specs.Grounds.{ground, judged, NoneApplies}
+use Rattle.model.specs.Step.{actor, reactionTo, remaining, sent, withSent, effect, wrongNumber, wrongTask, wrongStatus, wrongActivity, notCoordinator, noMajority, noneWaits, forms, isCalling, isSending, pairAtEnd, grounds, Result, refused, accepted, step}
 use Rattle.model.proofs.Grounds.{appliesOf, before, once, none-of, judged-by, judged-none, judged-met, judged-passed}
 use Rattle.model.specs.declared.Activity.{Activity}
 use Rattle.model.specs.declared.Mark.{Mark}
@@ -31,6 +32,7 @@ pub record Clear (s : State) (e : Event) : Type 0 where
   pub status : wrongStatus (nodeAt s (actor e) .status) e ≡ false
   pub activity : wrongActivity (nodeAt s (actor e) .activity) e ≡ false
   pub coordinator : notCoordinator (nodeAt s (actor e)) e ≡ false
+  pub majority : noMajority (s .n) (nodeAt s (actor e)) e ≡ false
   pub waiting : noneWaits (s .queue) e ≡ false
   pub counter : forms (reactionTo s e .mark) && eqb (nodeAt s (actor e) .counter) counterEnd ≡ false
   pub calls : isCalling (reactionTo s e .outgoing) && eqb (nodeAt s (actor e) .last .number) callEnd ≡ false
@@ -51,6 +53,7 @@ clear-by s e f =
       status = f 9 refl;
       activity = f 10 refl;
       coordinator = f 18 refl;
+      majority = f 19 refl;
       waiting = f 11 refl;
       counter = f 12 refl;
       calls = f 13 refl;
@@ -73,7 +76,7 @@ none-applies s e c = judged-none refused _ (grounds s e) c
 
 pub clear-accepts : (s : State) (e : Event) → Clear s e → NotAtEnd s e → step s e ≡ accepted (effect s e) (reactionTo s e .mark)
 unfolding step grounds judged pick
-clear-accepts s e c d = rw (c .in-range, c .number, c .task, c .status, c .activity, c .coordinator, c .waiting, c .counter, c .calls, c .room, d)
+clear-accepts s e c d = rw (c .in-range, c .number, c .task, c .status, c .activity, c .coordinator, c .majority, c .waiting, c .counter, c .calls, c .room, d)
 
 pub accepted-apart : {u : State} {k : Mark} {r : ℕ} → accepted u k ≡ refused r → ⊥
 accepted-apart e = let z : _≡_ {A = ℕ} 0 1 = cc in omega arith
@@ -132,3 +135,34 @@ by-reaction P s (Expire i) c f g = f Input.Expire (not-false _ (c .activity))
 by-reaction P s (Finish i t) c f g = f (Input.Finish t) (not-false _ (c .activity))
 by-reaction P s (Deliver a b) c f g = f (Input.Receive (oldest a b (s .queue))) tt
 by-reaction P s (Lose a b) c f g = g
+
+-- ── all of an event of node i that takes no message out, ground by ground ──
+
+-- the same ground in front of both, by its number and its test
+pub one-ground : (r : ℕ) (t u : Bool) (a b : Result) → t ≡ u → (t ≡ false → a ≡ b) → pick t (refused r) a ≡ pick u (refused r) b
+unfolding pick
+one-ground r true u a b e f = ap (λ (x : Bool). pick x (refused r) b) e
+one-ground r false u a b e f = f refl ∙ ap (λ (x : Bool). pick x (refused r) b) e
+
+-- what it leaves, by what the node does
+abbrev pub leftBy : State → ℕ → Reaction → State
+leftBy s i r = record {
+  rule = s .rule;
+  n = s .n;
+  limits = s .limits;
+  nodes = set (s .nodes) (i - 1) (r .node);
+  queue = s .queue ++ sent (r .outgoing);
+  sent = withSent (s .sent) (r .outgoing);
+  delivered = s .delivered;
+  lost = s .lost;
+}
+
+-- and the ends of the ranges
+abbrev pub endsBy : State → ℕ → Reaction → Result
+endsBy s i r =
+    judged refused (accepted (leftBy s i r) (r .mark))
+    (ground 12 (forms (r .mark) && eqb (nodeAt s i .counter) counterEnd)
+    ∷ ground 13 (isCalling (r .outgoing) && eqb (nodeAt s i .last .number) callEnd)
+    ∷ ground 14 (isSending (r .outgoing) && eqb (length (s .queue)) (s .limits .messages))
+    ∷ ground 17 (pairAtEnd (s .sent) (r .outgoing))
+    ∷ [])

@@ -20,11 +20,13 @@ pub mod Aside
 pub mod Early
 pub mod Members
 pub mod Checks
+pub mod Majority
 pub mod Cases
 pub mod TrafficCases
 pub mod Refusals
 pub mod Due
 pub mod Traffic
+pub mod Peals
 pub mod TowerAndStand
 pub mod CallOrder
 pub mod InvitationRules

@@ -36,19 +36,19 @@ judged-number f u k [] h = tt
 judged-number f u k (g ∷ gs) h =
     by-test (Passes f) (λ _. both-left (f (g .number)) _ h) (λ _. judged-number f u k gs (both-right (f (g .number)) _ h))
 
--- 1, 7 to 14, 17 or 18
+-- 1, 7 to 14 or 17 to 19
 abbrev ofEvents : ℕ → Bool
-ofEvents r = eqb r 1 || ((leb 7 r && leb r 14) || (leb 17 r && leb r 18))
+ofEvents r = eqb r 1 || ((leb 7 r && leb r 14) || (leb 17 r && leb r 19))
 
 step-number : (s : State) (e : Event) → Passes ofEvents (step s e)
 unfolding step grounds
 step-number s e = judged-number ofEvents _ _ _ refl
 
-numbers : (s : State) (e : Event) (r : ℕ) → step s e ≡ refused r → (r ≡ 1) ⊎ (((7 ≤ r) × (r ≤ 14)) ⊎ ((17 ≤ r) × (r ≤ 18)))
+numbers : (s : State) (e : Event) (r : ℕ) → step s e ≡ refused r → (r ≡ 1) ⊎ (((7 ≤ r) × (r ≤ 14)) ⊎ ((17 ≤ r) × (r ≤ 19)))
 numbers s e r q =
     ⊎-elim (λ x. inl (eqb-true r 1 x))
-    (λ x. inr (⊎-elim (λ y. inl (within 7 14 y)) (λ y. inr (within 17 18 y)) (either (leb 7 r && leb r 14) (leb 17 r && leb r 18) x)))
-    (either (eqb r 1) ((leb 7 r && leb r 14) || (leb 17 r && leb r 18)) (subst (Passes ofEvents) q (step-number s e)))
+    (λ x. inr (⊎-elim (λ y. inl (within 7 14 y)) (λ y. inr (within 17 19 y)) (either (leb 7 r && leb r 14) (leb 17 r && leb r 19) x)))
+    (either (eqb r 1) ((leb 7 r && leb r 14) || (leb 17 r && leb r 19)) (subst (Passes ofEvents) q (step-number s e)))
   where
     within : (a b : ℕ) → leb a r && leb r b ≡ true → (a ≤ r) × (r ≤ b)
     within a b y = (leb-true a r (both-left (leb a r) _ y), leb-true r b (both-right (leb a r) _ y))
@@ -66,7 +66,7 @@ zero-accepts s e z = by-result (step s e) refl
 -- 17 is given where no other ground applies, and it does
 pub clear-ends : (s : State) (e : Event) → Clear s e → pairAtEnd (s .sent) (reactionTo s e .outgoing) ≡ true → step s e ≡ refused 17
 unfolding step grounds judged pick
-clear-ends s e c t = rw (c .in-range, c .number, c .task, c .status, c .activity, c .coordinator, c .waiting, c .counter, c .calls, c .room, t)
+clear-ends s e c t = rw (c .in-range, c .number, c .task, c .status, c .activity, c .coordinator, c .majority, c .waiting, c .counter, c .calls, c .room, t)
 
 -- ── the first ground that applies ──
 
@@ -112,7 +112,7 @@ first-given s e r f = ap (judged refused _) (f .whole) ∙ judged-first _ (f .be
 none-accepts : (s : State) (e : Event) → NoneApplies (grounds s e) → Accepts s e
 none-accepts s e c = record { state = _; mark = _; is = none-applies s e c }
 
-order : (s : State) (e : Event) → map (λ g. g .number) (grounds s e) ≡ 1 ∷ 7 ∷ 8 ∷ 9 ∷ 10 ∷ 18 ∷ 11 ∷ 12 ∷ 13 ∷ 14 ∷ 17 ∷ []
+order : (s : State) (e : Event) → map (λ g. g .number) (grounds s e) ≡ 1 ∷ 7 ∷ 8 ∷ 9 ∷ 10 ∷ 18 ∷ 19 ∷ 11 ∷ 12 ∷ 13 ∷ 14 ∷ 17 ∷ []
 unfolding grounds
 order s e = refl
 
@@ -120,9 +120,9 @@ pub refuses-by-ground : RefusesByGround
 refuses-by-ground = record { order = order; first = first; first-given = first-given; none = none; none-accepts = none-accepts; numbers = numbers; never-zero = never-zero; zero-accepts = zero-accepts; delivery-never-full = delivery-never-full }
 
 -- so the number of a result is small
-pub result-small : (s : State) (e : Event) → resultNumber (step s e) ≤ 18
+pub result-small : (s : State) (e : Event) → resultNumber (step s e) ≤ 19
 result-small s e = by (step s e) refl
   where
-    by : (x : Result) → step s e ≡ x → resultNumber x ≤ 18
+    by : (x : Result) → step s e ≡ x → resultNumber x ≤ 19
     by (refused r) q = ⊎-elim (λ h. omega arith) (λ h. ⊎-elim (λ y. omega (arith, y .1)) (λ y. omega (arith, y .1)) h) (numbers s e r q)
     by (accepted u k) q = omega arith

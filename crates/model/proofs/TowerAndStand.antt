@@ -19,6 +19,7 @@ use Rattle.model.proofs.Range.{both}
 use Rattle.model.proofs.Pairs.{pair-allowed}
 use Rattle.model.proofs.Aside.{changed-judged, changed-kept, changed-noted, later}
 use Rattle.model.proofs.Traffic.{run-limits, traffic-agrees}
+use Rattle.model.proofs.Peals.{peals-by-majority}
 use Rattle.model.specs.declared.Limits.{Limits}
 use Rattle.model.specs.declared.Event.{Event}
 use Rattle.model.specs.declared.Event.the-variants.{Crash, Recover, Check, Timeout, Tick, Expire, Finish, Deliver, Lose}
@@ -29,6 +30,7 @@ holds rule n lim s =
       fixes = run-fixes rule n lim (start-small n lim s);
       from-list = task-from-list rule n lim (start-small n lim s);
       traffic = traffic-agrees rule n lim s;
+      peals = peals-by-majority rule n lim (start-small n lim s);
       in-range = stays-in-range .runs rule n lim s;
       never-one = stays-in-range .never-one rule n lim s;
       same-limits = λ es. run-limits (startBy rule n lim) es;

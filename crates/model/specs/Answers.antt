@@ -6,7 +6,7 @@ use Rattle.model.specs.declared.Status.the-variants.{Down, Election, Reo
 use Rattle.model.specs.declared.StartAnswer.{StartAnswer}
 use Rattle.model.specs.declared.StartAnswer.the-variants.{Started, WrongLimits, WrongCount}
 use Rattle.model.specs.declared.Answer.{Answer}
-use Rattle.model.specs.declared.Answer.the-variants.{Accepted, NotInRange, WrongNumber, WrongTask, WrongStatus, WrongActivity, NotCoordinator, NoMessage, CounterAtEnd, CallsAtEnd, QueueFull, SentAtEnd}
+use Rattle.model.specs.declared.Answer.the-variants.{Accepted, NotInRange, WrongNumber, WrongTask, WrongStatus, WrongActivity, NotCoordinator, NoMajority, NoMessage, CounterAtEnd, CallsAtEnd, QueueFull, SentAtEnd}
 
 -- "status: 0 Down, 1 Election, 2 Reorganization, 3 Normal"
 abbrev pub statusNumber : Status → ℕ
@@ -30,6 +30,7 @@ answerNumber WrongTask = 8
 answerNumber WrongStatus = 9
 answerNumber WrongActivity = 10
 answerNumber NotCoordinator = 18
+answerNumber NoMajority = 19
 answerNumber NoMessage = 11
 answerNumber CounterAtEnd = 12
 answerNumber CallsAtEnd = 13

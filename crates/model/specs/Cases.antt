@@ -1,7 +1,7 @@
 -- "Named cases": what is claimed of K1 to K13, jointly, over the definitions. Where 01 names one side of a rule, the other side stands beside it. "Wrong
--- turnings in this protocol" follow, then further cases, those of 02's T-03 to T-06, and the ends of what is in range; T-08's stand is beside K1 to K13. The tables are in range, and those of the tower, where nothing else is said;
+-- turnings in this protocol" follow, then further cases, those of 02's T-03 to T-06 and T-10, and the ends of what is in range; T-08's stand is beside K1 to K13. The tables are in range, and those of the tower, where nothing else is said;
 -- not each of them is one that a run reaches.
-use Prim.Native.Nat.{ℕ, _+_}
+use Prim.Native.Nat.{ℕ, _+_, _-_}
 use mathlib.Core.Bool.{Bool, true, false}
 use mathlib.Core.Path.{_≡_}
 use mathlib.Core.List.{List, [], _∷_, _++_, map}
@@ -29,7 +29,7 @@ use Rattle.model.specs.declared.GroupNo.{GroupNo}
 use Rattle.model.specs.declared.Message.{Message}
 use Rattle.model.specs.declared.Mark.the-variants.{Plain, Recovers, Merges}
 use Rattle.model.specs.declared.StartAnswer.the-variants.{Started, WrongLimits, WrongCount}
-use Rattle.model.specs.declared.Answer.the-variants.{NotCoordinator, SentAtEnd}
+use Rattle.model.specs.declared.Answer.the-variants.{NotCoordinator, NoMajority, SentAtEnd}
 use Rattle.model.specs.declared.Event.{Event}
 use Rattle.model.specs.declared.Event.the-variants.{Crash, Recover, Check, Timeout, Tick, Expire, Finish, Deliver, Lose}
 
@@ -226,15 +226,15 @@ pub record NamedCases : Type 0 where
   pub k5-merge-ends : step (counted Normal (Asking 15 (setOf (1 ∷ []))) 1048575) (Expire 16) ≡ refused 12
   -- where none was found, no group is needed
   pub k5-no-group : countsAside (after (counted Normal (Asking 15 none) 1048575) (Expire 16)) ≡ counted Normal Idle 1048575
-  -- "K6 finish by a collecting cabinet: task 99 gives 8, 100 passes."
+  -- "K6 finish by a collecting cabinet: task 99 gives 8, 100 passes."; 02, T-10: "K6 now uses task 200 for the one that passes."
   pub k6-collects : nodeAt (run 2 tower collecting) 2 .activity ≡ Collecting
   pub k6-refused : step (run 2 tower collecting) (Finish 2 (taskNo 99)) ≡ refused 8
-  pub k6-passes : printedFields (after (run 2 tower collecting) (Finish 2 (taskNo 100))) 2 ≡ 2 ∷ 2 ∷ 2 ∷ 33 ∷ 100 ∷ 2 ∷ 1 ∷ []
+  pub k6-passes : printedFields (after (run 2 tower collecting) (Finish 2 (taskNo 200))) 2 ≡ 2 ∷ 2 ∷ 2 ∷ 33 ∷ 200 ∷ 2 ∷ 1 ∷ []
   -- the other end of the tasks
   pub k6-last : printedFields (after (run 2 tower collecting) (Finish 2 (taskNo 65535))) 2 ≡ 2 ∷ 2 ∷ 2 ∷ 33 ∷ 65535 ∷ 2 ∷ 1 ∷ []
   pub k6-high : step (run 2 tower collecting) (Finish 2 (taskNo 65536)) ≡ refused 8
   -- with no member it is Normal at once
-  pub k6-no-member : aside (step (pair Election none Collecting []) (Finish 2 (taskNo 100))) ≡ accepted (pair Normal none Idle []) Plain
+  pub k6-no-member : aside (step (pair Election none Collecting []) (Finish 2 (taskNo 200))) ≡ accepted (beside (record { status = Normal; counter = 2; group = groupNo 33; coordinator = 2; task = taskNo 200; members = none; last = callNo 2; activity = Idle }) []) Plain
   -- by one that is idle: 10, but 8 comes first
   pub k6-idle : step (pair Normal none Idle []) (Finish 2 (taskNo 100)) ≡ refused 10
   pub k6-idle-task : step (pair Normal none Idle []) (Finish 2 (taskNo 99)) ≡ refused 8
@@ -268,7 +268,7 @@ pub record NamedCases : Type 0 where
   pub k9-no : countsAside (after (pair Normal (setOf (1 ∷ [])) (Asking 1 none) (reply 2 false)) (Deliver 1 2)) ≡ pair Normal (setOf (1 ∷ [])) Idle []
   -- without an open call, the number does not help
   pub k9-no-call : countsAside (after (pair Election none Collecting (reply 2 true)) (Deliver 1 2)) ≡ pair Election none Collecting []
-  -- "Case K10": what its lines print; 02, T-02: "K10 prints the same."
+  -- "Case K10": what its lines print; 02, T-02: "K10 prints the same.", and with T-10 too, as its coordinator and its one member are two of two
   pub k10-first : printedFields (run 2 tower k10) 1 ≡ 1 ∷ 3 ∷ 2 ∷ 33 ∷ 100 ∷ 1 ∷ 0 ∷ []
   pub k10-second : printedFields (run 2 tower k10) 2 ≡ 2 ∷ 3 ∷ 2 ∷ 33 ∷ 100 ∷ 2 ∷ 1 ∷ []
   pub k10-messages : length (run 2 tower k10 .queue) ≡ 0
@@ -315,7 +315,7 @@ pub record StandCases : Type 0 where
   pub k5-ends : step (standCounted 1048575) (Recover 4) ≡ refused 12
   -- K6 to K10
   pub k6-refused : step (run 2 stand collecting) (Finish 2 (taskNo 99)) ≡ refused 8
-  pub k6-passes : printedFields (after (run 2 stand collecting) (Finish 2 (taskNo 100))) 2 ≡ 2 ∷ 2 ∷ 2 ∷ 33 ∷ 100 ∷ 2 ∷ 1 ∷ []
+  pub k6-passes : printedFields (after (run 2 stand collecting) (Finish 2 (taskNo 200))) 2 ≡ 2 ∷ 2 ∷ 2 ∷ 33 ∷ 200 ∷ 2 ∷ 1 ∷ []
   pub k7-first : nodeAt (run 3 stand (foundThree ++ (Tick 1 ∷ []))) 1 .activity ≡ Waiting 1 (setOf (3 ∷ []))
   pub k7-second : nodeAt (run 3 stand (foundThree ++ (Tick 1 ∷ Tick 1 ∷ []))) 1 .activity ≡ Inviting none none 3
   pub k8 : countsAside (after (pairIn stand Election (setOf (1 ∷ [])) Collecting (invitation 16)) (Deliver 1 2)) ≡ pairIn stand Election (setOf (1 ∷ [])) Collecting plain
@@ -429,6 +429,14 @@ node s k g o t m l a = record {
 -- with the counter 1
 abbrev pub filled : Status → ℕ → ℕ → ℕ → ℕ → ℕ → Activity → Node
 filled s g o t m l a = node s 1 g o t m l a
+
+-- T-10: n nodes in a table with the limits l: node 1 collects for its group 16, with the members m and the last call number k, and the others are as at the start
+abbrev pub gatheredIn : Limits → ℕ → ℕ → ℕ → List Message → State
+gatheredIn l n m k q = allWaiting n l (filled Election 16 1 1 m k Collecting ∷ replicate (n - 1) startingNode) q
+
+-- the same in the tower, with these members, four calls made and no message waiting
+abbrev pub gathered : ℕ → List ℕ → State
+gathered n is = gatheredIn tower n (setOf is) 4 []
 
 -- three nodes
 abbrev pub three : Node → Node → Node → List Message → State
@@ -905,6 +913,9 @@ pub record TrafficCases : Type 0 where
   -- nor the count of what is delivered, whose reply goes the other way
   pub deliver-at-end : step (past 2 1 33554429 0 (pair Normal none Idle (queued 1))) (Deliver 2 1)
       ≡ accepted (past 2 1 33554430 0 (pair Normal none Idle (replies 1 2 (callNo 1) true ∷ []))) Plain
+  -- a full peal of two of four meets 19 (T-10), and not 17, which another task meets
+  pub minority-at-end : step (past 1 2 33554430 0 (gathered 4 (2 ∷ []))) (Finish 1 (taskNo 100)) ≡ refused 19
+  pub minority-at-end-above : step (past 1 2 33554430 0 (gathered 4 (2 ∷ []))) (Finish 1 (taskNo 200)) ≡ refused 17
   -- a check of a member meets 18 (T-06), and not 17
   pub member-at-end : step (past 2 1 33554430 0 (beside (follower Normal 32 100 none 2 Idle) [])) (Check 2) ≡ refused 18
   -- "after 14": 12 before 13 before 14 before 17
@@ -1006,6 +1017,83 @@ pub record CheckCases : Type 0 where
   pub skipped : run 2 tower (k10 ++ (Check 1 ∷ Check 2 ∷ [])) ≡ run 2 tower (k10 ++ (Check 2 ∷ []))
   -- its number
   pub number : answerNumber NotCoordinator ≡ 18
+
+-- ── 02, T-10: full peal only by a majority ──
+
+-- what is printed of node 1 after its finish with task t, as it hands it to the k members that it has, or, with none, is Normal
+abbrev pub finished : ℕ → ℕ → ℕ → List ℕ
+finished status t k = 1 ∷ status ∷ 1 ∷ 16 ∷ t ∷ 1 ∷ k ∷ []
+
+-- node 2 of two invites node 1, gets no answer, and collects alone
+abbrev pub unanswered : List Event
+unanswered = Recover 1 ∷ Recover 2 ∷ Check 2 ∷ Deliver 2 1 ∷ Deliver 1 2 ∷ Expire 2 ∷ []
+
+-- node 2 of three, which found node 1, and not node 3: node 1 accepts, and node 2 collects
+abbrev pub firstTwo : List Event
+firstTwo = Recover 1 ∷ Recover 2 ∷ Check 2 ∷ Deliver 2 1 ∷ Deliver 1 2 ∷ Expire 2 ∷ Deliver 2 1 ∷ Deliver 1 2 ∷ Deliver 2 1 ∷ Deliver 1 2 ∷ []
+
+-- node 1 leaves, and accepts the invitation of node 3, which found it, and not node 2
+abbrev pub lastTwo : List Event
+lastTwo = Crash 1 ∷ Recover 1 ∷ Recover 3 ∷ Check 3 ∷ Deliver 3 1 ∷ Deliver 1 3 ∷ Expire 3 ∷ Deliver 3 1 ∷ Deliver 1 3 ∷ Deliver 3 1 ∷ Deliver 1 3 ∷ []
+
+-- node 2 starts a full peal, and then node 3 another: node 1 was counted for both
+abbrev pub countedTwice : List Event
+countedTwice = firstTwo ++ (Finish 2 (taskNo 100) ∷ (lastTwo ++ (Finish 3 (taskNo 199) ∷ Deliver 2 1 ∷ Deliver 1 2 ∷ Deliver 3 1 ∷ Deliver 1 3 ∷ [])))
+
+pub record MajorityCases : Type 0 where
+  -- one of two: 100 and 199 are refused with 19; 99 with 8; 200 passes, and so does the last task
+  pub one-of-two : step (gathered 2 []) (Finish 1 (taskNo 100)) ≡ refused 19
+  pub one-of-two-between : step (gathered 2 []) (Finish 1 (taskNo 150)) ≡ refused 19
+  pub one-of-two-end : step (gathered 2 []) (Finish 1 (taskNo 199)) ≡ refused 19
+  pub one-of-two-below : step (gathered 2 []) (Finish 1 (taskNo 99)) ≡ refused 8
+  pub one-of-two-above : printedFields (after (gathered 2 []) (Finish 1 (taskNo 200))) 1 ≡ finished 3 200 0
+  pub one-of-two-last : printedFields (after (gathered 2 []) (Finish 1 (taskNo 65535))) 1 ≡ finished 3 65535 0
+  -- two of two, and two of three: 100 and 199 pass, and 200 as before
+  pub two-of-two : printedFields (after (gathered 2 (2 ∷ [])) (Finish 1 (taskNo 100))) 1 ≡ finished 2 100 1
+  pub two-of-two-end : printedFields (after (gathered 2 (2 ∷ [])) (Finish 1 (taskNo 199))) 1 ≡ finished 2 199 1
+  pub two-of-three : printedFields (after (gathered 3 (3 ∷ [])) (Finish 1 (taskNo 100))) 1 ≡ finished 2 100 1
+  pub two-of-three-end : printedFields (after (gathered 3 (3 ∷ [])) (Finish 1 (taskNo 199))) 1 ≡ finished 2 199 1
+  pub two-of-three-above : printedFields (after (gathered 3 (3 ∷ [])) (Finish 1 (taskNo 200))) 1 ≡ finished 2 200 1
+  -- on either side of the edge: half of n is too few, one more is enough, for n even and odd, small and large
+  pub one-of-one : printedFields (after (gathered 1 []) (Finish 1 (taskNo 100))) 1 ≡ finished 3 100 0
+  pub one-of-three : step (gathered 3 []) (Finish 1 (taskNo 100)) ≡ refused 19
+  pub two-of-four : step (gathered 4 (4 ∷ [])) (Finish 1 (taskNo 100)) ≡ refused 19
+  pub three-of-four : printedFields (after (gathered 4 (2 ∷ 4 ∷ [])) (Finish 1 (taskNo 100))) 1 ≡ finished 2 100 2
+  pub two-of-five : step (gathered 5 (5 ∷ [])) (Finish 1 (taskNo 100)) ≡ refused 19
+  pub three-of-five : printedFields (after (gathered 5 (2 ∷ 5 ∷ [])) (Finish 1 (taskNo 100))) 1 ≡ finished 2 100 2
+  pub seven-of-fifteen : step (gathered 15 (2 ∷ 3 ∷ 5 ∷ 7 ∷ 11 ∷ 13 ∷ [])) (Finish 1 (taskNo 100)) ≡ refused 19
+  pub eight-of-fifteen : printedFields (after (gathered 15 (2 ∷ 3 ∷ 5 ∷ 7 ∷ 11 ∷ 13 ∷ 15 ∷ [])) (Finish 1 (taskNo 100))) 1 ≡ finished 2 100 7
+  pub eight-of-sixteen : step (gathered 16 (2 ∷ 3 ∷ 5 ∷ 7 ∷ 11 ∷ 13 ∷ 16 ∷ [])) (Finish 1 (taskNo 100)) ≡ refused 19
+  pub nine-of-sixteen : printedFields (after (gathered 16 (2 ∷ 3 ∷ 5 ∷ 7 ∷ 11 ∷ 13 ∷ 15 ∷ 16 ∷ [])) (Finish 1 (taskNo 100))) 1 ≡ finished 2 100 8
+  -- n counts, and not the limit: on the stand as in the tower
+  pub stand-one-of-two : step (gatheredIn stand 2 none 4 []) (Finish 1 (taskNo 100)) ≡ refused 19
+  pub stand-two-of-two : printedFields (after (gatheredIn stand 2 (setOf (2 ∷ [])) 4 []) (Finish 1 (taskNo 100))) 1 ≡ finished 2 100 1
+  pub stand-two-of-four : step (gatheredIn stand 4 (setOf (4 ∷ [])) 4 []) (Finish 1 (taskNo 100)) ≡ refused 19
+  pub stand-three-of-four : printedFields (after (gatheredIn stand 4 (setOf (2 ∷ 4 ∷ [])) 4 []) (Finish 1 (taskNo 100))) 1 ≡ finished 2 100 2
+  -- "in the state place after 18", so 1, 7, 8 (above), 9 and 10 come first: a table that is not in range, no such node, a Down one, one that does not collect
+  pub range-first : step (gathered 2 (1 ∷ [])) (Finish 1 (taskNo 100)) ≡ refused 1
+  pub number-first : step (gathered 2 []) (Finish 3 (taskNo 100)) ≡ refused 7
+  pub down-first : step (gathered 2 []) (Finish 2 (taskNo 100)) ≡ refused 9
+  pub activity-first : step (pair Election none (Inviting none none 1) []) (Finish 2 (taskNo 100)) ≡ refused 10
+  -- and 13 and 14 behind it (17: TrafficCases.minority-at-end), which the same node meets with 200, and with a majority
+  pub calls-end : step (gatheredIn tower 4 (setOf (2 ∷ [])) 16777215 []) (Finish 1 (taskNo 100)) ≡ refused 19
+  pub calls-end-above : step (gatheredIn tower 4 (setOf (2 ∷ [])) 16777215 []) (Finish 1 (taskNo 200)) ≡ refused 13
+  pub calls-end-majority : step (gatheredIn tower 3 (setOf (2 ∷ [])) 16777215 []) (Finish 1 (taskNo 100)) ≡ refused 13
+  pub full : step (gatheredIn tower 4 (setOf (2 ∷ [])) 4 (queued 64)) (Finish 1 (taskNo 100)) ≡ refused 19
+  pub full-above : step (gatheredIn tower 4 (setOf (2 ∷ [])) 4 (queued 64)) (Finish 1 (taskNo 200)) ≡ refused 14
+  pub full-majority : step (gatheredIn tower 3 (setOf (2 ∷ [])) 4 (queued 64)) (Finish 1 (taskNo 100)) ≡ refused 14
+  -- of a run: what follows a finish that is turned away is done as if it were not there, and the same node may still start another task
+  pub run-turned-away : step (run 2 tower unanswered) (Finish 2 (taskNo 100)) ≡ refused 19
+  pub skipped : run 2 tower (unanswered ++ (Finish 2 (taskNo 100) ∷ Finish 2 (taskNo 200) ∷ [])) ≡ run 2 tower (unanswered ++ (Finish 2 (taskNo 200) ∷ []))
+  pub run-above : printedFields (run 2 tower (unanswered ++ (Finish 2 (taskNo 200) ∷ []))) 2 ≡ 2 ∷ 3 ∷ 2 ∷ 33 ∷ 200 ∷ 2 ∷ 0 ∷ []
+  -- "The count is of acceptances: a member that has left since still counts": node 1 accepts and crashes, and node 2 starts a full peal
+  pub left-counts : printedFields (after (run 2 tower (collecting ++ (Crash 1 ∷ []))) (Finish 2 (taskNo 100))) 2 ≡ 2 ∷ 2 ∷ 2 ∷ 33 ∷ 100 ∷ 2 ∷ 1 ∷ []
+  -- "so nothing is said about two coordinators that both counted it": node 2 of three plays one full peal, and nodes 1 and 3 another
+  pub both-counted-first : printedFields (run 3 tower countedTwice) 1 ≡ 1 ∷ 3 ∷ 3 ∷ 34 ∷ 199 ∷ 2 ∷ 0 ∷ []
+  pub both-counted-second : printedFields (run 3 tower countedTwice) 2 ≡ 2 ∷ 3 ∷ 2 ∷ 33 ∷ 100 ∷ 2 ∷ 1 ∷ []
+  pub both-counted-third : printedFields (run 3 tower countedTwice) 3 ≡ 3 ∷ 3 ∷ 3 ∷ 34 ∷ 199 ∷ 2 ∷ 1 ∷ []
+  -- its number
+  pub number : answerNumber NoMajority ≡ 19
 
 -- ── records, messages and tables at the ends of what is in range, and just outside: node 2 of three, and messages among three ──
 

@@ -1,23 +1,23 @@
 -- What is claimed of the definitions. The proofs are in proofs/.
-use Prim.Native.Nat.{ℕ, _+_, _-_, _^_, _≤_, _<_}
+use Prim.Native.Nat.{ℕ, _+_, _-_, _*_, _^_, _≤_, _<_}
 use mathlib.Core.Bool.{Bool, true, false, not, _&&_, _||_}
 use mathlib.Core.Path.{_≡_}
 use mathlib.Core.Logic.{_⊎_}
 use mathlib.Core.List.{List, [], _∷_, _++_, map}
-use lib.Dec.{eqb, ltb}
+use lib.Dec.{eqb, leb, ltb}
 use lib.ListN.{length, getD, set}
-use Rattle.node_set.specs.NodeSet.{has, without}
+use Rattle.node_set.specs.NodeSet.{has, without, highest, count}
 use Rattle.model.specs.Pick.{pick}
 use Rattle.model.specs.Limits.{nodeLimit, counterEnd, callEnd, trafficEnd}
 use Rattle.model.specs.Counts.{pairPlace, senderAt, receiverAt, countAt, oneMore, total}
-use Rattle.model.specs.Node.{isDown, isNormal, isActive, isIdle, groupOf, ownerOf, nextCall, asks, calls, replies}
+use Rattle.model.specs.Node.{isDown, isNormal, isActive, isIdle, isCollecting, groupOf, ownerOf, nextCall, asks, calls, readies, replies}
 use Rattle.model.specs.Recovery.{withStatus, withCounter, withGroup, withCoordinator, withMembers, withTask, recoveryRecords, stopped, recovered}
 use Rattle.model.specs.Procedures.{next, inviteNext, handNext, forwardNext}
 use Rattle.model.specs.React.{checked, expired, resumed}
-use Rattle.model.specs.Range.{PairRule, TwoPairs, LeftOut, pairRule, isTowerOrStand, isWithinTower, isNode, isPair, carriesGroup}
+use Rattle.model.specs.Range.{PairRule, TwoPairs, LeftOut, pairRule, isTowerOrStand, isWithinTower, isNode, isPair, isGivenTask, carriesGroup}
 use Rattle.model.specs.State.{State, startingNode, startBy, nodeAt, goes, waits, oldest, withoutOldest, waiting, countsAside, inRange}
-use Rattle.model.specs.Grounds.{Ground, ground, judged, NoneApplies}
-use Rattle.model.specs.Step.{actor, reactionTo, remaining, sent, withSent, withDelivered, withLost, effect, forms, grounds, refused, accepted, step, changed, aside, after, runBy, run}
+use Rattle.model.specs.Grounds.{Ground, ground, judged, NoneApplies, leavingOut}
+use Rattle.model.specs.Step.{actor, reactionTo, remaining, sent, withSent, withDelivered, withLost, effect, forms, grounds, Result, refused, accepted, step, changed, aside, after, runBy, run}
 use Rattle.model.specs.Traffic.{sends, delivers, loses, tally, sentIn, deliveredIn, lostIn, sendsAny, deliversAny, losesAny}
 use Rattle.model.specs.History.{NotFormed, NoTask, Task, newest, coming, historyBy, history}
 use Rattle.model.specs.Answers.{resultNumber}
@@ -169,13 +169,63 @@ pub record TrafficAgrees (r : PairRule) (n : ℕ) (l : Limits) : Type 0 where
   -- "From the starting table no event ever meets the new ground"
   pub never-seventeen : (es : List Event) (e : Event) → step (runBy r n l es) e ≡ refused 17 → ⊥
 
+-- ── T-10: full peals in a run ──
+
+-- "Tasks 100 to 199 are full peals"
+abbrev pub FullPeal : ℕ → Type 0
+FullPeal t = (100 ≤ t) × (t ≤ 199)
+
+-- "the coordinator and its members together are more than half of n", by the coordinator's record: it counts itself and each node of its set
+abbrev pub MoreThanHalf : ℕ → Node → Type 0
+MoreThanHalf n c = n < 2 * (1 + count (c .members))
+
+-- after a beginning of the list es, a finish with the full peal t by a node of the group g is accepted; by then the node counts more than half of n
+pub record PealStarted (r : PairRule) (n : ℕ) (l : Limits) (es : List Event) (g t : ℕ) : Type 0 where
+  pub before : List Event
+  pub node : ℕ
+  pub task : TaskNo
+  pub behind : List Event
+  pub table : State
+  pub whole : es ≡ before ++ (Finish node task ∷ behind)
+  pub number : task .number ≡ t
+  pub full-peal : FullPeal t
+  pub finishes : step (runBy r n l before) (Finish node task) ≡ accepted table Plain
+  pub group : nodeAt (runBy r n l before) node .group .number ≡ g
+  pub majority : MoreThanHalf n (nodeAt (runBy r n l before) node)
+
+-- node i counts node k in the table s: k is i itself, or in its member set
+abbrev pub Counts : State → ℕ → ℕ → Type 0
+Counts s i k = (k ≡ i) ⊎ (has (nodeAt s i .members) k ≡ true)
+
+-- a node that i counts in s and j counts in u
+pub record CountedByBoth (n : ℕ) (s : State) (i : ℕ) (u : State) (j : ℕ) : Type 0 where
+  pub node : ℕ
+  pub low : 1 ≤ node
+  pub high : node ≤ n
+  pub first : Counts s i node
+  pub second : Counts u j node
+
+-- Of every list of events from the starting table of n nodes with the limits l. "the smaller part of a split tower should not start one": what is claimed is that whoever
+-- starts one counts more than half of n, and so that two coordinators which start one count a common node. Not claimed is that no two start one: "The count is of
+-- acceptances: a member that has left since still counts, so nothing is said about two coordinators that both counted it." (MajorityCases.both-counted is such a run.)
+pub record PealsByMajority (r : PairRule) (n : ℕ) (l : Limits) : Type 0 where
+  -- whoever plays a full peal, Normal with such a task, has it from a finish in the list, by a node of its group that counted more than half of n
+  pub played : (es : List Event) (i : ℕ) → 1 ≤ i → i ≤ n → nodeAt (runBy r n l es) i .status ≡ Normal → FullPeal (nodeAt (runBy r n l es) i .task .number)
+      → PealStarted r n l es (nodeAt (runBy r n l es) i .group .number) (nodeAt (runBy r n l es) i .task .number)
+  -- and so has every group for which the history has such a task
+  pub entered : (es : List Event) (g t : ℕ) → historyBy r n l es .entry g ≡ Task t → FullPeal t → PealStarted r n l es g t
+  -- of any two that were started in the list, a node was counted for both
+  pub share : (es : List Event) (g t h u : ℕ) (a : PealStarted r n l es g t) (b : PealStarted r n l es h u)
+      → CountedByBoth n (runBy r n l (a .before)) (a .node) (runBy r n l (b .before)) (b .node)
+
 -- ── T-08: for which tables this is claimed ──
 
--- every run from the starting table of n nodes with the limits l: demand 3, where in the list each task comes from, the traffic, and the range
+-- every run from the starting table of n nodes with the limits l: demand 3, where in the list each task comes from, the traffic, full peals (T-10), and the range
 pub record RunHolds (r : PairRule) (n : ℕ) (l : Limits) : Type 0 where
   pub fixes : RunFixes r n l
   pub from-list : TaskFromList r n l
   pub traffic : TrafficAgrees r n l
+  pub peals : PealsByMajority r n l
   pub in-range : (es : List Event) → inRange (runBy r n l es) ≡ true
   pub never-one : (es : List Event) (e : Event) → step (runBy r n l es) e ≡ refused 1 → ⊥
   -- "its two limits are part of the table's starting data": no event changes them
@@ -248,16 +298,16 @@ pub record FirstApplies (gs : List Ground) (r : ℕ) : Type 0 where
   pub none-before : NoneApplies before
 
 pub record RefusesByGround : Type 0 where
-  -- the order of the grounds: 01's, with 18 "directly after 10" (T-06) and 17 "after 14" (T-05)
-  pub order : (s : State) (e : Event) → map (λ g. g .number) (grounds s e) ≡ 1 ∷ 7 ∷ 8 ∷ 9 ∷ 10 ∷ 18 ∷ 11 ∷ 12 ∷ 13 ∷ 14 ∷ 17 ∷ []
+  -- the order of the grounds: 01's, with 18 "directly after 10" (T-06), 19 "after 18" (T-10) and 17 "after 14" (T-05)
+  pub order : (s : State) (e : Event) → map (λ g. g .number) (grounds s e) ≡ 1 ∷ 7 ∷ 8 ∷ 9 ∷ 10 ∷ 18 ∷ 19 ∷ 11 ∷ 12 ∷ 13 ∷ 14 ∷ 17 ∷ []
   -- "the first that applies is given, and none without its ground", over the table of grounds: a refusal's number is that of the first ground that applies
   pub first : (s : State) (e : Event) (r : ℕ) → step s e ≡ refused r → FirstApplies (grounds s e) r
   pub first-given : (s : State) (e : Event) (r : ℕ) → FirstApplies (grounds s e) r → step s e ≡ refused r
   -- and an event is accepted exactly where none applies
   pub none : (s : State) (e : Event) (u : State) (k : Mark) → step s e ≡ accepted u k → NoneApplies (grounds s e)
   pub none-accepts : (s : State) (e : Event) → NoneApplies (grounds s e) → Accepts s e
-  -- a refusal's number is that of a ground of events: 1, 7 to 14, 17 or 18
-  pub numbers : (s : State) (e : Event) (r : ℕ) → step s e ≡ refused r → (r ≡ 1) ⊎ (((7 ≤ r) × (r ≤ 14)) ⊎ ((17 ≤ r) × (r ≤ 18)))
+  -- a refusal's number is that of a ground of events: 1, 7 to 14 or 17 to 19
+  pub numbers : (s : State) (e : Event) (r : ℕ) → step s e ≡ refused r → (r ≡ 1) ⊎ (((7 ≤ r) × (r ≤ 14)) ⊎ ((17 ≤ r) × (r ≤ 19)))
   -- so none has number 0, and a result of number 0 is an accepted event
   pub never-zero : (s : State) (e : Event) → step s e ≡ refused 0 → ⊥
   pub zero-accepts : (s : State) (e : Event) → resultNumber (step s e) ≡ 0 → Accepts s e
@@ -699,3 +749,135 @@ pub record CheckRules : Type 0 where
   -- "The lists of T-01 are too short to meet this": they have at most seven events, and none of the first seven of a run meets it (that they "stay the same" is said of
   -- the lists themselves, by short_lists_text)
   pub not-early : (n : ℕ) (l : Limits) (es : List Event) (e : Event) → length es ≤ 6 → step (run n l es) e ≡ refused 18 → ⊥
+
+-- ── 02, T-10: full peal only by a majority ──
+
+-- the grounds that finish i with task t can meet, in the order of the table of grounds
+abbrev pub finishGrounds : State → ℕ → TaskNo → List Ground
+finishGrounds s i t =
+    -- "not in range"
+    ground 1 (not (inRange s))
+    -- "cabinet outside 1 to n"
+    ∷ ground 7 (not (isNode (s .n) i))
+    -- "finish task outside 100 to 65,535"
+    ∷ ground 8 (not (leb 100 (t .number) && leb (t .number) 65535))
+    -- "all others but lose: cabinet .. Down"
+    ∷ ground 9 (isDown (nodeAt s i .status))
+    -- "finish: not collecting"
+    ∷ ground 10 (not (isCollecting (nodeAt s i .activity)))
+    -- 02: "finish with task 100 to 199 when twice the members plus two is at most n, in the state place after 18"
+    ∷ ground 19 (leb 100 (t .number) && leb (t .number) 199 && leb (2 * count (nodeAt s i .members) + 2) (s .n))
+    -- a call and a message are needed where there is a member: "a call is needed, last call number 16,777,215"
+    ∷ ground 13 (not (eqb (nodeAt s i .members) 0) && eqb (nodeAt s i .last .number) callEnd)
+    -- "a message is needed, 64 wait"; by T-08, as many as the table's own limit says
+    ∷ ground 14 (not (eqb (nodeAt s i .members) 0) && eqb (length (s .queue)) (s .limits .messages))
+    -- T-05: "a message must be sent and its pair's sent count is 33,554,430"
+    ∷ ground 17 (not (eqb (nodeAt s i .members) 0) && eqb (countAt (s .sent) i (highest (nodeAt s i .members))) trafficEnd)
+    ∷ []
+
+-- "finish i with task t: Reorganization, task t. It hands Ready to each member": to the highest first (T-02), in a new call; the message is behind the others, and counted
+abbrev pub withReady : State → ℕ → TaskNo → State
+withReady s i t = record {
+  rule = s .rule;
+  n = s .n;
+  limits = s .limits;
+  nodes = set (s .nodes) (i - 1)
+      (record {
+        status = Reorganization;
+        counter = nodeAt s i .counter;
+        group = nodeAt s i .group;
+        coordinator = nodeAt s i .coordinator;
+        task = t;
+        members = nodeAt s i .members;
+        last = nextCall (nodeAt s i);
+        activity = Handing (without (nodeAt s i .members) (highest (nodeAt s i .members))) (highest (nodeAt s i .members));
+      });
+  queue = s .queue ++ (readies i (highest (nodeAt s i .members)) (nextCall (nodeAt s i)) (nodeAt s i .group) t ∷ []);
+  sent = oneMore (s .sent) i (highest (nodeAt s i .members));
+  delivered = s .delivered;
+  lost = s .lost;
+}
+
+-- "or with none, Normal and idle"
+abbrev pub withTaskAlone : State → ℕ → TaskNo → State
+withTaskAlone s i t = record {
+  rule = s .rule;
+  n = s .n;
+  limits = s .limits;
+  nodes = set (s .nodes) (i - 1)
+      (record {
+        status = Normal;
+        counter = nodeAt s i .counter;
+        group = nodeAt s i .group;
+        coordinator = nodeAt s i .coordinator;
+        task = t;
+        members = nodeAt s i .members;
+        last = nodeAt s i .last;
+        activity = Idle;
+      });
+  queue = s .queue;
+  sent = s .sent;
+  delivered = s .delivered;
+  lost = s .lost;
+}
+
+-- what finish i with task t leaves where it is accepted
+abbrev pub withFinish : State → ℕ → TaskNo → State
+withFinish s i t = pick (eqb (nodeAt s i .members) 0) (withTaskAlone s i t) (withReady s i t)
+
+-- finish i with task t meets none of 1, 7, 8, 9 and 10: the table is in range, i is a node that is not Down, and collecting, and t is 100 to 65,535
+pub record FinishReaches (s : State) (i : ℕ) (t : TaskNo) : Type 0 where
+  pub in-range : inRange s ≡ true
+  pub number : isNode (s .n) i ≡ true
+  pub given : isGivenTask (t .number) ≡ true
+  pub not-down : isDown (nodeAt s i .status) ≡ false
+  pub collects : isCollecting (nodeAt s i .activity) ≡ true
+
+-- finish i with a full peal t reaches 19, and the coordinator and its members together are not more than half of n
+pub record FinishTurnedAway (s : State) (i : ℕ) (t : TaskNo) : Type 0 where
+  pub reaches : FinishReaches s i t
+  pub full-peal : FullPeal (t .number)
+  pub no-majority : MoreThanHalf (s .n) (nodeAt s i) → ⊥
+
+-- the event is a finish that 19 turns away
+pub record TurnsAway (s : State) (e : Event) : Type 0 where
+  pub node : ℕ
+  pub task : TaskNo
+  pub event : e ≡ Finish node task
+  pub turned-away : FinishTurnedAway s node task
+
+-- node i needs no call, as it has no member, or has one to make: 13, 14 and 17 do not apply
+abbrev pub MayHand : State → ℕ → Type 0
+MayHand s i =
+    (nodeAt s i .members ≡ 0)
+    ⊎ ((nodeAt s i .last .number < callEnd) × (length (s .queue) < s .limits .messages) × MaySend s i (highest (nodeAt s i .members)))
+
+-- the step as it was before T-10, by the table of grounds without 19
+abbrev pub formerStep : State → Event → Result
+formerStep s e = judged refused (accepted (effect s e) (reactionTo s e .mark)) (leavingOut 19 (grounds s e))
+
+pub record MajorityRules : Type 0 where
+  -- all of finish i with task t on any table, as one equation: it is refused by these grounds, in this order, and by nothing else; and what it leaves
+  pub finishes : (s : State) (i : ℕ) (t : TaskNo) → step s (Finish i t) ≡ judged refused (accepted (withFinish s i t) Plain) (finishGrounds s i t)
+  -- so an accepted one leaves this
+  pub leaves : (s : State) (i : ℕ) (t : TaskNo) (u : State) (k : Mark) → step s (Finish i t) ≡ accepted u k → u ≡ withFinish s i t
+  -- "A finish with such a task passes only if the coordinator and its members together are more than half of n."
+  pub only-if : (s : State) (i : ℕ) (t : TaskNo) (u : State) (k : Mark) → step s (Finish i t) ≡ accepted u k → FullPeal (t .number) → MoreThanHalf (s .n) (nodeAt s i)
+  -- and where they are not, it is refused with 19
+  pub turned-away : (s : State) (i : ℕ) (t : TaskNo) → FinishTurnedAway s i t → step s (Finish i t) ≡ refused 19
+  -- "Checks: 19, finish with task 100 to 199 when ..": no other event meets it, and no other finish
+  pub nineteen : (s : State) (e : Event) → step s e ≡ refused 19 → TurnsAway s e
+  -- "twice the members plus two is at most n" says the same as that the coordinator and its members are not more than half of n
+  pub at-most : (n : ℕ) (c : Node) → 2 * count (c .members) + 2 ≤ n → MoreThanHalf n c → ⊥
+  pub else-more : (n : ℕ) (c : Node) → (2 * count (c .members) + 2 ≤ n → ⊥) → MoreThanHalf n c
+  -- with more than half of n, or with another task, it passes where 13, 14 and 17 do not apply
+  pub passes : (s : State) (i : ℕ) (t : TaskNo) → FinishReaches s i t → (FullPeal (t .number) → MoreThanHalf (s .n) (nodeAt s i)) → MayHand s i
+      → step s (Finish i t) ≡ accepted (withFinish s i t) Plain
+  -- "Other tasks pass as before.": any event that is not such a finish is refused as it was, or accepted and does what it did
+  pub as-before : (s : State) (e : Event) → (TurnsAway s e → ⊥) → step s e ≡ formerStep s e
+  pub other-tasks : (s : State) (i : ℕ) (t : TaskNo) → (FullPeal (t .number) → ⊥) → step s (Finish i t) ≡ formerStep s (Finish i t)
+  -- with n = 1 the coordinator alone is more than half
+  pub one : (s : State) (e : Event) → s .n ≡ 1 → step s e ≡ refused 19 → ⊥
+  -- two full peals that are accepted, in whatever tables of n nodes, have a node that both coordinators count
+  pub share : (s u : State) (i j : ℕ) (t v : TaskNo) (x y : State) (k m : Mark) → s .n ≡ u .n → step s (Finish i t) ≡ accepted x k → FullPeal (t .number)
+      → step u (Finish j v) ≡ accepted y m → FullPeal (v .number) → CountedByBoth (s .n) s i u j

@@ -3,6 +3,7 @@ use Prim.Native.Nat.{ℕ}
 use mathlib.Core.Bool.{Bool, false}
 use mathlib.Core.Path.{_≡_}
 use mathlib.Core.List.{List, [], _∷_}
+use lib.Dec.{eqb}
 use Rattle.model.specs.Pick.{pick}
 
 -- a line of the table of grounds: its number, and whether it applies
@@ -22,6 +23,11 @@ judged refuse x (g ∷ gs) = pick (g .applies) (refuse (g .number)) (judged refu
 abbrev pub NoneApplies : List Ground → Type 0
 NoneApplies [] = Unit {0}
 NoneApplies (g ∷ gs) = (g .applies ≡ false) × NoneApplies gs
+
+-- the grounds of the list but that of number r
+abbrev pub leavingOut : ℕ → List Ground → List Ground
+leavingOut r [] = []
+leavingOut r (g ∷ gs) = pick (eqb (g .number) r) (leavingOut r gs) (g ∷ leavingOut r gs)
 
 -- the number of the first ground that applies, or 0
 unfoldable pub first : List Ground → ℕ

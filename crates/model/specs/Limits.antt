@@ -41,3 +41,10 @@ taskLow = 100
 -- "task, 0 to 65,535"
 abbrev pub taskEnd : ℕ
 taskEnd = 65535
+
+-- T-10: "Tasks 100 to 199 are full peals"
+abbrev pub fullPealLow : ℕ
+fullPealLow = 100
+
+abbrev pub fullPealEnd : ℕ
+fullPealEnd = 199

@@ -3,7 +3,7 @@ use Prim.Native.Nat.{ℕ}
 use mathlib.Core.Bool.{Bool, true, not, _&&_, _||_}
 use lib.Dec.{eqb, leb}
 use Rattle.node_set.specs.NodeSet.{has, within}
-use Rattle.model.specs.Limits.{tower, stand, counterEnd, callEnd, trafficEnd, tickEnd, taskLow, taskEnd}
+use Rattle.model.specs.Limits.{tower, stand, counterEnd, callEnd, trafficEnd, tickEnd, taskLow, taskEnd, fullPealLow, fullPealEnd}
 use Rattle.model.specs.Counts.{senderAt, receiverAt}
 use Rattle.model.specs.Node.{isDown, isIdle, ownerOf, counterOf}
 use Rattle.model.specs.declared.Limits.{Limits}
@@ -56,6 +56,10 @@ isGroup n g = leb 1 (counterOf g) && leb (counterOf g) counterEnd && leb (ownerO
 -- "task .. 100 to 65,535"
 abbrev pub isGivenTask : ℕ → Bool
 isGivenTask t = leb taskLow t && leb t taskEnd
+
+-- T-10: "Tasks 100 to 199 are full peals"
+abbrev pub isFullPeal : ℕ → Bool
+isFullPeal t = leb fullPealLow t && leb t fullPealEnd
 
 -- "call numbers in messages and of callers are at least 1"
 abbrev pub isCall : ℕ → Bool

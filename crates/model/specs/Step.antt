@@ -1,16 +1,17 @@
 -- The step: the table of grounds, the effect of an event, and runs.
-use Prim.Native.Nat.{ℕ, _+_, _-_}
+use Prim.Native.Nat.{ℕ, _+_, _-_, _*_}
 use mathlib.Core.Bool.{Bool, true, false, not, _&&_}
 use mathlib.Core.List.{List, [], _∷_, _++_}
-use lib.Dec.{eqb, ltb}
+use lib.Dec.{eqb, leb, ltb}
 use lib.ListN.{length, set}
+use Rattle.node_set.specs.NodeSet.{count}
 use Rattle.model.specs.Grounds.{Ground, ground, judged}
 use Rattle.model.specs.Limits.{counterEnd, callEnd, trafficEnd}
 use Rattle.model.specs.Counts.{countAt, oneMore}
 use Rattle.model.specs.Node.{isDown, isIdle, isWaiting, isCollecting, hasOpenCall}
 use Rattle.model.specs.Procedures.{stays}
 use Rattle.model.specs.React.{leads, react}
-use Rattle.model.specs.Range.{PairRule, isNode, isPair, isGivenTask}
+use Rattle.model.specs.Range.{PairRule, isNode, isPair, isGivenTask, isFullPeal}
 use Rattle.model.specs.State.{State, startBy, start, nodeAt, waits, oldest, withoutOldest, countsAside, inRange}
 use Rattle.model.specs.declared.Limits.{Limits}
 use Rattle.model.specs.declared.Status.{Status}
@@ -173,6 +174,19 @@ notCoordinator c (Finish i t) = false
 notCoordinator c (Deliver a b) = false
 notCoordinator c (Lose a b) = false
 
+-- 19: "finish with task 100 to 199 when twice the members plus two is at most n", by n and the record of the event's node. The members are those that it has counted:
+-- "The count is of acceptances: a member that has left since still counts"
+abbrev pub noMajority : ℕ → Node → Event → Bool
+noMajority n c (Crash i) = false
+noMajority n c (Recover i) = false
+noMajority n c (Check i) = false
+noMajority n c (Timeout i) = false
+noMajority n c (Tick i) = false
+noMajority n c (Expire i) = false
+noMajority n c (Finish i t) = isFullPeal (t .number) && leb (2 * count (c .members) + 2) n
+noMajority n c (Deliver a b) = false
+noMajority n c (Lose a b) = false
+
 -- 11: "deliver, lose: no message from a to b"
 abbrev pub noneWaits : List Message → Event → Bool
 noneWaits q (Crash i) = false
@@ -206,7 +220,7 @@ abbrev pub pairAtEnd : List ℕ → Outgoing → Bool
 pairAtEnd l Nothing = false
 pairAtEnd l (Send m) = eqb (countAt l (m .sender) (m .receiver)) trafficEnd
 
--- the table of grounds of an event, in 01's order, with 02's 17 and 18 in their places; 2 to 6 are the list's, 15 is the listing's and 16 that of T-01's program
+-- the table of grounds of an event, in 01's order, with 02's 17, 18 and 19 in their places; 2 to 6 are the list's, 15 is the listing's and 16 that of T-01's program
 unfoldable pub grounds : State → Event → List Ground
 grounds s e =
     -- "table handed in": "not in range"
@@ -219,6 +233,8 @@ grounds s e =
     ∷ ground 10 (wrongActivity (nodeAt s (actor e) .activity) e)
     -- T-06: "in the state place directly after 10"
     ∷ ground 18 (notCoordinator (nodeAt s (actor e)) e)
+    -- T-10: "in the state place after 18"
+    ∷ ground 19 (noMajority (s .n) (nodeAt s (actor e)) e)
     ∷ ground 11 (noneWaits (s .queue) e)
     -- "ends of ranges"
     ∷ ground 12 (forms (reactionTo s e .mark) && eqb (nodeAt s (actor e) .counter) counterEnd)

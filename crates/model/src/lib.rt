@@ -168,6 +168,7 @@ pub enum Answer {
     WrongStatus,
     WrongActivity,
     NotCoordinator,
+    NoMajority,
     NoMessage,
     CounterAtEnd,
     CallsAtEnd,
