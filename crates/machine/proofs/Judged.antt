@@ -97,20 +97,20 @@ module _ (n limit waiting k : ℕ) (c : Node) (m : Message) (e : Event) where
       }
 
   module _ (clear : first (numberGrounds n e) ≡ 0) where
-    past-numbers : first (judgedGrounds n limit waiting k c m e) ≡ first (stateGrounds c e (ltb k waiting) ++ endGrounds c (reactsTo n c m e) (leftOf waiting k) limit)
+    past-numbers : first (judgedGrounds n limit waiting k c m e) ≡ first (stateGrounds n c e (ltb k waiting) ++ endGrounds c (reactsTo n c m e) (leftOf waiting k) limit)
     past-numbers = first-clear (numberGrounds n e) _ refl clear
 
-    pub by-state : (a : Answer) (r : Reaction) → isAccepted a ≡ false → answerNumber a ≡ first (stateGrounds c e (ltb k waiting)) → Judged n limit waiting k c m e (record { answer = a; reaction = r })
+    pub by-state : (a : Answer) (r : Reaction) → isAccepted a ≡ false → answerNumber a ≡ first (stateGrounds n c e (ltb k waiting)) → Judged n limit waiting k c m e (record { answer = a; reaction = r })
     by-state a r q h =
         record {
-          answer = h ∙ sym (past-numbers ∙ first-met (stateGrounds c e (ltb k waiting)) _ (omega (arith, refused-some a q, h)));
+          answer = h ∙ sym (past-numbers ∙ first-met (stateGrounds n c e (ltb k waiting)) _ (omega (arith, refused-some a q, h)));
           reaction = λ z. absurd (some-not-none (answerNumber a) (refused-some a q) z);
         }
 
-    pub past-state : first (stateGrounds c e (ltb k waiting)) ≡ 0 → first (judgedGrounds n limit waiting k c m e) ≡ first (endGrounds c (reactsTo n c m e) (leftOf waiting k) limit)
-    past-state going = past-numbers ∙ first-clear (stateGrounds c e (ltb k waiting)) _ refl going
+    pub past-state : first (stateGrounds n c e (ltb k waiting)) ≡ 0 → first (judgedGrounds n limit waiting k c m e) ≡ first (endGrounds c (reactsTo n c m e) (leftOf waiting k) limit)
+    past-state going = past-numbers ∙ first-clear (stateGrounds n c e (ltb k waiting)) _ refl going
 
-    pub by-ends : first (stateGrounds c e (ltb k waiting)) ≡ 0 → (a : Answer) (r : Reaction) (left : ℕ) → r ≡ reactsTo n c m e → left ≡ leftOf waiting k → answerNumber a ≡ first (endGrounds c r left limit) → Judged n limit waiting k c m e (record { answer = a; reaction = r })
+    pub by-ends : first (stateGrounds n c e (ltb k waiting)) ≡ 0 → (a : Answer) (r : Reaction) (left : ℕ) → r ≡ reactsTo n c m e → left ≡ leftOf waiting k → answerNumber a ≡ first (endGrounds c r left limit) → Judged n limit waiting k c m e (record { answer = a; reaction = r })
     by-ends going a r left hr hl h = record { answer = h ∙ rw (hr, hl) (sym (past-state going)); reaction = λ z. hr }
 
 -- ── a judgement on a table: c and m as read from the arrays ──
@@ -137,16 +137,16 @@ module _ (t : Table) (z : Sized t) (ok : inRange (view t) ≡ true) (e : Event) 
     pub refuses : (a : Answer) → answerNumber a ≡ answerNumber (v .answer) → isAccepted a ≡ false → Stepped t e (record { answer = a; table = t })
     refuses a hn q = by-first (first (numberGrounds (t .n) e)) refl
       where
-        by-second : (clear : first (numberGrounds (t .n) e) ≡ 0) (y : ℕ) → first (stateGrounds c e (ltb k (t .waiting))) ≡ y → Stepped t e (record { answer = a; table = t })
+        by-second : (clear : first (numberGrounds (t .n) e) ≡ 0) (y : ℕ) → first (stateGrounds (t .n) c e (ltb k (t .waiting))) ≡ y → Stepped t e (record { answer = a; table = t })
         by-second clear zero y =
             let r = reaction-is t z ok e k hk reach c y f (node-is clear) in
             ends-refuse t e ok c (node-is clear) _ found clear y (reactsTo (t .n) c m e) (rw hm r) _ (left-counts t z ok e k hk reach _ refl) a q (hn ∙ j .answer ∙ past-state (t .n) (t .limits .messages) (t .waiting) k c m e clear y)
         by-second clear (suc x) y =
             state-refuses t e ok c (node-is clear) _ found clear a q
-            (hn ∙ j .answer ∙ first-clear (numberGrounds (t .n) e) _ refl clear ∙ first-met (stateGrounds c e (ltb k (t .waiting))) _ (omega arith))
+            (hn ∙ j .answer ∙ first-clear (numberGrounds (t .n) e) _ refl clear ∙ first-met (stateGrounds (t .n) c e (ltb k (t .waiting))) _ (omega arith))
 
         by-first : (x : ℕ) → first (numberGrounds (t .n) e) ≡ x → Stepped t e (record { answer = a; table = t })
-        by-first zero y = by-second y (first (stateGrounds c e (ltb k (t .waiting)))) refl
+        by-first zero y = by-second y (first (stateGrounds (t .n) c e (ltb k (t .waiting)))) refl
         by-first (suc x) y = numbers-refuse t e ok _ refl _ refl a q (hn ∙ j .answer ∙ first-met (numberGrounds (t .n) e) _ (omega arith))
 
     module _ (q : isAccepted (v .answer) ≡ true) where
@@ -156,8 +156,8 @@ module _ (t : Table) (z : Sized t) (ok : inRange (view t) ≡ true) (e : Event) 
       clear : first (numberGrounds (t .n) e) ≡ 0
       clear = first-none (numberGrounds (t .n) e) _ refl none .0
 
-      later : (first (stateGrounds c e (ltb k (t .waiting))) ≡ 0) × (first (endGrounds c (reactsTo (t .n) c m e) (leftOf (t .waiting) k) (t .limits .messages)) ≡ 0)
-      later = first-none (stateGrounds c e (ltb k (t .waiting))) _ refl (first-none (numberGrounds (t .n) e) _ refl none .1)
+      later : (first (stateGrounds (t .n) c e (ltb k (t .waiting))) ≡ 0) × (first (endGrounds c (reactsTo (t .n) c m e) (leftOf (t .waiting) k) (t .limits .messages)) ≡ 0)
+      later = first-none (stateGrounds (t .n) c e (ltb k (t .waiting))) _ refl (first-none (numberGrounds (t .n) e) _ refl none .1)
 
       acts : v .reaction ≡ reactsTo (t .n) c m e
       acts = j .reaction (accepted-zero (v .answer) q)

@@ -1,7 +1,7 @@
 -- No mutant and no wrong turning meets the contract: computed over the definitions on concrete tables, and shown for every table where the claim is for every one.
 use Prim.Native.Nat.{ℕ, zero, suc, _+_, _-_, _≤_, _<_}
 use native.Mathlib.Omega.{arith}
-use mathlib.Core.Bool.{Bool, true, false, not, _&&_, and-false, true≢false}
+use mathlib.Core.Bool.{Bool, true, false, not, _&&_, _||_, and-false, true≢false}
 use mathlib.Core.Path.{_≡_, refl, sym, _∙_, ap, subst}
 use mathlib.Core.Logic.{_⊎_, ⊎-elim}
 use mathlib.Core.List.{List, [], _∷_, _++_, map, append-nil, append-cancel-left}
@@ -22,7 +22,7 @@ use Rattle.model.specs.React.{checked, timedOut, ticked, expired, resumed, onAr
 use Rattle.model.specs.Range.{PairRule, TwoPairs, pairRule, isWithinTower, activityInRange, nodeInRange, messageInRange}
 use Rattle.model.specs.State.{State, startingNode, start, nodeAt, noMessage, waits, oldest, withoutOldest, allWaiting, countsAside, every, baseInRange, trafficInRange, inRange, firstOf, view, tableOf}
 use Rattle.model.specs.Grounds.{judged}
-use Rattle.model.specs.Step.{actor, reactionTo, remaining, sent, withSent, withDelivered, withLost, effect, wrongStatus, notCoordinator, forms, isCalling, isSending, pairAtEnd, grounds, Result, refused, accepted, step, kept, aside, after, runFrom}
+use Rattle.model.specs.Step.{actor, reactionTo, remaining, sent, withSent, withDelivered, withLost, effect, wrongStatus, notCoordinator, noMajority, forms, isCalling, isSending, pairAtEnd, grounds, Result, refused, accepted, step, kept, aside, after, runFrom}
 use Rattle.model.specs.Answers.{answerNumber, resultNumber}
 use Rattle.model.specs.Claims.{Lacks, MayStart, Sends, whomNow, whomStill, Below, Picked, InvitationReaches, Holds, recoversAtExpire, recordAfter, CheckReaches, DoesNotLead}
 use Rattle.model.proofs.Judged.{Clear, by-step, clear-accepts, accepted-apart, accepted-is, refused-same, met}
@@ -35,7 +35,7 @@ use Rattle.model.proofs.InRange.{delivery-never-full, stays-in-range}
 use Rattle.model.proofs.Refusals.{refuses-by-ground}
 use Rattle.model.proofs.Aside.{resultAside, waiting-aside, aside-result, quick, aside-kept, run-aside, start-room, run-below}
 use Rattle.model.proofs.Cases.{invited-twice}
-use Rattle.model.proofs.CallOrder.{call-order}
+use Rattle.model.proofs.CallOrder.{or-right, call-order}
 use Rattle.model.proofs.Invitation.{kind-three}
 use Rattle.model.proofs.InvitationRules.{acts-not-normal, invitation-rules}
 use Rattle.model.proofs.Recovery.{expire-recovers}
@@ -333,15 +333,16 @@ pair-first n lim e = none (reactionTo (start n lim) e .outgoing)
     none Nothing = refl
     none (Send m) = let p = pairPlace (m .sender) (m .receiver) in ne-eqb (getD noCounts p 0) trafficEnd (λ q. omega (arith, q, start-room 0 (omega arith) p))
 
--- 9 comes before 18, as all nodes are Down
-first-down : (n : ℕ) (lim : Limits) (e : Event) → wrongStatus (nodeAt (start n lim) (actor e) .status) e ≡ false → notCoordinator (nodeAt (start n lim) (actor e)) e ≡ true → ⊥
+-- 9 comes before 18 and 19, as all nodes are Down
+first-down : (n : ℕ) (lim : Limits) (e : Event) → wrongStatus (nodeAt (start n lim) (actor e) .status) e ≡ false
+    → notCoordinator (nodeAt (start n lim) (actor e)) e || noMajority n (nodeAt (start n lim) (actor e)) e ≡ true → ⊥
 first-down n lim (Crash i) up q = true≢false (sym q)
 first-down n lim (Recover i) up q = true≢false (sym q)
 first-down n lim (Check i) up q = true≢false (sym (ap (λ (c : Node). isDown (c .status)) (start-node n (i - 1))) ∙ up)
 first-down n lim (Timeout i) up q = true≢false (sym q)
 first-down n lim (Tick i) up q = true≢false (sym q)
 first-down n lim (Expire i) up q = true≢false (sym q)
-first-down n lim (Finish i t) up q = true≢false (sym q)
+first-down n lim (Finish i t) up q = true≢false (sym (ap (λ (c : Node). isDown (c .status)) (start-node n (i - 1))) ∙ up)
 first-down n lim (Deliver a b) up q = true≢false (sym q)
 first-down n lim (Lose a b) up q = true≢false (sym q)
 
@@ -358,12 +359,13 @@ first-small n lim e =
     (λ _. by-test P (λ _ h. omega arith)
     (λ _. by-test P (λ _ h. omega arith)
     (λ up. by-test P (λ _ h. omega arith)
-    (λ _. by-test P (λ q h. first-down n lim e up q)
+    (λ _. by-test P (λ q h. first-down n lim e up (ap (λ (v : Bool). v || noMajority n (nodeAt (start n lim) (actor e)) e) q))
+    (λ _. by-test P (λ q h. first-down n lim e up (or-right (notCoordinator (nodeAt (start n lim) (actor e)) e) _ q))
     (λ _. by-test P (λ _ h. omega arith)
     (λ _. by-test P (λ q h. absurd (end (forms (reactionTo (start n lim) e .mark)) (nodeAt (start n lim) (actor e) .counter) counterEnd q (ap (λ (c : Node). c .counter) (start-node n (actor e - 1))) (omega arith)))
     (λ _. by-test P (λ q h. absurd (end (isCalling (reactionTo (start n lim) e .outgoing)) (nodeAt (start n lim) (actor e) .last .number) callEnd q (ap (λ (c : Node). c .last .number) (start-node n (actor e - 1))) (omega arith)))
     (λ _. by-test P (λ q h. absurd (end (isSending (reactionTo (start n lim) e .outgoing)) (length (remaining (start n lim) e)) (lim .messages) q (ap length (none-remains n lim e)) (some-messages (start n lim) refl (not-false _ ok))))
-    (λ _. by-test P (λ q h. true≢false (sym q ∙ pair-first n lim e)) (λ _ h. omega arith)))))))))))
+    (λ _. by-test P (λ q h. true≢false (sym q ∙ pair-first n lim e)) (λ _ h. omega arith))))))))))))
   where
     P : Result → Type 0
     P q = 12 ≤ resultNumber q → ⊥

@@ -22,7 +22,7 @@ use Rattle.model.specs.declared.Message.{Message}
 use Rattle.model.specs.declared.Reaction.{Reaction}
 use Rattle.model.specs.declared.Table.{Table}
 use Rattle.model.specs.declared.Answer.{Answer}
-use Rattle.model.specs.declared.Answer.the-variants.{Accepted, NotInRange, WrongNumber, WrongTask, WrongStatus, WrongActivity, NotCoordinator, NoMessage, CounterAtEnd, CallsAtEnd, QueueFull, SentAtEnd}
+use Rattle.model.specs.declared.Answer.the-variants.{Accepted, NotInRange, WrongNumber, WrongTask, WrongStatus, WrongActivity, NotCoordinator, NoMajority, NoMessage, CounterAtEnd, CallsAtEnd, QueueFull, SentAtEnd}
 use Rattle.model.specs.declared.Event.{Event}
 use Rattle.model.specs.declared.Event.the-variants.{Crash, Recover, Check, Timeout, Tick, Expire, Finish, Deliver, Lose}
 use Rattle.machine.specs.Parts.{place, without, takes, sender, placeFor, numberGrounds, stateGrounds, endGrounds, lastGrounds, isAccepted, reactsTo}
@@ -128,6 +128,7 @@ accepted-zero WrongTask q = absurd (true≢false (sym q))
 accepted-zero WrongStatus q = absurd (true≢false (sym q))
 accepted-zero WrongActivity q = absurd (true≢false (sym q))
 accepted-zero NotCoordinator q = absurd (true≢false (sym q))
+accepted-zero NoMajority q = absurd (true≢false (sym q))
 accepted-zero NoMessage q = absurd (true≢false (sym q))
 accepted-zero CounterAtEnd q = absurd (true≢false (sym q))
 accepted-zero CallsAtEnd q = absurd (true≢false (sym q))
@@ -143,6 +144,7 @@ zero-accepted WrongTask = refl
 zero-accepted WrongStatus = refl
 zero-accepted WrongActivity = refl
 zero-accepted NotCoordinator = refl
+zero-accepted NoMajority = refl
 zero-accepted NoMessage = refl
 zero-accepted CounterAtEnd = refl
 zero-accepted CallsAtEnd = refl
@@ -157,6 +159,7 @@ refused-some WrongTask q = omega arith
 refused-some WrongStatus q = omega arith
 refused-some WrongActivity q = omega arith
 refused-some NotCoordinator q = omega arith
+refused-some NoMajority q = omega arith
 refused-some NoMessage q = omega arith
 refused-some CounterAtEnd q = omega arith
 refused-some CallsAtEnd q = omega arith
@@ -176,7 +179,7 @@ refused-stepped t e a q h =
 -- the grounds in three groups, of a table in range
 module _ (t : Table) (e : Event) (ok : inRange (view t) ≡ true) (c : Node) (hc : c ≡ nodeAt (view t) (actor e)) (found : Bool) (hf : found ≡ ltb (placeFor (view t .queue) e) (length (view t .queue))) where
   grounds-are : (r : Reaction) (left : ℕ) → r ≡ reactionTo (view t) e → left ≡ length (remaining (view t) e)
-      → grounds (view t) e ≡ ground 1 false ∷ (numberGrounds (t .n) e ++ (stateGrounds c e found ++ (endGrounds c r left (t .limits .messages) ++ lastGrounds (t .sent) (r .outgoing))))
+      → grounds (view t) e ≡ ground 1 false ∷ (numberGrounds (t .n) e ++ (stateGrounds (t .n) c e found ++ (endGrounds c r left (t .limits .messages) ++ lastGrounds (t .sent) (r .outgoing))))
   unfolding grounds
   grounds-are r left hr hl = rw (hc, hf, hr, hl, ok, none-place (view t .queue) e)
 
@@ -188,7 +191,7 @@ module _ (t : Table) (e : Event) (ok : inRange (view t) ≡ true) (c : Node) (hc
   unfolding first
   first-is xs = pick-false 1 (first xs)
 
-  actual : first (grounds (view t) e) ≡ first (numberGrounds (t .n) e ++ (stateGrounds c e found ++ behind))
+  actual : first (grounds (view t) e) ≡ first (numberGrounds (t .n) e ++ (stateGrounds (t .n) c e found ++ behind))
   actual = ap first (grounds-are _ _ refl refl) ∙ first-is _
 
   -- 7 and 8
@@ -196,16 +199,16 @@ module _ (t : Table) (e : Event) (ok : inRange (view t) ≡ true) (c : Node) (hc
   numbers-refuse a q h = refused-stepped t e a q (h ∙ sym (actual ∙ first-met (numberGrounds (t .n) e) _ (omega (arith, refused-some a q, h))))
 
   module _ (clear : first (numberGrounds (t .n) e) ≡ 0) where
-    past-numbers : first (grounds (view t) e) ≡ first (stateGrounds c e found ++ behind)
+    past-numbers : first (grounds (view t) e) ≡ first (stateGrounds (t .n) c e found ++ behind)
     past-numbers = actual ∙ first-clear (numberGrounds (t .n) e) _ refl clear
 
     -- 9, 10, 18 and 11
-    pub state-refuses : (a : Answer) → isAccepted a ≡ false → answerNumber a ≡ first (stateGrounds c e found) → Stepped t e (record { answer = a; table = t })
-    state-refuses a q h = refused-stepped t e a q (h ∙ sym (past-numbers ∙ first-met (stateGrounds c e found) _ (omega (arith, refused-some a q, h))))
+    pub state-refuses : (a : Answer) → isAccepted a ≡ false → answerNumber a ≡ first (stateGrounds (t .n) c e found) → Stepped t e (record { answer = a; table = t })
+    state-refuses a q h = refused-stepped t e a q (h ∙ sym (past-numbers ∙ first-met (stateGrounds (t .n) c e found) _ (omega (arith, refused-some a q, h))))
 
-    module _ (going : first (stateGrounds c e found) ≡ 0) (r : Reaction) (hr : r ≡ reactionTo (view t) e) (left : ℕ) (hl : left ≡ length (remaining (view t) e)) where
+    module _ (going : first (stateGrounds (t .n) c e found) ≡ 0) (r : Reaction) (hr : r ≡ reactionTo (view t) e) (left : ℕ) (hl : left ≡ length (remaining (view t) e)) where
       past-state : first (grounds (view t) e) ≡ first (endGrounds c r left (t .limits .messages) ++ lastGrounds (t .sent) (r .outgoing))
-      past-state = rw (hr, hl) (past-numbers ∙ first-clear (stateGrounds c e found) _ refl going)
+      past-state = rw (hr, hl) (past-numbers ∙ first-clear (stateGrounds (t .n) c e found) _ refl going)
 
       -- 12 to 14
       pub ends-refuse : (a : Answer) → isAccepted a ≡ false → answerNumber a ≡ first (endGrounds c r left (t .limits .messages)) → Stepped t e (record { answer = a; table = t })

@@ -152,12 +152,12 @@ module _ (t : Table) (z : Sized t) (ok : inRange (view t) ≡ true) (e : Event) 
         let m : k % 64 ≡ k = mod-eq-of-lt (omega (arith, small .2)) in
         rw (m, ← hk) (first-at (t .waiting) k (t .messages) d noMessage h (omega (arith, small .2, z .messages)))
 
-    module _ (c : Node) (going : first (stateGrounds c e (ltb k (t .waiting))) ≡ 0) where
+    module _ (c : Node) (going : first (stateGrounds (t .n) c e (ltb k (t .waiting))) ≡ 0) where
       -- an event that takes a message has found it
       taken-found : takes e ≡ true → k < t .waiting
       unfolding pick
       taken-found q =
-          let g11 : takes e && not (ltb k (t .waiting)) ≡ false = not-met 11 (stateGrounds c e (ltb k (t .waiting))) refl going in
+          let g11 : takes e && not (ltb k (t .waiting)) ≡ false = not-met 11 (stateGrounds (t .n) c e (ltb k (t .waiting))) refl going in
           ltb-true k (t .waiting) (not-false _ (rw q at g11))
 
       pub reaction-is : (d : Message) → c ≡ nodeAt (view t) (actor e) → reactsTo (t .n) c (getD (t .messages) (k % 64) d) e ≡ reactionTo (view t) e
@@ -228,12 +228,12 @@ module _ (t : Table) (z : Sized t) (ok : inRange (view t) ≡ true) (e : Event) 
               limit-few = in-range-within (view t) ok .1
 
       -- what is known where none of the grounds but 17 applies
-      pub clear-is : (c : Node) → c ≡ nodeAt (view t) (actor e) → first (numberGrounds (t .n) e) ≡ 0 → first (stateGrounds c e (ltb k (t .waiting))) ≡ 0 → (r : Reaction) → r ≡ reactionTo (view t) e
+      pub clear-is : (c : Node) → c ≡ nodeAt (view t) (actor e) → first (numberGrounds (t .n) e) ≡ 0 → first (stateGrounds (t .n) c e (ltb k (t .waiting))) ≡ 0 → (r : Reaction) → r ≡ reactionTo (view t) e
           → first (endGrounds c r left (t .limits .messages)) ≡ 0 → Clear (view t) e
       unfolding pick
       clear-is c hc g h r hr i =
           let numbers = numberGrounds (t .n) e in
-          let state = stateGrounds c e (ltb k (t .waiting)) in
+          let state = stateGrounds (t .n) c e (ltb k (t .waiting)) in
           let ends = endGrounds c r left (t .limits .messages) in
           record {
             in-range = ok;
@@ -242,6 +242,7 @@ module _ (t : Table) (z : Sized t) (ok : inRange (view t) ≡ true) (e : Event) 
             status = rw hc at (not-met 9 state refl h);
             activity = rw hc at (not-met 10 state refl h);
             coordinator = rw hc at (not-met 18 state refl h);
+            majority = rw hc at (not-met 19 state refl h);
             waiting = none-place (view t .queue) e ∙ rw found-is at (not-met 11 state refl h);
             counter = rw (hr, hc) at (not-met 12 ends refl i);
             calls = rw (hr, hc) at (not-met 13 ends refl i);

@@ -29,7 +29,7 @@ use Rattle.model.specs.declared.Event.{Event}
 use Rattle.model.specs.declared.Mark.{Mark}
 use Rattle.model.specs.declared.Outcome.{Outcome}
 use Rattle.model.specs.declared.Answer.{Answer}
-use Rattle.model.specs.declared.Answer.the-variants.{Accepted, NotInRange, WrongNumber, WrongTask, WrongStatus, WrongActivity, NotCoordinator, NoMessage, CounterAtEnd, CallsAtEnd, QueueFull, SentAtEnd}
+use Rattle.model.specs.declared.Answer.the-variants.{Accepted, NotInRange, WrongNumber, WrongTask, WrongStatus, WrongActivity, NotCoordinator, NoMajority, NoMessage, CounterAtEnd, CallsAtEnd, QueueFull, SentAtEnd}
 use Rattle.machine.specs.Stepped.{Stepped}
 use Rattle.machine.specs.Folded.{Folded, none, more}
 use Rattle.machine.specs.Claims.{AcceptedAlike, SteppedAlike, isForming, Chain, Reached, CodeRuns, CodeFixes, CodeTraffic, CodeHolds, CodeTowerAndStand}
@@ -68,12 +68,13 @@ answerOf r =
     (pick (eqb r 9) WrongStatus
     (pick (eqb r 10) WrongActivity
     (pick (eqb r 18) NotCoordinator
+    (pick (eqb r 19) NoMajority
     (pick (eqb r 11) NoMessage
     (pick (eqb r 12) CounterAtEnd
     (pick (eqb r 13) CallsAtEnd
     (pick (eqb r 14) QueueFull
     (pick (eqb r 17) SentAtEnd
-    Accepted))))))))))
+    Accepted)))))))))))
 
 answer-back : (a : Answer) → answerOf (answerNumber a) ≡ a
 unfolding answerOf pick
@@ -84,6 +85,7 @@ answer-back WrongTask = refl
 answer-back WrongStatus = refl
 answer-back WrongActivity = refl
 answer-back NotCoordinator = refl
+answer-back NoMajority = refl
 answer-back NoMessage = refl
 answer-back CounterAtEnd = refl
 answer-back CallsAtEnd = refl

@@ -14,7 +14,7 @@ use Rattle.model.specs.Range.{isTowerOrStand}
 use Rattle.model.specs.State.{State, wrongCount, goes}
 use Rattle.model.specs.Answers.{answerNumber}
 use Rattle.model.specs.Grounds.{Ground, ground, first}
-use Rattle.model.specs.Step.{actor, wrongNumber, wrongTask, wrongStatus, wrongActivity, notCoordinator, forms, isCalling, isSending, pairAtEnd, sent}
+use Rattle.model.specs.Step.{actor, wrongNumber, wrongTask, wrongStatus, wrongActivity, notCoordinator, noMajority, forms, isCalling, isSending, pairAtEnd, sent}
 use Rattle.model.specs.declared.Limits.{Limits}
 use Rattle.model.specs.declared.Node.{Node}
 use Rattle.model.specs.declared.Message.{Message}
@@ -22,7 +22,7 @@ use Rattle.model.specs.declared.Outgoing.{Outgoing}
 use Rattle.model.specs.declared.Outgoing.the-variants.{Nothing, Send}
 use Rattle.model.specs.declared.Reaction.{Reaction}
 use Rattle.model.specs.declared.Answer.{Answer}
-use Rattle.model.specs.declared.Answer.the-variants.{Accepted, NotInRange, WrongNumber, WrongTask, WrongStatus, WrongActivity, NotCoordinator, NoMessage, CounterAtEnd, CallsAtEnd, QueueFull, SentAtEnd}
+use Rattle.model.specs.declared.Answer.the-variants.{Accepted, NotInRange, WrongNumber, WrongTask, WrongStatus, WrongActivity, NotCoordinator, NoMajority, NoMessage, CounterAtEnd, CallsAtEnd, QueueFull, SentAtEnd}
 use Rattle.model.specs.declared.Input.{Input}
 use Rattle.model.specs.declared.Input.the-variants as Input
 use Rattle.node_step.specs.Fits.{Fits}
@@ -160,11 +160,12 @@ abbrev pub numberGrounds : ℕ → Event → List Ground
 numberGrounds n e = ground 7 (wrongNumber n e) ∷ ground 8 (wrongTask e) ∷ []
 
 -- by the state; found: a message for the event waits
-abbrev pub stateGrounds : Node → Event → Bool → List Ground
-stateGrounds c e found =
+abbrev pub stateGrounds : ℕ → Node → Event → Bool → List Ground
+stateGrounds n c e found =
     ground 9 (wrongStatus (c .status) e)
     ∷ ground 10 (wrongActivity (c .activity) e)
     ∷ ground 18 (notCoordinator c e)
+    ∷ ground 19 (noMajority n c e)
     ∷ ground 11 (takes e && not found)
     ∷ []
 
@@ -192,6 +193,7 @@ isAccepted WrongTask = false
 isAccepted WrongStatus = false
 isAccepted WrongActivity = false
 isAccepted NotCoordinator = false
+isAccepted NoMajority = false
 isAccepted NoMessage = false
 isAccepted CounterAtEnd = false
 isAccepted CallsAtEnd = false
@@ -253,12 +255,12 @@ leftOf waiting k = pick (ltb k waiting) (waiting - 1) waiting
 
 -- those that `judge` goes by: all but 1 and 17
 abbrev pub judgedGrounds : ℕ → ℕ → ℕ → ℕ → Node → Message → Event → List Ground
-judgedGrounds n limit waiting k c m e = numberGrounds n e ++ (stateGrounds c e (ltb k waiting) ++ endGrounds c (reactsTo n c m e) (leftOf waiting k) limit)
+judgedGrounds n limit waiting k c m e = numberGrounds n e ++ (stateGrounds n c e (ltb k waiting) ++ endGrounds c (reactsTo n c m e) (leftOf waiting k) limit)
 
 -- what the judgement needs where the grounds before it are clear
 pub record Judging (n waiting k : ℕ) (c : Node) (m : Message) (e : Event) : Type 0 where
   pub node : first (numberGrounds n e) ≡ 0 → Fits (actor e) c
-  pub message : first (numberGrounds n e) ≡ 0 → first (stateGrounds c e (ltb k waiting)) ≡ 0 → FitsMessage m e
+  pub message : first (numberGrounds n e) ≡ 0 → first (stateGrounds n c e (ltb k waiting)) ≡ 0 → FitsMessage m e
 
 pub record Judged (n limit waiting k : ℕ) (c : Node) (m : Message) (e : Event) (v : Verdict) : Type 0 where
   -- the number of the first of them that applies, or 0

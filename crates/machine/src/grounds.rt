@@ -1,7 +1,9 @@
 // The grounds of an event, and what its node does: functions over one node, one message and numbers.
 ghost use mathlib.Core.Path.{_≡_};
 ghost use mathlib.Core.Bool.{Bool, true, not, _&&_};
-ghost use Prim.Native.Nat.{ℕ, _-_, _≤_, _<_};
+ghost use Prim.Native.Nat.{ℕ, _+_, _-_, _*_, _≤_, _<_};
+ghost use lib.Dec.{leb};
+ghost use Rattle.node_set.specs.NodeSet.{count};
 ghost use Rattle.model.specs.Pick.{pick};
 ghost use Rattle.model.specs.Range.{isNode, isOther};
 ghost use Rattle.model.specs.Answers.{answerNumber};
@@ -155,6 +157,29 @@ pub fn not_coordinator(c: Node, e: Event) -> bool
     }
 }
 
+// "when twice the members plus two is at most n"
+fn is_minority(n: u8, members: u16) -> bool
+    ensures { λ r. ⌜ r ≡ leb (2 * count members + 2) n ⌝ }
+{
+    2 * node_set::count(members) + 2 <= n as u32
+}
+
+pub fn no_majority(n: u8, c: Node, e: Event) -> bool
+    ensures { λ r. ⌜ r ≡ spec.noMajority n c e ⌝ }
+{
+    match e {
+        Event::Crash(_) => false,
+        Event::Recover(_) => false,
+        Event::Check(_) => false,
+        Event::Timeout(_) => false,
+        Event::Tick(_) => false,
+        Event::Expire(_) => false,
+        Event::Finish(_, t) => predicates::is_full_peal(t) & is_minority(n, c.members),
+        Event::Deliver(_, _) => false,
+        Event::Lose(_, _) => false,
+    }
+}
+
 // Grounds 7 and 8.
 pub fn number_answer(n: u8, e: Event) -> Answer
     ensures { λ r. ⌜ answerNumber r ≡ first (parts.numberGrounds n e) ⌝ }
@@ -168,9 +193,9 @@ pub fn number_answer(n: u8, e: Event) -> Answer
     Answer::Accepted
 }
 
-// Grounds 9, 10, 18 and 11; found: a message for the event waits.
-pub fn state_answer(c: Node, e: Event, found: bool) -> Answer
-    ensures { λ r. ⌜ answerNumber r ≡ first (parts.stateGrounds c e found) ⌝ }
+// Grounds 9, 10, 18, 19 and 11; found: a message for the event waits.
+pub fn state_answer(n: u8, c: Node, e: Event, found: bool) -> Answer
+    ensures { λ r. ⌜ answerNumber r ≡ first (parts.stateGrounds n c e found) ⌝ }
 {
     let status = c.status;
     let activity = c.activity;
@@ -182,6 +207,9 @@ pub fn state_answer(c: Node, e: Event, found: bool) -> Answer
     }
     if not_coordinator(c, e) {
         return Answer::NotCoordinator;
+    }
+    if no_majority(n, c, e) {
+        return Answer::NoMajority;
     }
     if takes(e) & !found {
         return Answer::NoMessage;
@@ -228,6 +256,7 @@ pub fn is_accepted(a: Answer) -> bool
         Answer::WrongStatus => false,
         Answer::WrongActivity => false,
         Answer::NotCoordinator => false,
+        Answer::NoMajority => false,
         Answer::NoMessage => false,
         Answer::CounterAtEnd => false,
         Answer::CallsAtEnd => false,
@@ -248,6 +277,7 @@ pub fn answer_number(a: Answer) -> u8
         Answer::WrongStatus => 9,
         Answer::WrongActivity => 10,
         Answer::NotCoordinator => 18,
+        Answer::NoMajority => 19,
         Answer::NoMessage => 11,
         Answer::CounterAtEnd => 12,
         Answer::CallsAtEnd => 13,
@@ -389,7 +419,7 @@ pub fn judge(n: u8, limit: u8, waiting: u8, k: usize, c: Node, m: Message, e: Ev
             reaction: node_step::stays(c),
         };
     }
-    let state = state_answer(c, e, found);
+    let state = state_answer(n, c, e, found);
     if !is_accepted(state) {
         return Verdict {
             answer: state,

@@ -8,16 +8,20 @@ ghost use Rattle.model.specs.Node.{isDown, isElection, isReorganization, isNorm
 ghost use Rattle.model.specs.Pick.{pick};
 ghost use Rattle.model.specs.State.{wrongCount};
 ghost use Rattle.model.specs.Answers.{startNumber};
-ghost use Rattle.model.specs.Range.{sameLimits, isTowerOrStand, isNode, isOther, isSetOfOthers, isGivenTask};
+ghost use Rattle.model.specs.Range.{sameLimits, isTowerOrStand, isNode, isOther, isSetOfOthers, isGivenTask, isFullPeal};
 use model::Limits;
 use model::StartAnswer;
 use model::Status;
 use model::TaskNo;
 
-// The ends of a task's range, as in model's specs/Limits.
+// The ends of the ranges of a task and of a full peal, as in model's specs/Limits.
 pub const TASK_LOW: u16 = 100;
 
 pub const TASK_END: u16 = 65535;
+
+pub const FULL_PEAL_LOW: u16 = 100;
+
+pub const FULL_PEAL_END: u16 = 199;
 
 pub fn is_down(s: Status) -> bool
     ensures { λ r. ⌜ r ≡ isDown s ⌝ }
@@ -98,6 +102,13 @@ pub fn is_given_task(t: TaskNo) -> bool
     ensures { λ r. ⌜ r ≡ isGivenTask (t .number) ⌝ }
 {
     (TASK_LOW <= t.number) & (t.number <= TASK_END)
+}
+
+// "Tasks 100 to 199 are full peals"
+pub fn is_full_peal(t: TaskNo) -> bool
+    ensures { λ r. ⌜ r ≡ isFullPeal (t .number) ⌝ }
+{
+    (FULL_PEAL_LOW <= t.number) & (t.number <= FULL_PEAL_END)
 }
 
 // The limits of the tower.
