@@ -24,7 +24,7 @@ use Rattle.model.specs.State.{State, startingNode, start, nodeAt, noMessage, wa
 use Rattle.model.specs.Grounds.{judged}
 use Rattle.model.specs.Step.{actor, reactionTo, remaining, sent, withSent, withDelivered, withLost, effect, wrongStatus, notCoordinator, noMajority, forms, isCalling, isSending, pairAtEnd, grounds, Result, refused, accepted, step, kept, aside, after, runFrom}
 use Rattle.model.specs.Answers.{answerNumber, resultNumber}
-use Rattle.model.specs.Claims.{Lacks, MayStart, Sends, whomNow, whomStill, Below, Picked, InvitationReaches, Holds, recoversAtExpire, recordAfter, CheckReaches, DoesNotLead}
+use Rattle.model.specs.Claims.{Lacks, MayStart, Sends, whomNow, whomStill, Below, Picked, InvitationReaches, Holds, recoversAtExpire, recordAfter, CheckReaches, DoesNotLead, FullPeal, MoreThanHalf, FinishTurnedAway}
 use Rattle.model.proofs.Judged.{Clear, by-step, clear-accepts, accepted-apart, accepted-is, refused-same, met}
 use Rattle.model.proofs.Local.{both-right}
 use Rattle.model.proofs.Fields.{in-range-pair, in-range-own, in-range-size, own-record}
@@ -40,6 +40,7 @@ use Rattle.model.proofs.Invitation.{kind-three}
 use Rattle.model.proofs.InvitationRules.{acts-not-normal, invitation-rules}
 use Rattle.model.proofs.Recovery.{expire-recovers}
 use Rattle.model.proofs.Checks.{check-rules}
+use Rattle.model.proofs.Majority.{majority-rules}
 use Rattle.model.specs.Cases.{invitedOnce}
 use Rattle.model.specs.declared.Limits.{Limits}
 use Rattle.model.specs.declared.StartAnswer.the-variants.{Started, WrongLimits, WrongCount}
@@ -47,6 +48,7 @@ use Rattle.model.specs.declared.Status.the-variants.{Election}
 use Rattle.model.specs.declared.Activity.{Activity}
 use Rattle.model.specs.declared.Activity.the-variants.{Idle, Asking, Waiting, Handing}
 use Rattle.model.specs.declared.Node.{Node}
+use Rattle.model.specs.declared.TaskNo.{TaskNo}
 use Rattle.model.specs.declared.Message.{Message}
 use Rattle.model.specs.declared.Outgoing.{Outgoing}
 use Rattle.model.specs.declared.Outgoing.the-variants.{Nothing, Send}
@@ -57,11 +59,11 @@ use Rattle.model.specs.declared.Table.{Table}
 use Rattle.model.specs.declared.Event.{Event}
 use Rattle.model.specs.declared.Event.the-variants.{Crash, Recover, Check, Timeout, Tick, Expire, Finish, Deliver, Lose}
 use Rattle.model.specs.declared.Outcome.{Outcome}
-use Rattle.model.specs.declared.Answer.the-variants.{Accepted, NotInRange, NotCoordinator, SentAtEnd}
+use Rattle.model.specs.declared.Answer.the-variants.{Accepted, NotInRange, NotCoordinator, NoMajority, SentAtEnd}
 use Rattle.machine.specs.declared.RecoveryAnswer.{RecoveryAnswer}
 use Rattle.machine.specs.Stepped.{Stepped, startingTable, RecoveryAnswered}
 use Rattle.machine.specs.Parts.{takes}
-use Rattle.machine.specs.Mutants.{mergingTable, handingTable, invitedTable, askingTable, collectingTable, invites, Moves, NoOtherLimits, NoMutant, NoWrongTurning, NoLowerFirst, NoJoiningAgain, NoOtherRecovery, NoOtherCounts, NoOtherChecks}
+use Rattle.machine.specs.Mutants.{mergingTable, handingTable, invitedTable, askingTable, collectingTable, invites, Moves, NoOtherLimits, NoMutant, NoWrongTurning, NoLowerFirst, NoJoiningAgain, NoOtherRecovery, NoOtherCounts, NoOtherChecks, NoOtherPeals}
 use Rattle.model.proofs.Lists.{first-length}
 use Rattle.machine.proofs.Laws.{start-is}
 use Rattle.machine.proofs.Runs.{run-nodes, start-node, answer-known, by-number, accepted-alike, code-runs, code-fixes, folded-reached}
@@ -613,6 +615,53 @@ no-other-checks =
       one-changes = λ {t} {i} {r} n x h. h (x .table ∙ one-kept (view t) i n);
       early = λ n lim {es} {t} {e} {r} c few x y.
           check-rules .not-early n lim es e few (ap (λ (s : State). step s e) (sym (code-runs .from-start n lim es t c)) ∙ is-eighteen x y);
+    }
+
+-- ── T-10 ──
+
+-- an answer 19 is the model's
+is-nineteen : {t : Table} {e : Event} {r : Outcome} → Stepped t e r → r .answer ≡ NoMajority → step (view t) e ≡ refused 19
+is-nineteen {t} {e} {r} x y = by-number (step (view t) e) 19 (omega arith) (sym (ap answerNumber y) ∙ x .answer)
+
+-- so it is that of a finish of this node with this task
+turned-away-finish : {t : Table} {i : ℕ} {x : TaskNo} {r : Outcome} → Stepped t (Finish i x) r → r .answer ≡ NoMajority → FinishTurnedAway (view t) i x
+turned-away-finish {t} {i} {x} s y =
+    let z = majority-rules .nineteen (view t) (Finish i x) (is-nineteen s y) in
+    subst (λ (e : Event). turned e) (sym (z .event)) (z .turned-away)
+  where
+    turned : Event → Type 0
+    turned (Crash j) = Unit {0}
+    turned (Recover j) = Unit {0}
+    turned (Check j) = Unit {0}
+    turned (Timeout j) = Unit {0}
+    turned (Tick j) = Unit {0}
+    turned (Expire j) = Unit {0}
+    turned (Finish j v) = FinishTurnedAway (view t) j v
+    turned (Deliver a b) = Unit {0}
+    turned (Lose a b) = Unit {0}
+
+no-minority : {t : Table} {i : ℕ} {x : TaskNo} {r : Outcome} → FullPeal (x .number) → (MoreThanHalf (t .n) (nodeAt (view t) i) → ⊥) → Stepped t (Finish i x) r → r .answer ≡ Accepted → ⊥
+no-minority {t} {i} {x} p f s y = f (majority-rules .only-if (view t) i x _ _ (accepted-alike .model-accepts s y) p)
+
+pub no-other-peals : NoOtherPeals
+no-other-peals =
+    record {
+      passes = no-minority;
+      passes-half = λ {t} {i} p h s y. no-minority p (λ m. omega (arith, h, m)) s y;
+      changes = λ p f s h. h (s .same (no-minority p f s));
+      other-number = λ {t} {i} {x} {r} f s h. h (answer-known (r .answer) NoMajority (s .answer ∙ ap resultNumber (majority-rules .turned-away (view t) i x f)));
+      other-event = λ {t} {e} s f y. let z = majority-rules .nineteen (view t) e (is-nineteen s y) in f (z .node) (z .task) (z .event);
+      other-task = λ f s y. f (turned-away-finish s y .full-peal);
+      too-soon = λ f s y. f (turned-away-finish s y .reaches);
+      to-majority = λ m s y. turned-away-finish s y .no-majority m;
+      to-one = λ {t} {e} n s y. majority-rules .one (view t) e n (is-nineteen s y);
+      looks-further = λ {t} {u} {i} {x} n c s y v w.
+          let z = turned-away-finish s y in
+          z .no-majority
+          (subst (λ (k : ℕ). MoreThanHalf k (nodeAt (view t) i)) (sym n)
+          (subst (λ (d : Node). MoreThanHalf (u .n) d) (sym c) (majority-rules .only-if (view u) i x _ _ (accepted-alike .model-accepts v w) (z .full-peal))));
+      turns-away = λ {t} {i} {x} {r} z f m s h. h (answer-known (r .answer) Accepted (s .answer ∙ ap resultNumber (majority-rules .passes (view t) i x z f m)));
+      finishes-otherwise = λ {t} {i} {x} s y h. let q = accepted-alike .model-accepts s y in h (s .table ∙ ap (kept (view t)) q ∙ majority-rules .leaves (view t) i x _ _ q);
     }
 
 -- ── T-08 ──

@@ -15,12 +15,14 @@ use Rattle.model.specs.Step.{actor, reactionTo, Result, refused, accepted, step
 use Rattle.model.specs.Answers.{answerNumber, resultNumber}
 use Rattle.model.specs.History.{Task, coming, history}
 use Rattle.model.specs.Node.{isActive}
-use Rattle.model.specs.Claims.{Lacks, Fixes, MayStart, EachGroup}
+use Rattle.model.specs.Claims.{Lacks, Fixes, FullPeal, MoreThanHalf, PealStarted, CountedByBoth, MayStart, EachGroup}
 use Rattle.model.proofs.Judged.{accepted-is}
 use Rattle.model.proofs.Traffic.{run-n, run-limits, traffic-agrees}
 use Rattle.model.proofs.Refusals.{refuses-by-ground}
 use Rattle.model.proofs.Whole.{run-fixes}
 use Rattle.model.proofs.Fixed.{task-from-list}
+use Rattle.model.proofs.Majority.{majority-rules}
+use Rattle.model.proofs.Peals.{peals-by-majority}
 use Rattle.model.proofs.InRange.{start-small, stays-in-range}
 use Rattle.model.specs.declared.Limits.{Limits}
 use Rattle.model.specs.declared.Status.the-variants.{Normal}
@@ -32,7 +34,7 @@ use Rattle.model.specs.declared.Answer.{Answer}
 use Rattle.model.specs.declared.Answer.the-variants.{Accepted, NotInRange, WrongNumber, WrongTask, WrongStatus, WrongActivity, NotCoordinator, NoMajority, NoMessage, CounterAtEnd, CallsAtEnd, QueueFull, SentAtEnd}
 use Rattle.machine.specs.Stepped.{Stepped}
 use Rattle.machine.specs.Folded.{Folded, none, more}
-use Rattle.machine.specs.Claims.{AcceptedAlike, SteppedAlike, isForming, Chain, Reached, CodeRuns, CodeFixes, CodeTraffic, CodeHolds, CodeTowerAndStand}
+use Rattle.machine.specs.Claims.{AcceptedAlike, SteppedAlike, isForming, Chain, Reached, CodeRuns, CodeFixes, CodeTraffic, CodePeals, CodeHolds, CodeTowerAndStand}
 
 -- ── the tables of a chain are those of the model's run ──
 
@@ -218,12 +220,31 @@ module _ (chain : Chain) (folds : (t : Table) (es : List Event) (u : Table) → 
             (ap (λ (s : State). step s e) (sym (runs c)) ∙ by-number (step (view u) e) 17 (omega arith) (sym (ap answerNumber a) ∙ x .answer));
       }
 
+  pub chain-peals : (n : ℕ) (lim : Limits) → n ≤ nodeLimit → CodePeals chain n lim
+  chain-peals n lim h =
+      record {
+        played = λ {es} {t} c.
+            subst
+            (λ (s : State). (i : ℕ) → 1 ≤ i → i ≤ n → nodeAt s i .status ≡ Normal → FullPeal (nodeAt s i .task .number)
+            → PealStarted TwoPairs n lim es (nodeAt s i .group .number) (nodeAt s i .task .number))
+            (sym (runs c)) (peals-by-majority TwoPairs n lim h .played es);
+        only-if = λ {es} {u} {i} {x} {r} c s a p.
+            subst (λ (k : ℕ). MoreThanHalf k (nodeAt (view u) i)) (same-n c) (majority-rules .only-if (view u) i x _ _ (accepted-alike .model-accepts s a) p);
+        share = λ {es} {fs} {t} {u} {i} {j} {x} {y} {r} {q} c d s a p v b w.
+            subst (λ (k : ℕ). CountedByBoth k (view t) i (view u) j) (same-n c)
+            (majority-rules .share (view t) (view u) i j x y _ _ _ _ (same-n c ∙ sym (same-n d)) (accepted-alike .model-accepts s a) p (accepted-alike .model-accepts v b) w);
+      }
+    where
+      same-n : {es : List Event} {t : Table} → Reached chain n lim es t → view t .n ≡ n
+      same-n {es} c = ap (λ (s : State). s .n) (runs c) ∙ run-nodes n lim es
+
   -- 02, T-08
   pub chain-holds : (n : ℕ) (lim : Limits) → MayStart TwoPairs n lim → CodeHolds chain n lim
   chain-holds n lim s =
       record {
         fixes = chain-fixes n lim (start-small n lim s);
         traffic = chain-traffic n lim s;
+        peals = chain-peals n lim (start-small n lim s);
         in-range = λ {es} {t} c. chain-runs .in-range n lim s es t c;
         never-one = λ {es} {u} {e} {r} c x a.
             stays-in-range .never-one TwoPairs n lim s es e

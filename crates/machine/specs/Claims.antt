@@ -1,4 +1,4 @@
--- What is claimed of the tables that the code returns: they are those of the model's run, and demand 3, whole, and T-05 hold of them, in the tower and on the stand; of a starting
+-- What is claimed of the tables that the code returns: they are those of the model's run, and demand 3, whole, T-05 and T-10 hold of them, in the tower and on the stand; of a starting
 -- table; and of the records of a recovery. The proofs are in proofs/Runs, proofs/Beginning and proofs/Recovering.
 use Prim.Native.Nat.{ℕ, _+_, _≤_}
 use mathlib.Core.Bool.{Bool, true, false}
@@ -14,7 +14,7 @@ use Rattle.model.specs.Step.{actor, reactionTo, forms, accepted, step, runFrom,
 use Rattle.model.specs.History.{NotFormed, NoTask, Task, newest, coming, history}
 use Rattle.model.specs.Traffic.{tally, sentIn, deliveredIn, lostIn, sendsAny, deliversAny, losesAny}
 use Rattle.model.specs.Node.{isActive}
-use Rattle.model.specs.Claims.{Lacks, Fixes, MayStart, EachGroup, recordAfter}
+use Rattle.model.specs.Claims.{Lacks, Fixes, FullPeal, MoreThanHalf, PealStarted, CountedByBoth, MayStart, EachGroup, recordAfter}
 use Rattle.model.specs.declared.Limits.{Limits}
 use Rattle.model.specs.declared.Status.the-variants.{Normal}
 use Rattle.model.specs.declared.TaskNo.{TaskNo}
@@ -129,12 +129,28 @@ pub record CodeTraffic (chain : Chain) (n : ℕ) (l : Limits) : Type 0 where
   -- "From the starting table no event ever meets the new ground"
   pub never-seventeen : {es : List Event} {u : Table} {e : Event} {r : Outcome} → Reached chain n l es u → Stepped u e r → r .answer ≡ SentAtEnd → ⊥
 
+-- ── 02, T-10: full peal only by a majority ──
+
+-- T-10 of the tables that the code returned, as `PealsByMajority` (model/specs/Claims) has it of the run. Nothing is said about two coordinators that both counted a member.
+pub record CodePeals (chain : Chain) (n : ℕ) (l : Limits) : Type 0 where
+  -- whoever plays a full peal has it from a finish in the list, by a node of its group that counted more than half of n
+  pub played : {es : List Event} {t : Table} → Reached chain n l es t → (i : ℕ) → 1 ≤ i → i ≤ n → nodeAt (view t) i .status ≡ Normal → FullPeal (nodeAt (view t) i .task .number)
+      → PealStarted TwoPairs n l es (nodeAt (view t) i .group .number) (nodeAt (view t) i .task .number)
+  -- "A finish with such a task passes only if the coordinator and its members together are more than half of n."
+  pub only-if : {es : List Event} {u : Table} {i : ℕ} {x : TaskNo} {r : Outcome} → Reached chain n l es u → Stepped u (Finish i x) r → r .answer ≡ Accepted
+      → FullPeal (x .number) → MoreThanHalf n (nodeAt (view u) i)
+  -- of any two full peals that the code accepts, on whatever tables of n nodes it was led to, a node is counted for both
+  pub share : {es fs : List Event} {t u : Table} {i j : ℕ} {x y : TaskNo} {r q : Outcome} → Reached chain n l es t → Reached chain n l fs u
+      → Stepped t (Finish i x) r → r .answer ≡ Accepted → FullPeal (x .number) → Stepped u (Finish j y) q → q .answer ≡ Accepted → FullPeal (y .number)
+      → CountedByBoth n (view t) i (view u) j
+
 -- ── 02, T-08: for which tables this is claimed ──
 
 -- of the tables that the code returned, from the starting one of n nodes with the limits l
 pub record CodeHolds (chain : Chain) (n : ℕ) (l : Limits) : Type 0 where
   pub fixes : CodeFixes chain n l
   pub traffic : CodeTraffic chain n l
+  pub peals : CodePeals chain n l
   -- they are in range, no event on them is answered with 1, and they have those limits
   pub in-range : {es : List Event} {t : Table} → Reached chain n l es t → inRange (view t) ≡ true
   pub never-one : {es : List Event} {u : Table} {e : Event} {r : Outcome} → Reached chain n l es u → Stepped u e r → r .answer ≡ NotInRange → ⊥

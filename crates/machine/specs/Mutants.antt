@@ -1,13 +1,13 @@
--- "Try these impostors", "Wrong turnings in this protocol" and 02's T-02 to T-06 and T-08: what no machine does that meets `Stepped`, or `RecoveryAnswered`, or `Begun` (mutant: 01's impostor). A machine is here
+-- "Try these impostors", "Wrong turnings in this protocol" and 02's T-02 to T-06, T-08 and T-10: what no machine does that meets `Stepped`, or `RecoveryAnswered`, or `Begun` (mutant: 01's impostor). A machine is here
 -- whatever answers an event e on a table t with an outcome r, as a function f from tables and events does with f t e; nothing is asked of how it comes to r, so it may also
 -- remember. Each field takes as little of the mutant's behaviour as shuts it out: one event, and one thing that is wrong then. The proofs are in proofs/Mutants.
-use Prim.Native.Nat.{ℕ, _+_, _≤_, _<_}
+use Prim.Native.Nat.{ℕ, _+_, _*_, _≤_, _<_}
 use mathlib.Core.Bool.{Bool, true, false, not, _||_}
 use mathlib.Core.Path.{_≡_}
 use mathlib.Core.List.{List, [], _∷_, _++_, map}
 use lib.Dec.{eqb, ltb}
 use lib.ListN.{length, replicate}
-use Rattle.node_set.specs.NodeSet.{has}
+use Rattle.node_set.specs.NodeSet.{has, count}
 use Rattle.model.specs.Limits.{nodeLimit, tower, counterEnd, callEnd, trafficEnd}
 use Rattle.model.specs.Counts.{countAt, oneMore}
 use Rattle.model.specs.Node.{isDown, isNormal, hasOpenCall, groupOf, replies, isActive}
@@ -15,20 +15,21 @@ use Rattle.model.specs.Range.{TwoPairs, isTowerOrStand, isNode}
 use Rattle.model.specs.State.{State, wrongCount, nodeAt, waits, oldest, allWaiting, trafficInRange, inRange, view, tableOf}
 use Rattle.model.specs.Step.{actor, reactionTo, remaining, grounds}
 use Rattle.model.specs.Answers.{answerNumber}
-use Rattle.model.specs.Claims.{Lacks, MayStart, FirstApplies, whomNow, whomStill, whomAside, InvitationReaches, Owns, Holds, withPlainReply, MaySend, recoversAtExpire, recordAfter, firstOther, withCheck, CheckReaches, DoesNotLead}
+use Rattle.model.specs.Claims.{Lacks, MayStart, FirstApplies, whomNow, whomStill, whomAside, InvitationReaches, Owns, Holds, withPlainReply, MaySend, recoversAtExpire, recordAfter, firstOther, withCheck, CheckReaches, DoesNotLead, FullPeal, MoreThanHalf, withFinish, FinishReaches, FinishTurnedAway, MayHand}
 use Rattle.model.specs.Cases.{setOf, none, node, invitedOnce}
 use Rattle.model.specs.declared.Limits.{Limits}
 use Rattle.model.specs.declared.Mark.the-variants.{Merges}
 use Rattle.model.specs.declared.Status.the-variants.{Election, Reorganization, Normal}
 use Rattle.model.specs.declared.Activity.{Activity}
 use Rattle.model.specs.declared.Activity.the-variants.{Idle, Asking, Waiting, Inviting, Collecting, Handing, Contacting, Forwarding, Accepting}
+use Rattle.model.specs.declared.TaskNo.{TaskNo}
 use Rattle.model.specs.declared.Message.{Message}
 use Rattle.model.specs.declared.Outgoing.the-variants.{Nothing, Send}
 use Rattle.model.specs.declared.Table.{Table}
 use Rattle.model.specs.declared.Event.{Event}
 use Rattle.model.specs.declared.Event.the-variants.{Crash, Recover, Check, Timeout, Tick, Expire, Finish, Deliver, Lose}
 use Rattle.model.specs.declared.Outcome.{Outcome}
-use Rattle.model.specs.declared.Answer.the-variants.{Accepted, NotInRange, NotCoordinator, QueueFull, SentAtEnd}
+use Rattle.model.specs.declared.Answer.the-variants.{Accepted, NotInRange, NotCoordinator, NoMajority, QueueFull, SentAtEnd}
 use Rattle.model.specs.declared.StartAnswer.the-variants.{Started, WrongLimits, WrongCount}
 use Rattle.machine.specs.declared.Start.{Start}
 use Rattle.machine.specs.declared.RecoveryAnswer.{RecoveryAnswer}
@@ -350,6 +351,38 @@ pub record NoOtherChecks : Type 0 where
   pub one-changes : {t : Table} {i : ℕ} {r : Outcome} → t .n ≡ 1 → Stepped t (Check i) r → (view (r .table) ≡ view t → ⊥) → ⊥
   -- one that gives 18 to one of the first seven events from the starting table
   pub early : (n : ℕ) (l : Limits) {es : List Event} {t : Table} {e : Event} {r : Outcome} → Reached Folded n l es t → length es ≤ 6 → Stepped t e r → r .answer ≡ NotCoordinator → ⊥
+
+-- ── 02, T-10: full peal only by a majority ──
+
+-- No machine that meets `Stepped` is:
+pub record NoOtherPeals : Type 0 where
+  -- one that lets a full peal pass where the coordinator and its members together are not more than half of n
+  pub passes : {t : Table} {i : ℕ} {x : TaskNo} {r : Outcome} → FullPeal (x .number) → (MoreThanHalf (t .n) (nodeAt (view t) i) → ⊥) → Stepped t (Finish i x) r → r .answer ≡ Accepted → ⊥
+  -- where they are just half of it, say: "less than" read for "at most"
+  pub passes-half : {t : Table} {i : ℕ} {x : TaskNo} {r : Outcome} → FullPeal (x .number) → 2 * (1 + count (nodeAt (view t) i .members)) ≡ t .n → Stepped t (Finish i x) r → r .answer ≡ Accepted → ⊥
+  -- or changes something at it
+  pub changes : {t : Table} {i : ℕ} {x : TaskNo} {r : Outcome} → FullPeal (x .number) → (MoreThanHalf (t .n) (nodeAt (view t) i) → ⊥) → Stepped t (Finish i x) r → (r .table ≡ t → ⊥) → ⊥
+  -- or gives it another number, where the table is in range and i a node that collects: 13, 14 or 17 before 19, say
+  pub other-number : {t : Table} {i : ℕ} {x : TaskNo} {r : Outcome} → FinishTurnedAway (view t) i x → Stepped t (Finish i x) r → (r .answer ≡ NoMajority → ⊥) → ⊥
+  -- one that gives 19 to another event
+  pub other-event : {t : Table} {e : Event} {r : Outcome} → Stepped t e r → ((i : ℕ) (x : TaskNo) → e ≡ Finish i x → ⊥) → r .answer ≡ NoMajority → ⊥
+  -- or with another task
+  pub other-task : {t : Table} {i : ℕ} {x : TaskNo} {r : Outcome} → (FullPeal (x .number) → ⊥) → Stepped t (Finish i x) r → r .answer ≡ NoMajority → ⊥
+  -- or before 1, 7, 8, 9 or 10
+  pub too-soon : {t : Table} {i : ℕ} {x : TaskNo} {r : Outcome} → (FinishReaches (view t) i x → ⊥) → Stepped t (Finish i x) r → r .answer ≡ NoMajority → ⊥
+  -- or to a coordinator that with its members is more than half of n: one that leaves the coordinator out of the count, say
+  pub to-majority : {t : Table} {i : ℕ} {x : TaskNo} {r : Outcome} → MoreThanHalf (t .n) (nodeAt (view t) i) → Stepped t (Finish i x) r → r .answer ≡ NoMajority → ⊥
+  -- or with n = 1
+  pub to-one : {t : Table} {e : Event} {r : Outcome} → t .n ≡ 1 → Stepped t e r → r .answer ≡ NoMajority → ⊥
+  -- "a member that has left since still counts": one that gives 19 and looks at anything but n, the task and the coordinator's own record, at what the members do now, say,
+  -- or at the limits
+  pub looks-further : {t u : Table} {i : ℕ} {x : TaskNo} {r q : Outcome} → t .n ≡ u .n → nodeAt (view t) i ≡ nodeAt (view u) i
+      → Stepped t (Finish i x) r → r .answer ≡ NoMajority → Stepped u (Finish i x) q → q .answer ≡ Accepted → ⊥
+  -- one that turns away a finish with more than half of n, or with another task, where 13, 14 and 17 do not apply
+  pub turns-away : {t : Table} {i : ℕ} {x : TaskNo} {r : Outcome} → FinishReaches (view t) i x → (FullPeal (x .number) → MoreThanHalf (t .n) (nodeAt (view t) i)) → MayHand (view t) i
+      → Stepped t (Finish i x) r → (r .answer ≡ Accepted → ⊥) → ⊥
+  -- one that lets a finish pass and does anything else
+  pub finishes-otherwise : {t : Table} {i : ℕ} {x : TaskNo} {r : Outcome} → Stepped t (Finish i x) r → r .answer ≡ Accepted → (view (r .table) ≡ withFinish (view t) i x → ⊥) → ⊥
 
 -- ── 02, T-08: a practice stand ──
 
