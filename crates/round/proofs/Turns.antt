@@ -99,6 +99,7 @@ module _ (s : State) (a b : ℕ) (x : AtPair s (pair a b)) (w : waits a b (s .qu
         status = refl;
         activity = refl;
         coordinator = refl;
+        majority = refl;
         waiting = ap not w;
         counter = refl;
         calls = refl;
@@ -176,6 +177,7 @@ module _ (s : State) (a b : ℕ) (x : AtPair s (pair a b)) (w : waits a b (s .qu
           status = up;
           activity = refl;
           coordinator = refl;
+          majority = refl;
           waiting = ap not w;
           counter = d;
           calls = e;

@@ -12,3 +12,4 @@ pub mod Refuses
 pub mod Decides
 pub mod Legal
 pub mod Stay
+pub mod Fewer

@@ -16,32 +16,32 @@ use Rattle.listing.specs.Printing.{joined}
 use Rattle.short_lists_text.specs.Rows.{concatMap}
 use Rattle.short_lists_text.specs.Lists.{alphabet, continued, listsFrom}
 use Rattle.short_lists_text.specs.Text.{linesOf, fits, textOf}
-use Rattle.short_lists_text.specs.Claims.{formerResult, formerLists, ListsStay}
+use Rattle.short_lists_text.specs.Claims.{formerResult, uncheckedStep, listsBy, ListsStay}
 
-same-rows : {A B : Type 0} (f g : A → List B) → ((x : A) → f x ≡ g x) → (xs : List A) → concatMap f xs ≡ concatMap g xs
+pub same-rows : {A B : Type 0} (f g : A → List B) → ((x : A) → f x ≡ g x) → (xs : List A) → concatMap f xs ≡ concatMap g xs
 same-rows f g h [] = refl
 same-rows f g h (x ∷ xs) = ap₂ (λ (a b : _). a ++ b) (h x) (same-rows f g h xs)
 
 -- after the events es
-from-run : (n m : ℕ) (es : List Event) → length es + m ≤ 7 → formerLists m (run n tower es) ≡ listsFrom m (run n tower es)
-unfolding formerLists listsFrom runFrom
+from-run : (n m : ℕ) (es : List Event) → length es + m ≤ 7 → listsBy uncheckedStep m (run n tower es) ≡ listsFrom m (run n tower es)
+unfolding listsBy listsFrom runFrom
 from-run n zero es h = refl
 from-run n (suc m) es h = same-rows _ _ (λ e. each e (step (run n tower es) e) refl (from-run n m (es ++ (e ∷ [])) (omega (arith, h, length-append es (e ∷ []))))) (alphabet (run n tower es .n))
   where
-    each : (e : Event) (x : Result) → step (run n tower es) e ≡ x → formerLists m (run n tower (es ++ (e ∷ []))) ≡ listsFrom m (run n tower (es ++ (e ∷ [])))
-        → continued e (formerResult (run n tower es) x) (formerLists m) ≡ continued e x (listsFrom m)
+    each : (e : Event) (x : Result) → step (run n tower es) e ≡ x → listsBy uncheckedStep m (run n tower (es ++ (e ∷ []))) ≡ listsFrom m (run n tower (es ++ (e ∷ [])))
+        → continued e (formerResult (run n tower es) x) (listsBy uncheckedStep m) ≡ continued e x (listsFrom m)
     each e (refused r) q f =
-        by-test (λ (y : Result). continued e y (formerLists m) ≡ [])
+        by-test (λ (y : Result). continued e y (listsBy uncheckedStep m) ≡ [])
         (λ t. absurd (check-rules .not-early n tower es e (omega (arith, h)) (q ∙ ap refused (eqb-true r 18 t)))) (λ _. refl)
     each e (accepted u k) q f =
         ap (map (λ l. e ∷ l))
-        (subst (λ (s : State). formerLists m s ≡ listsFrom m s) (run-append (start n tower) es (e ∷ []) ∙ ap (kept (run n tower es)) q) f)
+        (subst (λ (s : State). listsBy uncheckedStep m s ≡ listsFrom m s) (run-append (start n tower) es (e ∷ []) ∙ ap (kept (run n tower es)) q) f)
 
-lists : (n m : ℕ) → m ≤ 7 → formerLists m (start n tower) ≡ listsFrom m (start n tower)
+lists : (n m : ℕ) → m ≤ 7 → listsBy uncheckedStep m (start n tower) ≡ listsFrom m (start n tower)
 unfolding runFrom
 lists n m h = from-run n m [] (omega (arith, h))
 
-texts : (n m : ℕ) → 1 ≤ n → n ≤ 3 → m ≤ 7 → textOf (n ∷ m ∷ []) ≡ joined (linesOf (formerLists m (start n tower)))
+texts : (n m : ℕ) → 1 ≤ n → n ≤ 3 → m ≤ 7 → textOf (n ∷ m ∷ []) ≡ joined (linesOf (listsBy uncheckedStep m (start n tower)))
 unfolding textOf fits pick
 texts n m l h k = rw (le-leb 1 n l, le-leb n 3 h, le-leb m 7 k, lists n m k)
 

@@ -1,14 +1,24 @@
--- A few texts in full, single inputs that are refused, and the lists of one event from tables that five, six and nine events lead to.
+-- A few texts in full, single inputs that are refused, the lists of one event from tables that five, six and nine events lead to, and the lists that went with T-10.
 use mathlib.Core.Bool.{true}
 use mathlib.Core.Path.{_≡_}
-use mathlib.Core.List.{[], _∷_, _++_, map}
+use mathlib.Core.List.{List, [], _∷_, _++_, map}
+use lib.ListN.{replicate}
 use Rattle.model.specs.Limits.{tower}
-use Rattle.model.specs.Step.{run}
+use Rattle.model.specs.State.{start}
+use Rattle.model.specs.Step.{step, run}
+use Rattle.model.specs.Claims.{formerStep}
+use Rattle.model.specs.Cases.{collecting, unanswered}
+use Rattle.model.specs.declared.Event.{Event}
 use Rattle.model.specs.declared.Event.the-variants.{Crash, Recover, Check, Timeout, Tick, Expire, Finish, Deliver, Lose}
 use Rattle.listing.specs.Ascii.{bytes}
 use Rattle.listing.specs.Printing.{joined}
 use Rattle.short_lists_text.specs.Lists.{onlyTask, alphabet, listsFrom}
 use Rattle.short_lists_text.specs.Text.{listLine, linesOf, fits, textOf}
+use Rattle.short_lists_text.specs.Claims.{answersBy}
+
+-- T-10: node 2 of two asks node 1, which is a coordinator, invites it, gets no answer and is told to finish with task 100; the first three events are those given
+abbrev pub goneBy : List Event → List Event
+goneBy first = first ++ (Deliver 2 1 ∷ Deliver 1 2 ∷ Expire 2 ∷ Finish 2 (record { number = onlyTask }) ∷ [])
 
 pub record TextCases : Type 0 where
   -- "the list of no events is an empty line"
@@ -52,9 +62,18 @@ pub record TextCases : Type 0 where
   pub pairs : joined (linesOf (listsFrom 1 (run 3 tower (Recover 1 ∷ Recover 2 ∷ Recover 3 ∷ Check 1 ∷ Expire 1 ∷ Check 2 ∷ Expire 2 ∷ Check 3 ∷ Expire 3 ∷ [])))) ≡
       bytes "crash 1\ncrash 2\ncrash 3\nexpire 1\nexpire 2\nexpire 3\ndeliver 1 2\ndeliver 1 3\ndeliver 2 1\ndeliver 2 3\n"
       ++ bytes "deliver 3 1\ndeliver 3 2\nlose 1 2\nlose 1 3\nlose 2 1\nlose 2 3\nlose 3 1\nlose 3 2\nlists 18\n"
-  -- where a node collects, and where one waits
-  pub finish : joined (linesOf (listsFrom 1 (run 2 tower (Recover 1 ∷ Recover 2 ∷ Check 2 ∷ Deliver 2 1 ∷ Deliver 1 2 ∷ Expire 2 ∷ [])))) ≡ bytes "crash 1\ncrash 2\ncheck 1\ntimeout 1\nfinish 2 100\ndeliver 2 1\nlose 2 1\nlists 7\n"
+  -- where node 2 collects with node 1, two of two; where it collects alone, and so may not start a full peal (T-10); and where one waits
+  pub finish : joined (linesOf (listsFrom 1 (run 2 tower collecting))) ≡ bytes "crash 1\ncrash 2\ntimeout 1\nfinish 2 100\nlists 4\n"
+  pub no-finish : joined (linesOf (listsFrom 1 (run 2 tower unanswered))) ≡ bytes "crash 1\ncrash 2\ncheck 1\ntimeout 1\ndeliver 2 1\nlose 2 1\nlists 6\n"
   pub tick : joined (linesOf (listsFrom 1 (run 2 tower (Recover 1 ∷ Recover 2 ∷ Check 1 ∷ Deliver 1 2 ∷ Deliver 2 1 ∷ [])))) ≡ bytes "crash 1\ncrash 2\ncheck 2\ntimeout 2\ntick 1\nlists 5\n"
+  -- 02, T-10: three lists of seven events for two nodes were accepted before it, and are not now: node 2 collects alone, and is told to start a full peal. (`ListsFewer` says
+  -- that nothing but 19 took lists away; that these are all that went from the texts is not stated: the gate compares the sums of the texts.)
+  pub gone-first : answersBy step (start 2 tower) (goneBy (Recover 1 ∷ Recover 2 ∷ Check 2 ∷ [])) ≡ 0 ∷ 0 ∷ 0 ∷ 0 ∷ 0 ∷ 0 ∷ 19 ∷ []
+  pub gone-second : answersBy step (start 2 tower) (goneBy (Recover 2 ∷ Recover 1 ∷ Check 2 ∷ [])) ≡ 0 ∷ 0 ∷ 0 ∷ 0 ∷ 0 ∷ 0 ∷ 19 ∷ []
+  pub gone-third : answersBy step (start 2 tower) (goneBy (Recover 2 ∷ Check 2 ∷ Recover 1 ∷ [])) ≡ 0 ∷ 0 ∷ 0 ∷ 0 ∷ 0 ∷ 0 ∷ 19 ∷ []
+  pub former-first : answersBy formerStep (start 2 tower) (goneBy (Recover 1 ∷ Recover 2 ∷ Check 2 ∷ [])) ≡ replicate 7 0
+  pub former-second : answersBy formerStep (start 2 tower) (goneBy (Recover 2 ∷ Recover 1 ∷ Check 2 ∷ [])) ≡ replicate 7 0
+  pub former-third : answersBy formerStep (start 2 tower) (goneBy (Recover 2 ∷ Check 2 ∷ Recover 1 ∷ [])) ≡ replicate 7 0
   -- 16 is not met at the ends of the ranges, and is met just outside them: `Refuses` has all inputs
   pub most : fits (3 ∷ 7 ∷ []) ≡ true
   pub least : fits (1 ∷ 0 ∷ []) ≡ true

@@ -1,6 +1,6 @@
 -- What is claimed of the lists and of their text. The proofs are in proofs/.
 use Prim.Native.Nat.{ℕ, zero, suc, _^_, _≤_, _<_}
-use mathlib.Core.Bool.{true}
+use mathlib.Core.Bool.{Bool, true, false, _||_}
 use mathlib.Core.Path.{_≡_}
 use mathlib.Core.Logic.{_⊎_}
 use mathlib.Core.List.{List, [], _∷_, _++_, map}
@@ -9,8 +9,9 @@ use lib.ListN.{length, take}
 use Rattle.model.specs.Limits.{tower}
 use Rattle.model.specs.Pick.{pick}
 use Rattle.model.specs.State.{State, start}
-use Rattle.model.specs.Step.{Result, refused, accepted, step, runFrom}
-use Rattle.model.specs.Claims.{Accepts}
+use Rattle.model.specs.Step.{Result, refused, accepted, step, kept, runFrom}
+use Rattle.model.specs.Answers.{resultNumber}
+use Rattle.model.specs.Claims.{Accepts, formerStep}
 use Rattle.model.specs.declared.TaskNo.{TaskNo}
 use Rattle.model.specs.declared.Mark.the-variants.{Plain}
 use Rattle.model.specs.declared.Event.{Event}
@@ -167,6 +168,11 @@ pub record ListLinesDetermine : Type 0 where
   -- from the text the lists can be told
   pub text : (ls ms : List (List Event)) → All (All SmallNumbers) ls → All (All SmallNumbers) ms → joined (linesOf ls) ≡ joined (linesOf ms) → ls ≡ ms
 
+-- all lists of m events from s that the step f accepts one after another; `listsFrom` are those of the machine's own
+unfoldable pub listsBy : (State → Event → Result) → ℕ → State → List (List Event)
+listsBy f zero s = [] ∷ []
+listsBy f (suc m) s = concatMap (λ e. continued e (f s e) (listsBy f m)) (alphabet (s .n))
+
 -- ── 02, T-06: "The lists of T-01 are too short to meet this and stay the same." ──
 
 -- what the step came to before T-06, read off 01: a check that meets 18 now was accepted, and nothing changed ("Otherwise, or with n = 1, nothing changes."). That no
@@ -175,13 +181,34 @@ abbrev pub formerResult : State → Result → Result
 formerResult s (refused r) = pick (eqb r 18) (accepted s Plain) (refused r)
 formerResult s (accepted u mark) = accepted u mark
 
--- all lists of m events from s that were accepted so
-unfoldable pub formerLists : ℕ → State → List (List Event)
-formerLists zero s = [] ∷ []
-formerLists (suc m) s = concatMap (λ e. continued e (formerResult s (step s e)) (formerLists m)) (alphabet (s .n))
+abbrev pub uncheckedStep : State → Event → Result
+uncheckedStep s e = formerResult s (step s e)
 
 pub record ListsStay : Type 0 where
   -- up to seven events, for every n, in the tower
-  pub lists : (n m : ℕ) → m ≤ 7 → formerLists m (start n tower) ≡ listsFrom m (start n tower)
+  pub lists : (n m : ℕ) → m ≤ 7 → listsBy uncheckedStep m (start n tower) ≡ listsFrom m (start n tower)
   -- and so all that is printed of them
-  pub texts : (n m : ℕ) → 1 ≤ n → n ≤ 3 → m ≤ 7 → textOf (n ∷ m ∷ []) ≡ joined (linesOf (formerLists m (start n tower)))
+  pub texts : (n m : ℕ) → 1 ≤ n → n ≤ 3 → m ≤ 7 → textOf (n ∷ m ∷ []) ≡ joined (linesOf (listsBy uncheckedStep m (start n tower)))
+
+-- ── 02, T-10: the lists that go are those in which 19 is met ──
+
+-- the numbers with which the step f answers the events of a list one after another, 0 where it accepts
+abbrev pub answersBy : (State → Event → Result) → State → List Event → List ℕ
+answersBy f s [] = []
+answersBy f s (e ∷ es) = resultNumber (f s e) ∷ answersBy f (kept s (f s e)) es
+
+-- r is one of the numbers
+abbrev pub isOneOf : ℕ → List ℕ → Bool
+isOneOf r [] = false
+isOneOf r (x ∷ xs) = eqb x r || isOneOf r xs
+
+-- those of the lists, from s on, in which no event meets 19
+unfoldable pub withoutNineteen : State → List (List Event) → List (List Event)
+withoutNineteen s [] = []
+withoutNineteen s (l ∷ ls) = pick (isOneOf 19 (answersBy step s l)) (withoutNineteen s ls) (l ∷ withoutNineteen s ls)
+
+pub record ListsFewer : Type 0 where
+  -- for every length, and from every state: the lists are those that were accepted before T-10, in the same order, without those in which an event meets 19
+  pub lists : (m : ℕ) (s : State) → listsFrom m s ≡ withoutNineteen s (listsBy formerStep m s)
+  -- and so is what is printed of them
+  pub texts : (n m : ℕ) → 1 ≤ n → n ≤ 3 → m ≤ 7 → textOf (n ∷ m ∷ []) ≡ joined (linesOf (withoutNineteen (start n tower) (listsBy formerStep m (start n tower))))
