@@ -98,11 +98,11 @@ fn answered(answer: Answer, t: Table, out: &mut [u8]) -> u8
 
 // One event on a table. table is the table in bytes, in the form of crate table_bytes: any bytes are some table, in range or not. field is the event as a field of
 // a list: tag, two-byte length, contents; bytes behind it are not looked at. out needs the room of a table, 4,436 bytes. The answer:
-//   0                 accepted: out starts with the table after the event, with 0 in all places that are no part of it
-//   1                 the table is not in range, its limits, the last two bytes, included; this is looked at next
-//   3, 4, 5           no event: cut short, or no bytes at all; a tag that is no event's; a length that is wrong for the tag
-//   7 to 14, 17, 18   the event is refused, by 01's number, T-05's or T-06's
-//   255               out is too short; this is looked at first
+//   0                  accepted: out starts with the table after the event, with 0 in all places that are no part of it
+//   1                  the table is not in range, its limits, the last two bytes, included; this is looked at next
+//   3, 4, 5            no event: cut short, or no bytes at all; a tag that is no event's; a length that is wrong for the tag
+//   7 to 14, 17 to 19  the event is refused, by 01's number, T-05's, T-06's or T-10's
+//   255                out is too short; this is looked at first
 // By any answer but 0 out is left as it was; what it has behind the bytes of a table is never changed.
 #[no_mangle]
 pub extern "C" fn nevraspu_step(table: &[u8], field: &[u8], out: &mut [u8]) -> u8

@@ -202,7 +202,7 @@ module _ (t : Table) (e : Event) (ok : inRange (view t) ≡ true) (c : Node) (hc
     past-numbers : first (grounds (view t) e) ≡ first (stateGrounds (t .n) c e found ++ behind)
     past-numbers = actual ∙ first-clear (numberGrounds (t .n) e) _ refl clear
 
-    -- 9, 10, 18 and 11
+    -- 9, 10, 18, 19 and 11
     pub state-refuses : (a : Answer) → isAccepted a ≡ false → answerNumber a ≡ first (stateGrounds (t .n) c e found) → Stepped t e (record { answer = a; table = t })
     state-refuses a q h = refused-stepped t e a q (h ∙ sym (past-numbers ∙ first-met (stateGrounds (t .n) c e found) _ (omega (arith, refused-some a q, h))))
 

@@ -1,9 +1,7 @@
 // The grounds of an event, and what its node does: functions over one node, one message and numbers.
 ghost use mathlib.Core.Path.{_≡_};
 ghost use mathlib.Core.Bool.{Bool, true, not, _&&_};
-ghost use Prim.Native.Nat.{ℕ, _+_, _-_, _*_, _≤_, _<_};
-ghost use lib.Dec.{leb};
-ghost use Rattle.node_set.specs.NodeSet.{count};
+ghost use Prim.Native.Nat.{ℕ, _-_, _≤_, _<_};
 ghost use Rattle.model.specs.Pick.{pick};
 ghost use Rattle.model.specs.Range.{isNode, isOther};
 ghost use Rattle.model.specs.Answers.{answerNumber};
@@ -157,13 +155,6 @@ pub fn not_coordinator(c: Node, e: Event) -> bool
     }
 }
 
-// "when twice the members plus two is at most n"
-fn is_minority(n: u8, members: u16) -> bool
-    ensures { λ r. ⌜ r ≡ leb (2 * count members + 2) n ⌝ }
-{
-    2 * node_set::count(members) + 2 <= n as u32
-}
-
 pub fn no_majority(n: u8, c: Node, e: Event) -> bool
     ensures { λ r. ⌜ r ≡ spec.noMajority n c e ⌝ }
 {
@@ -174,7 +165,7 @@ pub fn no_majority(n: u8, c: Node, e: Event) -> bool
         Event::Timeout(_) => false,
         Event::Tick(_) => false,
         Event::Expire(_) => false,
-        Event::Finish(_, t) => predicates::is_full_peal(t) & is_minority(n, c.members),
+        Event::Finish(_, t) => predicates::is_full_peal(t) & predicates::is_minority(n, c.members),
         Event::Deliver(_, _) => false,
         Event::Lose(_, _) => false,
     }

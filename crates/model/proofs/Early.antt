@@ -1,6 +1,7 @@
--- No event among the first seven of a run meets 18 (02, T-06): what nodes and messages can be after k events, for k up to 6. One lemma a procedure.
+-- No event among the first seven of a run meets 18 (02, T-06), and none among the first six meets 19 (T-10): what nodes and messages can be after k events, for k up to 6.
+-- One lemma a procedure.
 -- A message takes a recovery and a check; a reply takes a second recovery and a delivery more; an invitation, or a node that has found another, the delivery of a reply more; and
--- a node that acts on an invitation its delivery more, which makes six. Up to there, of the nodes that are not Down only those that are Normal and
+-- a node that acts on an invitation its delivery more, which makes six, and so does a node that collects, as it has invited another. Up to there, of the nodes that are not Down only those that are Normal and
 -- their own coordinators are idle.
 use Prim.Native.Nat.{ℕ, _+_, _-_, _≤_}
 use native.Mathlib.Omega.{arith}
@@ -49,7 +50,7 @@ Runs k i c Idle = (leads i c ≡ true) × (1 ≤ k)
 Runs k i c (Asking asked found) = (leads i c ≡ true) × (2 ≤ k) × ((found ≡ 0) ⊎ (5 ≤ k))
 Runs k i c (Waiting ticks found) = (leads i c ≡ true) × (5 ≤ k)
 Runs k i c (Inviting found former now) = (c .coordinator ≡ i) × (5 ≤ k)
-Runs k i c Collecting = (c .coordinator ≡ i) × (5 ≤ k)
+Runs k i c Collecting = (c .coordinator ≡ i) × (6 ≤ k)
 Runs k i c (Handing rest now) = (c .coordinator ≡ i) × (5 ≤ k)
 Runs k i c Contacting = ⊥
 Runs k i c (Forwarding rest now caller call) = 6 ≤ k
@@ -148,18 +149,19 @@ module _ (k i : ℕ) where
   recovered-after : (c : Node) → 1 ≤ k → P (recovers i c)
   recovered-after c h = record { node = inr (eq-eqb i i refl, h); outgoing = tt }
 
-  invite-after : (c : Node) (mk : Mark) (f o : ℕ) → c .coordinator ≡ i → 5 ≤ k → P (inviteNext i c mk f o)
+  -- the first of f is invited, or, in one event more, nobody
+  invite-after : (c : Node) (mk : Mark) (f o : ℕ) → c .coordinator ≡ i → 5 ≤ k → (f ≡ 0 → 6 ≤ k) → P (inviteNext i c mk f o)
   unfolding inviteNext
-  invite-after c mk f o e h =
+  invite-after c mk f o e h g =
       by-test P
       (λ _. record { node = inr (e, h); outgoing = (refl, some-call k _ h) })
-      (λ _. by-test P
+      (λ q. by-test P
       (λ _. record { node = inr (e, h); outgoing = (refl, some-call k _ h) })
-      (λ _. record { node = inr (e, h); outgoing = tt }))
+      (λ _. record { node = inr (e, g (eqb-true f 0 (not-false _ q))); outgoing = tt }))
 
-  merges-after : (c : Node) (f : ℕ) → 5 ≤ k → P (merges i c f)
+  merges-after : (c : Node) (f : ℕ) → 5 ≤ k → (f ≡ 0 → 6 ≤ k) → P (merges i c f)
   unfolding merges
-  merges-after c f h = invite-after (merged i c) Merges f (c .members) refl h
+  merges-after c f h g = invite-after (merged i c) Merges f (c .members) refl h g
 
   hand-after : (c : Node) (r : ℕ) → c .coordinator ≡ i → 5 ≤ k → P (handNext i c r)
   unfolding handNext
@@ -181,7 +183,7 @@ module _ (k i : ℕ) where
       by-test P
       (λ _. record { node = inr (e, omega arith); outgoing = tt })
       (λ q. let g : 5 ≤ k = ⊎-elim (λ y. absurd (eqb-false f 0 q y)) (λ y. y) z in
-      by-test P (λ _. record { node = inr (e, g); outgoing = tt }) (λ _. merges-after c f g))
+      by-test P (λ _. record { node = inr (e, g); outgoing = tt }) (λ _. merges-after c f g (λ y. absurd (eqb-false f 0 q y))))
 
   ask-at-after : (n : ℕ) (c : Node) (j f : ℕ) → leads i c ≡ true → 2 ≤ k → (f ≡ 0) ⊎ (5 ≤ k) → P (askAt n i c j f)
   unfolding askAt
@@ -215,7 +217,7 @@ module _ (k n i : ℕ) (c : Node) (few : k ≤ 5) where
   ticked-after Idle x y = kept-after y
   ticked-after (Asking j f) x y = kept-after y
   ticked-after (Waiting t f) x y =
-      by-test Q (λ _. merges-after (k + 1) i c f (omega (arith, x .1))) (λ _. record { node = inr (x .0, omega (arith, x .1)); outgoing = tt })
+      by-test Q (λ _. merges-after (k + 1) i c f (omega (arith, x .1)) (λ _. omega (arith, x .1))) (λ _. record { node = inr (x .0, omega (arith, x .1)); outgoing = tt })
   ticked-after (Inviting f o w) x y = kept-after y
   ticked-after Collecting x y = kept-after y
   ticked-after (Handing r w) x y = kept-after y
@@ -228,7 +230,7 @@ module _ (k n i : ℕ) (c : Node) (few : k ≤ 5) where
   expired-after Idle x y = kept-after y
   expired-after (Asking j f) x y = ask-after-after (k + 1) i n c j f (x .0) (omega (arith, x .1)) (⊎-elim (λ z. inl z) (λ h. inr (omega (arith, h))) (x .2))
   expired-after (Waiting t f) x y = kept-after y
-  expired-after (Inviting f o w) x y = invite-after (k + 1) i c Plain f o (x .0) (omega (arith, x .1))
+  expired-after (Inviting f o w) x y = invite-after (k + 1) i c Plain f o (x .0) (omega (arith, x .1)) (λ _. omega (arith, x .1))
   expired-after Collecting x y = kept-after y
   expired-after (Handing r w) x y = recovered-after (k + 1) i c (omega arith)
   expired-after Contacting x y = absurd x
@@ -241,7 +243,7 @@ module _ (k n i : ℕ) (c : Node) (few : k ≤ 5) where
   resumed-after v Idle h x y = kept-after y
   resumed-after v (Asking j f) h x y = ask-after-after (k + 1) i n c j (pick v (with f j) f) (x .0) (omega arith) (inr (omega arith))
   resumed-after v (Waiting t f) h x y = kept-after y
-  resumed-after v (Inviting f o w) h x y = invite-after (k + 1) i c Plain f o (x .0) (omega arith)
+  resumed-after v (Inviting f o w) h x y = invite-after (k + 1) i c Plain f o (x .0) (omega arith) (λ _. omega (arith, x .1))
   resumed-after v Collecting h x y = kept-after y
   resumed-after v (Handing r w) h x y = hand-after (k + 1) i c r (x .0) (omega arith)
   resumed-after v Contacting h x y = absurd x
@@ -459,3 +461,20 @@ pub early-leads : (n : ℕ) (lim : Limits) (es : List Event) → length es ≤ 6
 early-leads n lim es few i l h d q =
     let x = run-after 0 (start n lim) es (omega (arith, few)) (start-after n lim) in
     idle-leads _ i (nodeAt (run n lim es) i) (nodeAt (run n lim es) i .activity) q (running _ i (nodeAt (run n lim es) i) (x .nodes i l h) d) .0
+
+-- after at most five events nobody that runs collects
+collects-late : (k i : ℕ) (c : Node) (a : Activity) → isCollecting a ≡ true → Runs k i c a → 6 ≤ k
+collects-late k i c Collecting q x = x .1
+collects-late k i c Idle q x = absurd (true≢false (sym q))
+collects-late k i c (Asking j f) q x = absurd (true≢false (sym q))
+collects-late k i c (Waiting t f) q x = absurd (true≢false (sym q))
+collects-late k i c (Inviting f o w) q x = absurd (true≢false (sym q))
+collects-late k i c (Handing r w) q x = absurd (true≢false (sym q))
+collects-late k i c Contacting q x = absurd (true≢false (sym q))
+collects-late k i c (Forwarding r w a l) q x = absurd (true≢false (sym q))
+collects-late k i c (Accepting a l) q x = absurd (true≢false (sym q))
+
+pub early-collects : (n : ℕ) (lim : Limits) (es : List Event) → length es ≤ 5 → (i : ℕ) → 1 ≤ i → i ≤ run n lim es .n → isDown (nodeAt (run n lim es) i .status) ≡ false → isCollecting (nodeAt (run n lim es) i .activity) ≡ true → ⊥
+early-collects n lim es few i l h d q =
+    let x = run-after 0 (start n lim) es (omega (arith, few)) (start-after n lim) in
+    omega (arith, few, collects-late _ i (nodeAt (run n lim es) i) (nodeAt (run n lim es) i .activity) q (running _ i (nodeAt (run n lim es) i) (x .nodes i l h) d))

@@ -21,12 +21,14 @@ use Rattle.model.specs.React.{react}
 use Rattle.model.specs.Range.{isNode, isGivenTask, isFullPeal}
 use Rattle.model.specs.State.{State, nodeAt, inRange}
 use Rattle.model.specs.Grounds.{ground, judged, leavingOut}
-use Rattle.model.specs.Step.{step, grounds, actor, reactionTo, remaining, effect, noMajority, Result, refused, accepted}
+use Rattle.model.specs.Step.{step, grounds, actor, reactionTo, remaining, effect, noMajority, Result, refused, accepted, run}
 use Rattle.model.specs.Claims.{FullPeal, MoreThanHalf, Counts, CountedByBoth, MaySend, finishGrounds, withTaskAlone, withReady, withFinish, FinishReaches, FinishTurnedAway, TurnsAway, MayHand, formerStep, MajorityRules}
 use Rattle.model.proofs.Grounds.{judged-by, judged-without}
 use Rattle.model.proofs.Judged.{Clear, accepted-apart, accepted-is, refused-same, met, passed, one-ground, leftBy, endsBy}
 use Rattle.model.proofs.Local.{both-left, both-right, right-fails}
 use Rattle.model.proofs.Fields.{IsNode, node-is, NodeFacts, node-facts, IsSetOfOthers, in-range-size, in-range-node}
+use Rattle.model.proofs.Early.{early-collects}
+use Rattle.model.specs.declared.Limits.{Limits}
 use Rattle.model.specs.declared.Node.{Node}
 use Rattle.model.specs.declared.TaskNo.{TaskNo}
 use Rattle.model.specs.declared.Mark.{Mark}
@@ -261,5 +263,11 @@ share s u i j t v x y k m h p f q g = by (common (s .n) (with (nodeAt s i .membe
         let together = set-laws (s .n) (a .small) .count-apart _ _ (a .whole) (subst (λ (n : ℕ). within n (with (nodeAt u j .members) j) ≡ true) (sym h) (b .whole)) z in
         absurd (omega (arith, together, a .counts, b .counts, only-if s i t x k p f, only-if u j v y m q g, h))
 
+not-early : (n : ℕ) (lim : Limits) (es : List Event) (e : Event) → length es ≤ 5 → step (run n lim es) e ≡ refused 19 → ⊥
+not-early n lim es e few q =
+    let x = nineteen (run n lim es) e q in
+    let p = node-is (run n lim es .n) (x .node) (x .turned-away .reaches .number) in
+    early-collects n lim es few (x .node) (p .low) (p .high) (x .turned-away .reaches .not-down) (x .turned-away .reaches .collects)
+
 pub majority-rules : MajorityRules
-majority-rules = record { finishes = finish; leaves = leaves; only-if = only-if; turned-away = turned-away; nineteen = nineteen; at-most = at-most; else-more = else-more; passes = passes; as-before = as-before; other-tasks = other-tasks; one = one; share = share }
+majority-rules = record { finishes = finish; leaves = leaves; only-if = only-if; turned-away = turned-away; nineteen = nineteen; at-most = at-most; else-more = else-more; passes = passes; as-before = as-before; other-tasks = other-tasks; one = one; not-early = not-early; share = share }

@@ -878,6 +878,8 @@ pub record MajorityRules : Type 0 where
   pub other-tasks : (s : State) (i : ℕ) (t : TaskNo) → (FullPeal (t .number) → ⊥) → step s (Finish i t) ≡ formerStep s (Finish i t)
   -- with n = 1 the coordinator alone is more than half
   pub one : (s : State) (e : Event) → s .n ≡ 1 → step s e ≡ refused 19 → ⊥
+  -- none of the first six events of a run meets it
+  pub not-early : (n : ℕ) (l : Limits) (es : List Event) (e : Event) → length es ≤ 5 → step (run n l es) e ≡ refused 19 → ⊥
   -- two full peals that are accepted, in whatever tables of n nodes, have a node that both coordinators count
   pub share : (s u : State) (i j : ℕ) (t v : TaskNo) (x y : State) (k m : Mark) → s .n ≡ u .n → step s (Finish i t) ≡ accepted x k → FullPeal (t .number)
       → step u (Finish j v) ≡ accepted y m → FullPeal (v .number) → CountedByBoth (s .n) s i u j

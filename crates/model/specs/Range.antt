@@ -1,8 +1,8 @@
 -- "A table is in range when ..": of the limits, of one node's record, of one message and of one count. State puts them together.
-use Prim.Native.Nat.{ℕ}
+use Prim.Native.Nat.{ℕ, _+_, _*_}
 use mathlib.Core.Bool.{Bool, true, not, _&&_, _||_}
 use lib.Dec.{eqb, leb}
-use Rattle.node_set.specs.NodeSet.{has, within}
+use Rattle.node_set.specs.NodeSet.{has, within, count}
 use Rattle.model.specs.Limits.{tower, stand, counterEnd, callEnd, trafficEnd, tickEnd, taskLow, taskEnd, fullPealLow, fullPealEnd}
 use Rattle.model.specs.Counts.{senderAt, receiverAt}
 use Rattle.model.specs.Node.{isDown, isIdle, ownerOf, counterOf}
@@ -60,6 +60,10 @@ isGivenTask t = leb taskLow t && leb t taskEnd
 -- T-10: "Tasks 100 to 199 are full peals"
 abbrev pub isFullPeal : ℕ → Bool
 isFullPeal t = leb fullPealLow t && leb t fullPealEnd
+
+-- T-10: "twice the members plus two is at most n", of the member set of a coordinator: with itself it has no more than half of n
+abbrev pub isMinority : ℕ → ℕ → Bool
+isMinority n members = leb (2 * count members + 2) n
 
 -- "call numbers in messages and of callers are at least 1"
 abbrev pub isCall : ℕ → Bool

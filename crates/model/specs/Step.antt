@@ -1,17 +1,16 @@
 -- The step: the table of grounds, the effect of an event, and runs.
-use Prim.Native.Nat.{ℕ, _+_, _-_, _*_}
+use Prim.Native.Nat.{ℕ, _+_, _-_}
 use mathlib.Core.Bool.{Bool, true, false, not, _&&_}
 use mathlib.Core.List.{List, [], _∷_, _++_}
-use lib.Dec.{eqb, leb, ltb}
+use lib.Dec.{eqb, ltb}
 use lib.ListN.{length, set}
-use Rattle.node_set.specs.NodeSet.{count}
 use Rattle.model.specs.Grounds.{Ground, ground, judged}
 use Rattle.model.specs.Limits.{counterEnd, callEnd, trafficEnd}
 use Rattle.model.specs.Counts.{countAt, oneMore}
 use Rattle.model.specs.Node.{isDown, isIdle, isWaiting, isCollecting, hasOpenCall}
 use Rattle.model.specs.Procedures.{stays}
 use Rattle.model.specs.React.{leads, react}
-use Rattle.model.specs.Range.{PairRule, isNode, isPair, isGivenTask, isFullPeal}
+use Rattle.model.specs.Range.{PairRule, isNode, isPair, isGivenTask, isFullPeal, isMinority}
 use Rattle.model.specs.State.{State, startBy, start, nodeAt, waits, oldest, withoutOldest, countsAside, inRange}
 use Rattle.model.specs.declared.Limits.{Limits}
 use Rattle.model.specs.declared.Status.{Status}
@@ -183,7 +182,7 @@ noMajority n c (Check i) = false
 noMajority n c (Timeout i) = false
 noMajority n c (Tick i) = false
 noMajority n c (Expire i) = false
-noMajority n c (Finish i t) = isFullPeal (t .number) && leb (2 * count (c .members) + 2) n
+noMajority n c (Finish i t) = isFullPeal (t .number) && isMinority n (c .members)
 noMajority n c (Deliver a b) = false
 noMajority n c (Lose a b) = false
 

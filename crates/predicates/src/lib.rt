@@ -1,4 +1,4 @@
-// Definitions of model's specs as functions that several crates use: tests of a status, a node's number, a set of nodes, a task and a table's limits, and the answer to a number
+// Definitions of model's specs as functions that several crates use: tests of a status, a node's number, a set of nodes, a task, a majority and a table's limits, and the answer to a number
 // of nodes. The two pairs of limits (T-08) are named here, and nowhere else in the code.
 ghost use mathlib.Core.Path.{_≡_};
 ghost use Prim.Native.Nat.{_≤_};
@@ -8,7 +8,7 @@ ghost use Rattle.model.specs.Node.{isDown, isElection, isReorganization, isNorm
 ghost use Rattle.model.specs.Pick.{pick};
 ghost use Rattle.model.specs.State.{wrongCount};
 ghost use Rattle.model.specs.Answers.{startNumber};
-ghost use Rattle.model.specs.Range.{sameLimits, isTowerOrStand, isNode, isOther, isSetOfOthers, isGivenTask, isFullPeal};
+ghost use Rattle.model.specs.Range.{sameLimits, isTowerOrStand, isNode, isOther, isSetOfOthers, isGivenTask, isFullPeal, isMinority};
 use model::Limits;
 use model::StartAnswer;
 use model::Status;
@@ -109,6 +109,13 @@ pub fn is_full_peal(t: TaskNo) -> bool
     ensures { λ r. ⌜ r ≡ isFullPeal (t .number) ⌝ }
 {
     (FULL_PEAL_LOW <= t.number) & (t.number <= FULL_PEAL_END)
+}
+
+// "twice the members plus two is at most n"
+pub fn is_minority(n: u8, members: u16) -> bool
+    ensures { λ r. ⌜ r ≡ isMinority n members ⌝ }
+{
+    2 * node_set::count(members) + 2 <= n as u32
 }
 
 // The limits of the tower.

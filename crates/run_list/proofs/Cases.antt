@@ -27,8 +27,8 @@ use Rattle.listing.specs.Decimal.{digits, decimal}
 use Rattle.listing.specs.Lines.{row, cabinetsLine, refusedLine, stoppedLine, nodeLine, messagesLine, totalLine, totalLines, nodeLines, tableLines}
 use Rattle.listing.specs.Printing.{joined}
 use Rattle.run_list.specs.Text.{noteLines, refusedLines, endingLines, linesOf, textOf}
-use Rattle.event_list.specs.Cases.{nodes, standNodes, recover, crash, check, expire, deliver, lose}
-use Rattle.run_list.specs.Cases.{k10-events, k10-list, ListCases}
+use Rattle.event_list.specs.Cases.{nodes, standNodes, recover, crash, check, expire, finish, deliver, lose}
+use Rattle.run_list.specs.Cases.{k10-events, k10-list, unanswered-list, ListCases}
 use Rattle.run_list.proofs.Laws.{lines-begun, start-in-range}
 
 -- what an event comes to by the grounds between 1 and 17
@@ -82,5 +82,6 @@ list-cases =
       totals-stopped = quick-text (nodes 2 ++ (recover 1 ++ (recover 2 ++ (check 2 ++ (deliver 2 1 ++ (lose 1 2 ++ (expire 2 ++ (check 2 ++ (deliver 2 1 ++ (0x17 ∷ 0 ∷ [])))))))))) 2 tower refl (omega arith);
       turned-away = quick-text (k10-list ++ (check 1 ++ check 2)) 2 tower refl (omega arith);
       check-alone = quick-text (nodes 1 ++ (recover 1 ++ check 1)) 1 tower refl (omega arith);
+      no-majority = quick-text (unanswered-list ++ (finish 2 0 100 ++ (finish 2 0 199 ++ finish 2 0 200))) 2 tower refl (omega arith);
       failed-alone = refl;
     }

@@ -1,5 +1,5 @@
 -- "Named cases": K1 to K13 jointly, with K1 and K10 also from the bytes of a list to the printed text, of the tower and of the stand (T-08); and texts with refusals, with totals
--- (T-05) and with checks (T-06).
+-- (T-05), with checks (T-06) and with full peals (T-10).
 use Prim.Native.Nat.{ℕ}
 use mathlib.Core.Path.{_≡_}
 use mathlib.Core.List.{List, [], _∷_, _++_}
@@ -17,6 +17,10 @@ k10-events =
 
 abbrev pub k10-list : List ℕ
 k10-list = nodes 2 ++ k10-events
+
+-- T-10: node 2 of two finds node 1, invites it, gets no answer and collects
+abbrev pub unanswered-list : List ℕ
+unanswered-list = nodes 2 ++ (recover 1 ++ (recover 2 ++ (check 2 ++ (deliver 2 1 ++ (deliver 1 2 ++ expire 2)))))
 
 pub record ListCases : Type 0 where
   -- K2 to K13, and the numbers behind K1 and K10
@@ -52,5 +56,8 @@ pub record ListCases : Type 0 where
   -- 02, T-06: behind K10 a check by its member is refused with 18 and skipped, and one by its coordinator is done; with n = 1 such a check passes without effect
   pub turned-away : textOf (k10-list ++ (check 1 ++ check 2)) ≡ bytes "cabinets 2\nrefused 13 18\n1 3 2 33 100 1 0\n2 3 2 33 100 2 1\nmessages 1\nsent 9\ndelivered 8\nlost 0\n"
   pub check-alone : textOf (nodes 1 ++ (recover 1 ++ check 1)) ≡ bytes "cabinets 1\n1 3 1 16 1 1 0\nmessages 0\nsent 0\ndelivered 0\nlost 0\n"
+  -- 02, T-10: node 2 collects alone, one of two; it is told to start the tasks 100 and 199, which are refused with 19 and skipped, and then 200, which passes
+  pub no-majority : textOf (unanswered-list ++ (finish 2 0 100 ++ (finish 2 0 199 ++ finish 2 0 200)))
+      ≡ bytes "cabinets 2\nrefused 7 19\nrefused 8 19\n1 3 1 16 1 1 0\n2 3 2 33 200 2 0\nmessages 1\nsent 3\ndelivered 2\nlost 0\n"
   -- "if the whole list or the first field failed, that line is all that is printed"
   pub failed-alone : textOf (0x01 ∷ 0 ∷ 2 ∷ 2 ∷ 2 ∷ []) ≡ bytes "stopped 0 5\n"

@@ -9,7 +9,7 @@ use borrow.Author.Tests.{eqb-true, eqb-false, le-leb}
 use Rattle.model.specs.Limits.{tower}
 use Rattle.model.specs.Pick.{pick, pick-true, pick-false}
 use Rattle.model.specs.State.{State, start}
-use Rattle.model.specs.Step.{Result, refused, accepted, step, kept}
+use Rattle.model.specs.Step.{Result, refused, accepted, step, kept, run}
 use Rattle.model.specs.Answers.{resultNumber}
 use Rattle.model.specs.Claims.{TurnsAway, formerStep}
 use Rattle.model.proofs.Judged.{accepted-apart, refused-same}
@@ -20,7 +20,11 @@ use Rattle.short_lists_text.specs.Rows.{concatMap}
 use Rattle.short_lists_text.specs.Lists.{alphabet, continued, listsFrom}
 use Rattle.short_lists_text.specs.Text.{linesOf, fits, textOf}
 use Rattle.short_lists_text.specs.Claims.{listsBy, answersBy, isOneOf, withoutNineteen, ListsFewer}
-use Rattle.short_lists_text.proofs.Stay.{same-rows}
+use Rattle.short_lists_text.proofs.Stay.{same-rows, from-start}
+
+-- the machine's step is the former one where 19 is not met
+not-met : (s : State) (e : Event) → (step s e ≡ refused 19 → ⊥) → step s e ≡ formerStep s e
+not-met s e f = majority-rules .as-before s e (λ z. f (ap (step s) (z .event) ∙ majority-rules .turned-away s (z .node) (z .task) (z .turned-away)))
 
 -- ── leaving lists out ──
 module _ (s : State) where
@@ -77,13 +81,8 @@ module _ (m : ℕ) (on : (u : State) → listsFrom m u ≡ withoutNineteen u (li
   one : continued e (step s e) (listsFrom m) ≡ withoutNineteen s (continued e (formerStep s e) (listsBy formerStep m))
   one = by (step s e) refl
     where
-      not-turned : (step s e ≡ refused 19 → ⊥) → step s e ≡ formerStep s e
-      not-turned f =
-          majority-rules .as-before s e
-          (λ z. f (ap (step s) (z .event) ∙ majority-rules .turned-away s (z .node) (z .task) (z .turned-away)))
-
       other : (step s e ≡ refused 19 → ⊥) → continued e (step s e) (listsFrom m) ≡ withoutNineteen s (continued e (formerStep s e) (listsBy formerStep m))
-      other f = same (step s e) refl f ∙ ap (λ (x : Result). withoutNineteen s (continued e x (listsBy formerStep m))) (not-turned f)
+      other f = same (step s e) refl f ∙ ap (λ (x : Result). withoutNineteen s (continued e x (listsBy formerStep m))) (not-met s e f)
 
       by-number : (r : ℕ) → step s e ≡ refused r → (t : Bool) → eqb r 19 ≡ t
           → continued e (step s e) (listsFrom m) ≡ withoutNineteen s (continued e (formerStep s e) (listsBy formerStep m))
@@ -102,9 +101,13 @@ lists zero s = refl
 lists (suc m) s =
     same-rows _ _ (one m (lists m) s) (alphabet (s .n)) ∙ sym (out-rows s (λ e. continued e (formerStep s e) (listsBy formerStep m)) (alphabet (s .n)))
 
+same-lists : (n m : ℕ) → m ≤ 6 → listsFrom m (start n tower) ≡ listsBy formerStep m (start n tower)
+same-lists n m h =
+    sym (from-start formerStep n 6 (λ es e l. sym (not-met (run n tower es) e (majority-rules .not-early n tower es e (omega (arith, l))))) m h)
+
 texts : (n m : ℕ) → 1 ≤ n → n ≤ 3 → m ≤ 7 → textOf (n ∷ m ∷ []) ≡ joined (linesOf (withoutNineteen (start n tower) (listsBy formerStep m (start n tower))))
 unfolding textOf fits pick
 texts n m l h k = rw (le-leb 1 n l, le-leb n 3 h, le-leb m 7 k, lists m (start n tower))
 
 pub lists-fewer : ListsFewer
-lists-fewer = record { lists = lists; texts = texts }
+lists-fewer = record { lists = lists; same = same-lists; texts = texts }

@@ -1,5 +1,5 @@
--- T-01's lists are what they were before T-06: none of their events meets 18.
-use Prim.Native.Nat.{ℕ, zero, suc, _+_, _≤_}
+-- Lists that a step makes which does the same at the first events of a run; T-01's lists are what they were before T-06, as none of their events meets 18.
+use Prim.Native.Nat.{ℕ, zero, suc, _+_, _≤_, _<_}
 use native.Mathlib.Omega.{arith}
 use mathlib.Core.Path.{_≡_, refl, _∙_, ap, ap₂, subst}
 use mathlib.Core.List.{List, [], _∷_, _++_, map}
@@ -16,30 +16,45 @@ use Rattle.listing.specs.Printing.{joined}
 use Rattle.short_lists_text.specs.Rows.{concatMap}
 use Rattle.short_lists_text.specs.Lists.{alphabet, continued, listsFrom}
 use Rattle.short_lists_text.specs.Text.{linesOf, fits, textOf}
-use Rattle.short_lists_text.specs.Claims.{formerResult, uncheckedStep, listsBy, ListsStay}
+use Rattle.short_lists_text.specs.Claims.{listsBy, formerResult, uncheckedStep, ListsStay}
 
 pub same-rows : {A B : Type 0} (f g : A → List B) → ((x : A) → f x ≡ g x) → (xs : List A) → concatMap f xs ≡ concatMap g xs
 same-rows f g h [] = refl
 same-rows f g h (x ∷ xs) = ap₂ (λ (a b : _). a ++ b) (h x) (same-rows f g h xs)
 
--- after the events es
-from-run : (n m : ℕ) (es : List Event) → length es + m ≤ 7 → listsBy uncheckedStep m (run n tower es) ≡ listsFrom m (run n tower es)
-unfolding listsBy listsFrom runFrom
-from-run n zero es h = refl
-from-run n (suc m) es h = same-rows _ _ (λ e. each e (step (run n tower es) e) refl (from-run n m (es ++ (e ∷ [])) (omega (arith, h, length-append es (e ∷ []))))) (alphabet (run n tower es .n))
+-- of a step f that does the same at the first k events of a run
+module _ (f : State → Event → Result) (n k : ℕ) (same : (es : List Event) (e : Event) → length es < k → f (run n tower es) e ≡ step (run n tower es) e) where
+  -- after the events es
+  from-run : (m : ℕ) (es : List Event) → length es + m ≤ k → listsBy f m (run n tower es) ≡ listsFrom m (run n tower es)
+  unfolding listsBy listsFrom runFrom
+  from-run zero es h = refl
+  from-run (suc m) es h =
+      same-rows _ _
+      (λ e. ap (λ (x : Result). continued e x (listsBy f m)) (same es e (omega (arith, h)))
+      ∙ each e (step (run n tower es) e) refl (from-run m (es ++ (e ∷ [])) (omega (arith, h, length-append es (e ∷ [])))))
+      (alphabet (run n tower es .n))
+    where
+      each : (e : Event) (x : Result) → step (run n tower es) e ≡ x → listsBy f m (run n tower (es ++ (e ∷ []))) ≡ listsFrom m (run n tower (es ++ (e ∷ [])))
+          → continued e x (listsBy f m) ≡ continued e x (listsFrom m)
+      each e (refused r) q l = refl
+      each e (accepted u j) q l =
+          ap (map (λ es. e ∷ es)) (subst (λ (s : State). listsBy f m s ≡ listsFrom m s) (run-append (start n tower) es (e ∷ []) ∙ ap (kept (run n tower es)) q) l)
+
+  pub from-start : (m : ℕ) → m ≤ k → listsBy f m (start n tower) ≡ listsFrom m (start n tower)
+  unfolding runFrom
+  from-start m h = from-run m [] (omega (arith, h))
+
+-- ── T-06 ──
+unchecked : (n : ℕ) (es : List Event) (e : Event) → length es < 7 → uncheckedStep (run n tower es) e ≡ step (run n tower es) e
+unchecked n es e h = by (step (run n tower es) e) refl
   where
-    each : (e : Event) (x : Result) → step (run n tower es) e ≡ x → listsBy uncheckedStep m (run n tower (es ++ (e ∷ []))) ≡ listsFrom m (run n tower (es ++ (e ∷ [])))
-        → continued e (formerResult (run n tower es) x) (listsBy uncheckedStep m) ≡ continued e x (listsFrom m)
-    each e (refused r) q f =
-        by-test (λ (y : Result). continued e y (listsBy uncheckedStep m) ≡ [])
-        (λ t. absurd (check-rules .not-early n tower es e (omega (arith, h)) (q ∙ ap refused (eqb-true r 18 t)))) (λ _. refl)
-    each e (accepted u k) q f =
-        ap (map (λ l. e ∷ l))
-        (subst (λ (s : State). listsBy uncheckedStep m s ≡ listsFrom m s) (run-append (start n tower) es (e ∷ []) ∙ ap (kept (run n tower es)) q) f)
+    by : (x : Result) → step (run n tower es) e ≡ x → formerResult (run n tower es) x ≡ x
+    by (refused r) q =
+        by-test (λ (y : Result). y ≡ refused r) (λ t. absurd (check-rules .not-early n tower es e (omega (arith, h)) (q ∙ ap refused (eqb-true r 18 t)))) (λ _. refl)
+    by (accepted u k) q = refl
 
 lists : (n m : ℕ) → m ≤ 7 → listsBy uncheckedStep m (start n tower) ≡ listsFrom m (start n tower)
-unfolding runFrom
-lists n m h = from-run n m [] (omega (arith, h))
+lists n m h = from-start uncheckedStep n 7 (unchecked n) m h
 
 texts : (n m : ℕ) → 1 ≤ n → n ≤ 3 → m ≤ 7 → textOf (n ∷ m ∷ []) ≡ joined (linesOf (listsBy uncheckedStep m (start n tower)))
 unfolding textOf fits pick

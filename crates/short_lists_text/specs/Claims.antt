@@ -210,5 +210,7 @@ withoutNineteen s (l ∷ ls) = pick (isOneOf 19 (answersBy step s l)) (withoutNi
 pub record ListsFewer : Type 0 where
   -- for every length, and from every state: the lists are those that were accepted before T-10, in the same order, without those in which an event meets 19
   pub lists : (m : ℕ) (s : State) → listsFrom m s ≡ withoutNineteen s (listsBy formerStep m s)
+  -- up to six events, for every n, in the tower, none has gone
+  pub same : (n m : ℕ) → m ≤ 6 → listsFrom m (start n tower) ≡ listsBy formerStep m (start n tower)
   -- and so is what is printed of them
   pub texts : (n m : ℕ) → 1 ≤ n → n ≤ 3 → m ≤ 7 → textOf (n ∷ m ∷ []) ≡ joined (linesOf (withoutNineteen (start n tower) (listsBy formerStep m (start n tower))))

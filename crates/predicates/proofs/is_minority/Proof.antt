@@ -1,11 +1,11 @@
 -- `is_minority` meets its contract: a set of at most 16 nodes keeps the sum small.
-use Prim.Native.Nat.{ℕ, _≤_, _<_, _^_}
+use Prim.Native.Nat.{ℕ, _≤_, _<_}
 use native.Mathlib.Omega.{arith}
 use borrow.Author.Needs.{needs}
 use Rattle.node_set.specs.NodeSet.{count}
 use Rattle.node_set.proofs.Laws.{lt-within, count-within}
-use Rattle.machine.proofs.grounds.is_minority.Statement.{statement}
-use Rattle.machine.proofs.grounds.is_minority.Tie as tie
+use Rattle.predicates.proofs.is_minority.Statement.{statement}
+use Rattle.predicates.proofs.is_minority.Tie as tie
 
 few : (s : ℕ) → s < 65536 → count s ≤ 16
 few s h = count-within 16 s (lt-within 16 s h)
