@@ -24,7 +24,7 @@ use Rattle.model.specs.State.{State, startingNode, start, nodeAt, noMessage, wa
 use Rattle.model.specs.Grounds.{judged}
 use Rattle.model.specs.Step.{actor, reactionTo, remaining, sent, withSent, withDelivered, withLost, effect, wrongStatus, notCoordinator, noMajority, forms, isCalling, isSending, pairAtEnd, grounds, Result, refused, accepted, step, kept, aside, after, runFrom}
 use Rattle.model.specs.Answers.{answerNumber, resultNumber}
-use Rattle.model.specs.Claims.{Lacks, MayStart, Sends, whomNow, whomStill, Below, Picked, InvitationReaches, Holds, recoversAtExpire, recordAfter, CheckReaches, DoesNotLead, FullPeal, MoreThanHalf, FinishTurnedAway}
+use Rattle.model.specs.Claims.{Lacks, MayStart, Sends, whomNow, whomStill, Below, Picked, InvitationReaches, Holds, recoversAtExpire, recordAfter, CheckReaches, DoesNotLead, FullPeal, MoreThanHalf, WithoutMajority}
 use Rattle.model.proofs.Judged.{Clear, by-step, clear-accepts, accepted-apart, accepted-is, refused-same, met}
 use Rattle.model.proofs.Local.{both-right}
 use Rattle.model.proofs.Fields.{in-range-pair, in-range-own, in-range-size, own-record}
@@ -624,7 +624,7 @@ is-nineteen : {t : Table} {e : Event} {r : Outcome} → Stepped t e r → r .ans
 is-nineteen {t} {e} {r} x y = by-number (step (view t) e) 19 (omega arith) (sym (ap answerNumber y) ∙ x .answer)
 
 -- so it is that of a finish of this node with this task
-turned-away-finish : {t : Table} {i : ℕ} {x : TaskNo} {r : Outcome} → Stepped t (Finish i x) r → r .answer ≡ NoMajority → FinishTurnedAway (view t) i x
+turned-away-finish : {t : Table} {i : ℕ} {x : TaskNo} {r : Outcome} → Stepped t (Finish i x) r → r .answer ≡ NoMajority → WithoutMajority (view t) i x
 turned-away-finish {t} {i} {x} s y =
     let z = majority-rules .nineteen (view t) (Finish i x) (is-nineteen s y) in
     subst (λ (e : Event). turned e) (sym (z .event)) (z .turned-away)
@@ -636,7 +636,7 @@ turned-away-finish {t} {i} {x} s y =
     turned (Timeout j) = Unit {0}
     turned (Tick j) = Unit {0}
     turned (Expire j) = Unit {0}
-    turned (Finish j v) = FinishTurnedAway (view t) j v
+    turned (Finish j v) = WithoutMajority (view t) j v
     turned (Deliver a b) = Unit {0}
     turned (Lose a b) = Unit {0}
 

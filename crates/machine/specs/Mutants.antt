@@ -15,7 +15,7 @@ use Rattle.model.specs.Range.{TwoPairs, isTowerOrStand, isNode}
 use Rattle.model.specs.State.{State, wrongCount, nodeAt, waits, oldest, allWaiting, trafficInRange, inRange, view, tableOf}
 use Rattle.model.specs.Step.{actor, reactionTo, remaining, grounds}
 use Rattle.model.specs.Answers.{answerNumber}
-use Rattle.model.specs.Claims.{Lacks, MayStart, FirstApplies, whomNow, whomStill, whomAside, InvitationReaches, Owns, Holds, withPlainReply, MaySend, recoversAtExpire, recordAfter, firstOther, withCheck, CheckReaches, DoesNotLead, FullPeal, MoreThanHalf, withFinish, FinishReaches, FinishTurnedAway, MayHand}
+use Rattle.model.specs.Claims.{Lacks, MayStart, FirstApplies, whomNow, whomStill, whomAside, InvitationReaches, Owns, Holds, withPlainReply, MaySend, recoversAtExpire, recordAfter, firstOther, withCheck, CheckReaches, DoesNotLead, FullPeal, MoreThanHalf, withFinish, FinishReaches, WithoutMajority, MayHand}
 use Rattle.model.specs.Cases.{setOf, none, node, invitedOnce}
 use Rattle.model.specs.declared.Limits.{Limits}
 use Rattle.model.specs.declared.Mark.the-variants.{Merges}
@@ -363,7 +363,7 @@ pub record NoOtherPeals : Type 0 where
   -- or changes something at it
   pub changes : {t : Table} {i : ℕ} {x : TaskNo} {r : Outcome} → FullPeal (x .number) → (MoreThanHalf (t .n) (nodeAt (view t) i) → ⊥) → Stepped t (Finish i x) r → (r .table ≡ t → ⊥) → ⊥
   -- or gives it another number, where the table is in range and i a node that collects: 13, 14 or 17 before 19, say
-  pub other-number : {t : Table} {i : ℕ} {x : TaskNo} {r : Outcome} → FinishTurnedAway (view t) i x → Stepped t (Finish i x) r → (r .answer ≡ NoMajority → ⊥) → ⊥
+  pub other-number : {t : Table} {i : ℕ} {x : TaskNo} {r : Outcome} → WithoutMajority (view t) i x → Stepped t (Finish i x) r → (r .answer ≡ NoMajority → ⊥) → ⊥
   -- one that gives 19 to another event
   pub other-event : {t : Table} {e : Event} {r : Outcome} → Stepped t e r → ((i : ℕ) (x : TaskNo) → e ≡ Finish i x → ⊥) → r .answer ≡ NoMajority → ⊥
   -- or with another task

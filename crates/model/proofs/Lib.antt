@@ -18,6 +18,7 @@ pub mod InRange
 pub mod Waiting
 pub mod Aside
 pub mod Early
+pub mod Acceptances
 pub mod Members
 pub mod Checks
 pub mod Majority

@@ -22,7 +22,7 @@ use Rattle.model.specs.Range.{isNode, isGivenTask, isFullPeal}
 use Rattle.model.specs.State.{State, nodeAt, inRange}
 use Rattle.model.specs.Grounds.{ground, judged, leavingOut}
 use Rattle.model.specs.Step.{step, grounds, actor, reactionTo, remaining, effect, noMajority, Result, refused, accepted, run}
-use Rattle.model.specs.Claims.{FullPeal, MoreThanHalf, Counts, CountedByBoth, MaySend, finishGrounds, withTaskAlone, withReady, withFinish, FinishReaches, FinishTurnedAway, TurnsAway, MayHand, formerStep, MajorityRules}
+use Rattle.model.specs.Claims.{FullPeal, MoreThanHalf, IsCountedBy, CountedByBoth, MaySend, finishGrounds, withNoMember, withReady, withFinish, FinishReaches, WithoutMajority, MeetsNineteen, MayHand, stepWithoutNineteen, MajorityRules}
 use Rattle.model.proofs.Grounds.{judged-by, judged-without}
 use Rattle.model.proofs.Judged.{Clear, accepted-apart, accepted-is, refused-same, met, passed, one-ground, leftBy, endsBy}
 use Rattle.model.proofs.Local.{both-left, both-right, right-fails}
@@ -94,7 +94,7 @@ more-than-half n c t e f =
 only-if : (s : State) (i : ℕ) (t : TaskNo) (u : State) (k : Mark) → step s (Finish i t) ≡ accepted u k → FullPeal (t .number) → MoreThanHalf (s .n) (nodeAt s i)
 only-if s i t u k q = more-than-half (s .n) (nodeAt s i) (t .number) (accepted-is s (Finish i t) u k q .clear .majority)
 
-turned-away : (s : State) (i : ℕ) (t : TaskNo) → FinishTurnedAway s i t → step s (Finish i t) ≡ refused 19
+turned-away : (s : State) (i : ℕ) (t : TaskNo) → WithoutMajority s i t → step s (Finish i t) ≡ refused 19
 unfolding judged pick
 turned-away s i t x = by (leb (2 * count (nodeAt s i .members) + 2) (s .n)) refl
   where
@@ -131,7 +131,7 @@ passes s i t x f h = finish s i t ∙ rw (x .in-range, x .number, x .given, x .n
 -- ── 19 ──
 module _ (s : State) where
   -- what it asks is asked of a finish
-  only-finish : (e : Event) → step s e ≡ refused 19 → noMajority (s .n) (nodeAt s (actor e)) e ≡ true → TurnsAway s e
+  only-finish : (e : Event) → step s e ≡ refused 19 → noMajority (s .n) (nodeAt s (actor e)) e ≡ true → MeetsNineteen s e
   unfolding grounds pick
   only-finish (Crash i) q a = absurd (true≢false (sym a))
   only-finish (Recover i) q a = absurd (true≢false (sym a))
@@ -144,7 +144,7 @@ module _ (s : State) where
         node = i;
         task = t;
         event = refl;
-        turned-away = record {
+        is = record {
           reaches = record {
             in-range = not-false _ (passed s (Finish i t) 1 19 refl q);
             number = not-false _ (passed s (Finish i t) 7 19 refl q);
@@ -159,16 +159,16 @@ module _ (s : State) where
   only-finish (Deliver a b) q x = absurd (true≢false (sym x))
   only-finish (Lose a b) q x = absurd (true≢false (sym x))
 
-  nineteen : (e : Event) → step s e ≡ refused 19 → TurnsAway s e
+  nineteen : (e : Event) → step s e ≡ refused 19 → MeetsNineteen s e
   unfolding grounds pick
   nineteen e q = only-finish e q (met s e 19 refl q)
 
-  as-before : (e : Event) → (TurnsAway s e → ⊥) → step s e ≡ formerStep s e
+  as-before : (e : Event) → (MeetsNineteen s e → ⊥) → step s e ≡ stepWithoutNineteen s e
   unfolding step
   as-before e f = judged-without refused (λ a b. refused-same) _ (λ x. accepted-apart) 19 (grounds s e) (λ q. f (nineteen e q))
 
-  other-tasks : (i : ℕ) (t : TaskNo) → (FullPeal (t .number) → ⊥) → step s (Finish i t) ≡ formerStep s (Finish i t)
-  other-tasks i t f = as-before (Finish i t) (λ x. f (subst (λ (e : Event). FullPeal (taskOf e .number)) (sym (x .event)) (x .turned-away .full-peal)))
+  other-tasks : (i : ℕ) (t : TaskNo) → (FullPeal (t .number) → ⊥) → step s (Finish i t) ≡ stepWithoutNineteen s (Finish i t)
+  other-tasks i t f = as-before (Finish i t) (λ x. f (subst (λ (e : Event). FullPeal (taskOf e .number)) (sym (x .event)) (x .is .full-peal)))
     where
       taskOf : Event → TaskNo
       taskOf (Crash i) = t
@@ -182,7 +182,7 @@ module _ (s : State) where
       taskOf (Lose a b) = t
 
   one : (e : Event) → s .n ≡ 1 → step s e ≡ refused 19 → ⊥
-  one e h q = nineteen e q .turned-away .no-majority (omega arith)
+  one e h q = nineteen e q .is .no-majority (omega arith)
 
 -- ── two full peals ──
 
@@ -212,10 +212,10 @@ common (suc n) a b = by (common n a b) (has a (suc n) && has b (suc n)) refl
         last j l h p q false x = let y = eqb-false j (suc n) x in f j l (omega arith) p q
 
 -- who is in the set of a coordinator and its members is counted by it
-counted : (s : State) (i k : ℕ) → 1 ≤ i → 1 ≤ k → has (with (nodeAt s i .members) i) k ≡ true → Counts s i k
+counted : (s : State) (i k : ℕ) → 1 ≤ i → 1 ≤ k → has (with (nodeAt s i .members) i) k ≡ true → IsCountedBy s i k
 counted s i k li lk e = by (eqb k i) refl
   where
-    by : (t : Bool) → eqb k i ≡ t → Counts s i k
+    by : (t : Bool) → eqb k i ≡ t → IsCountedBy s i k
     by true q = inl (eqb-true k i q)
     by false q = inr (sym (set-laws 16 (omega arith) .with-others (nodeAt s i .members) i k li lk (eqb-false k i q)) ∙ e)
 
@@ -260,14 +260,14 @@ share s u i j t v x y k m h p f q g = by (common (s .n) (with (nodeAt s i .membe
           second = counted u j (z .node) (b .low) (z .low) (z .second);
         }
     by (inr z) =
-        let together = set-laws (s .n) (a .small) .count-apart _ _ (a .whole) (subst (λ (n : ℕ). within n (with (nodeAt u j .members) j) ≡ true) (sym h) (b .whole)) z in
+        let together = set-laws (s .n) (a .small) .count-disjoint _ _ (a .whole) (subst (λ (n : ℕ). within n (with (nodeAt u j .members) j) ≡ true) (sym h) (b .whole)) z in
         absurd (omega (arith, together, a .counts, b .counts, only-if s i t x k p f, only-if u j v y m q g, h))
 
 not-early : (n : ℕ) (lim : Limits) (es : List Event) (e : Event) → length es ≤ 5 → step (run n lim es) e ≡ refused 19 → ⊥
 not-early n lim es e few q =
     let x = nineteen (run n lim es) e q in
-    let p = node-is (run n lim es .n) (x .node) (x .turned-away .reaches .number) in
-    early-collects n lim es few (x .node) (p .low) (p .high) (x .turned-away .reaches .not-down) (x .turned-away .reaches .collects)
+    let p = node-is (run n lim es .n) (x .node) (x .is .reaches .number) in
+    early-collects n lim es few (x .node) (p .low) (p .high) (x .is .reaches .not-down) (x .is .reaches .collects)
 
 pub majority-rules : MajorityRules
 majority-rules = record { finishes = finish; leaves = leaves; only-if = only-if; turned-away = turned-away; nineteen = nineteen; at-most = at-most; else-more = else-more; passes = passes; as-before = as-before; other-tasks = other-tasks; one = one; not-early = not-early; share = share }

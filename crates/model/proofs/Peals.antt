@@ -4,21 +4,43 @@ use native.Mathlib.Omega.{arith}
 use mathlib.Core.Logic.{_⊎_, inl, inr}
 use mathlib.Core.Path.{_≡_, sym, _∙_, ap, subst}
 use mathlib.Core.List.{List, _∷_, _++_}
+use borrow.Author.Tests.{not-false}
 use Rattle.model.specs.Range.{PairRule}
-use Rattle.model.specs.State.{startBy, nodeAt}
+use Rattle.model.specs.Node.{ownerOf}
+use Rattle.model.specs.State.{State, startBy, nodeAt}
 use Rattle.model.specs.Step.{step, runBy, accepted}
+use Rattle.model.specs.History.{historyBy}
 use Rattle.model.specs.Claims.{Recovering, Finishing, Fixes, FullPeal, MoreThanHalf, CountedByBoth, PealStarted, PealsByMajority}
 use Rattle.model.proofs.Judged.{accepted-is}
+use Rattle.model.proofs.Invariant.{owner-of}
+use Rattle.model.proofs.Whole.{run-fixes}
+use Rattle.model.proofs.Fields.{node-is, node-facts, in-range-node}
+use Rattle.model.proofs.Acceptances.{of-acceptances}
 use Rattle.model.proofs.InRange.{event-in}
 use Rattle.model.proofs.Fixed.{task-from-list}
 use Rattle.model.proofs.Traffic.{run-n}
 use Rattle.model.proofs.Majority.{majority-rules}
 use Rattle.model.specs.declared.Limits.{Limits}
+use Rattle.model.specs.declared.TaskNo.{TaskNo}
+use Rattle.model.specs.declared.Mark.{Mark}
 use Rattle.model.specs.declared.Mark.the-variants.{Plain, Recovers}
 use Rattle.model.specs.declared.Event.{Event}
 use Rattle.model.specs.declared.Event.the-variants.{Finish}
 
 module _ (rule : PairRule) (n : ℕ) (lim : Limits) (small : n ≤ 16) where
+  -- a node that is told to finish, and does, is its own coordinator: the group that it has is the one that it formed last
+  own : (es : List Event) (i : ℕ) (t : TaskNo) (u : State) (k : Mark) → step (runBy rule n lim es) (Finish i t) ≡ accepted u k → nodeAt (runBy rule n lim es) i .coordinator ≡ i
+  own es i t u k q =
+      let c = accepted-is (runBy rule n lim es) (Finish i t) u k q .clear in
+      let p = node-is (runBy rule n lim es .n) i (not-false _ (c .number)) in
+      let f = node-facts _ i (nodeAt (runBy rule n lim es) i) (in-range-node (runBy rule n lim es) i (c .in-range) (p .low) (p .high)) in
+      sym (f .led (c .status)) ∙ ap ownerOf (run-fixes rule n lim small .own-group es i t u k q) ∙ owner-of (historyBy rule n lim es .count i) i (record { low = p .low; high = omega (arith, p .high, run-n (startBy rule n lim) es, small) })
+
+  only-if : (es : List Event) (i : ℕ) (t : TaskNo) (u : State) (k : Mark) → step (runBy rule n lim es) (Finish i t) ≡ accepted u k → FullPeal (t .number)
+      → MoreThanHalf n (nodeAt (runBy rule n lim es) i)
+  only-if es i t u k q p =
+      subst (λ (m : ℕ). MoreThanHalf m (nodeAt (runBy rule n lim es) i)) (run-n (startBy rule n lim) es) (majority-rules .only-if (runBy rule n lim es) i t u k q p)
+
   -- what fixes a full peal is a finish: a solo task is the number of a node
   started : (es : List Event) (g t : ℕ) → Fixes rule n lim es g t → FullPeal t → PealStarted rule n lim es g t
   started es g t f p = by (f .how)
@@ -37,22 +59,22 @@ module _ (rule : PairRule) (n : ℕ) (lim : Limits) (small : n ≤ 16) where
             table = x .table;
             whole = f .whole ∙ ap (λ (e : Event). f .before ++ (e ∷ f .behind)) (x .event);
             number = x .number;
-            full-peal = p;
             finishes = q;
             group = x .group;
-            majority = subst (λ (k : ℕ). MoreThanHalf k (nodeAt (runBy rule n lim (f .before)) (x .node))) (run-n (startBy rule n lim) (f .before))
-                (majority-rules .only-if _ (x .node) (x .task) (x .table) Plain q (subst FullPeal (sym (x .number)) p));
+            coordinator = own (f .before) (x .node) (x .task) (x .table) Plain q;
+            majority = only-if (f .before) (x .node) (x .task) (x .table) Plain q (subst FullPeal (sym (x .number)) p);
           }
 
   pub peals-by-majority : PealsByMajority rule n lim
   peals-by-majority =
       record {
-        played = λ es i l h q p. started es _ _ (task-from-list rule n lim small .task es i l h q) p;
+        only-if = only-if;
+        by-coordinator = own;
+        normal = λ es i l h q p. started es _ _ (task-from-list rule n lim small .task es i l h q) p;
         entered = λ es g t q p. started es g t (task-from-list rule n lim small .entry-fixed es g t q) p;
-        share = λ es g t h u a b.
-            let p = run-n (startBy rule n lim) (a .before) in
-            let q = run-n (startBy rule n lim) (b .before) in
-            subst (λ (k : ℕ). CountedByBoth k (runBy rule n lim (a .before)) (a .node) (runBy rule n lim (b .before)) (b .node)) p
-            (majority-rules .share _ _ (a .node) (b .node) (a .task) (b .task) (a .table) (b .table) Plain Plain (p ∙ sym q)
-            (a .finishes) (subst FullPeal (sym (a .number)) (a .full-peal)) (b .finishes) (subst FullPeal (sym (b .number)) (b .full-peal)));
+        share = λ es fs i j t v x y k m q p w z.
+            let a = run-n (startBy rule n lim) es in
+            let b = run-n (startBy rule n lim) fs in
+            subst (λ (d : ℕ). CountedByBoth d (runBy rule n lim es) i (runBy rule n lim fs) j) a (majority-rules .share _ _ i j t v x y k m (a ∙ sym b) q p w z);
+        of-acceptances = of-acceptances rule n lim;
       }

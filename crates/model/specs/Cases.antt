@@ -914,8 +914,8 @@ pub record TrafficCases : Type 0 where
   pub deliver-at-end : step (past 2 1 33554429 0 (pair Normal none Idle (queued 1))) (Deliver 2 1)
       ≡ accepted (past 2 1 33554430 0 (pair Normal none Idle (replies 1 2 (callNo 1) true ∷ []))) Plain
   -- a full peal of two of four meets 19 (T-10), and not 17, which another task meets
-  pub minority-at-end : step (past 1 2 33554430 0 (gathered 4 (2 ∷ []))) (Finish 1 (taskNo 100)) ≡ refused 19
-  pub minority-at-end-above : step (past 1 2 33554430 0 (gathered 4 (2 ∷ []))) (Finish 1 (taskNo 200)) ≡ refused 17
+  pub half-at-end : step (past 1 2 33554430 0 (gathered 4 (2 ∷ []))) (Finish 1 (taskNo 100)) ≡ refused 19
+  pub half-at-end-above : step (past 1 2 33554430 0 (gathered 4 (2 ∷ []))) (Finish 1 (taskNo 200)) ≡ refused 17
   -- a check of a member meets 18 (T-06), and not 17
   pub member-at-end : step (past 2 1 33554430 0 (beside (follower Normal 32 100 none 2 Idle) [])) (Check 2) ≡ refused 18
   -- "after 14": 12 before 13 before 14 before 17
@@ -1075,7 +1075,7 @@ pub record MajorityCases : Type 0 where
   pub number-first : step (gathered 2 []) (Finish 3 (taskNo 100)) ≡ refused 7
   pub down-first : step (gathered 2 []) (Finish 2 (taskNo 100)) ≡ refused 9
   pub activity-first : step (pair Election none (Inviting none none 1) []) (Finish 2 (taskNo 100)) ≡ refused 10
-  -- and 13 and 14 behind it (17: TrafficCases.minority-at-end), which the same node meets with 200, and with a majority
+  -- and 13 and 14 behind it (17: TrafficCases.half-at-end), which the same node meets with 200, and with a majority
   pub calls-end : step (gatheredIn tower 4 (setOf (2 ∷ [])) 16777215 []) (Finish 1 (taskNo 100)) ≡ refused 19
   pub calls-end-above : step (gatheredIn tower 4 (setOf (2 ∷ [])) 16777215 []) (Finish 1 (taskNo 200)) ≡ refused 13
   pub calls-end-majority : step (gatheredIn tower 3 (setOf (2 ∷ [])) 16777215 []) (Finish 1 (taskNo 100)) ≡ refused 13

@@ -6,11 +6,11 @@ use mathlib.Core.Logic.{_⊎_}
 use mathlib.Core.List.{List, [], _∷_, _++_, map}
 use lib.Dec.{eqb, leb, ltb}
 use lib.ListN.{length, getD, set}
-use Rattle.node_set.specs.NodeSet.{has, without, highest, count}
+use Rattle.node_set.specs.NodeSet.{has, with, without, highest, count}
 use Rattle.model.specs.Pick.{pick}
 use Rattle.model.specs.Limits.{nodeLimit, counterEnd, callEnd, trafficEnd}
 use Rattle.model.specs.Counts.{pairPlace, senderAt, receiverAt, countAt, oneMore, total}
-use Rattle.model.specs.Node.{isDown, isNormal, isActive, isIdle, isCollecting, groupOf, ownerOf, nextCall, asks, calls, readies, replies}
+use Rattle.model.specs.Node.{isDown, isElection, isNormal, isActive, isIdle, isCollecting, groupOf, ownerOf, nextCall, asks, calls, readies, replies}
 use Rattle.model.specs.Recovery.{withStatus, withCounter, withGroup, withCoordinator, withMembers, withTask, recoveryRecords, stopped, recovered}
 use Rattle.model.specs.Procedures.{next, inviteNext, handNext, forwardNext}
 use Rattle.model.specs.React.{checked, expired, resumed}
@@ -169,17 +169,49 @@ pub record TrafficAgrees (r : PairRule) (n : ℕ) (l : Limits) : Type 0 where
   -- "From the starting table no event ever meets the new ground"
   pub never-seventeen : (es : List Event) (e : Event) → step (runBy r n l es) e ≡ refused 17 → ⊥
 
--- ── T-10: full peals in a run ──
+-- ── T-10: full peals in a run. 02's numbers are written out, so that the claims can be read without Limits and Range ──
 
 -- "Tasks 100 to 199 are full peals"
 abbrev pub FullPeal : ℕ → Type 0
 FullPeal t = (100 ≤ t) × (t ≤ 199)
 
--- "the coordinator and its members together are more than half of n", by the coordinator's record: it counts itself and each node of its set
+-- "the coordinator and its members together are more than half of n", by the record of the node that is told to finish: it counts itself and each node of its member set. In a
+-- run that node is its own coordinator (PealsByMajority.by-coordinator).
 abbrev pub MoreThanHalf : ℕ → Node → Type 0
 MoreThanHalf n c = n < 2 * (1 + count (c .members))
 
--- after a beginning of the list es, a finish with the full peal t by a node of the group g is accepted; by then the node counts more than half of n
+-- 01: "4: if in Election, its own coordinator and in that group, the sender joins the members.": the delivery of the oldest message from a to b is such an acceptance
+abbrev pub isAcceptance : State → ℕ → ℕ → Bool
+isAcceptance s a b =
+    eqb (oldest a b (s .queue) .kind) 4
+    && (isElection (nodeAt s b .status) && eqb (nodeAt s b .coordinator) b && eqb (nodeAt s b .group .number) (oldest a b (s .queue) .group .number))
+
+-- the set m, and the sender where the event is an acceptance
+abbrev pub withAcceptance : State → Event → ℕ → ℕ
+withAcceptance s (Crash i) m = m
+withAcceptance s (Recover i) m = m
+withAcceptance s (Check i) m = m
+withAcceptance s (Timeout i) m = m
+withAcceptance s (Tick i) m = m
+withAcceptance s (Expire i) m = m
+withAcceptance s (Finish i t) m = m
+withAcceptance s (Deliver a b) m = pick (isAcceptance s a b) (with m a) m
+withAcceptance s (Lose a b) m = m
+
+-- the nodes whose acceptances node i has counted, m before the event e: none where i forms a group in it, and else one more where it is an acceptance by i
+abbrev pub countedNext : ℕ → State → ℕ → Event → Result → ℕ
+countedNext i s m e (refused r) = m
+countedNext i s m e (accepted u k) = pick (eqb (actor e) i) (pick (forms k) 0 (withAcceptance s e m)) m
+
+-- fed the events as the history is
+unfoldable pub acceptancesFrom : ℕ → State → ℕ → List Event → ℕ
+acceptancesFrom i s m [] = m
+acceptancesFrom i s m (e ∷ es) = acceptancesFrom i (after s e) (countedNext i s m e (step s e)) es
+
+abbrev pub acceptances : PairRule → ℕ → Limits → List Event → ℕ → ℕ
+acceptances r n l es i = acceptancesFrom i (startBy r n l) 0 es
+
+-- after a beginning of the list es, a finish with the full peal t by the coordinator of the group g is accepted; just before it, that node counts more than half of n
 pub record PealStarted (r : PairRule) (n : ℕ) (l : Limits) (es : List Event) (g t : ℕ) : Type 0 where
   pub before : List Event
   pub node : ℕ
@@ -188,35 +220,41 @@ pub record PealStarted (r : PairRule) (n : ℕ) (l : Limits) (es : List Event) (
   pub table : State
   pub whole : es ≡ before ++ (Finish node task ∷ behind)
   pub number : task .number ≡ t
-  pub full-peal : FullPeal t
   pub finishes : step (runBy r n l before) (Finish node task) ≡ accepted table Plain
   pub group : nodeAt (runBy r n l before) node .group .number ≡ g
+  pub coordinator : nodeAt (runBy r n l before) node .coordinator ≡ node
   pub majority : MoreThanHalf n (nodeAt (runBy r n l before) node)
 
--- node i counts node k in the table s: k is i itself, or in its member set
-abbrev pub Counts : State → ℕ → ℕ → Type 0
-Counts s i k = (k ≡ i) ⊎ (has (nodeAt s i .members) k ≡ true)
+-- node k is counted by node i in the table s: it is i itself, or in its member set
+abbrev pub IsCountedBy : State → ℕ → ℕ → Type 0
+IsCountedBy s i k = (k ≡ i) ⊎ (has (nodeAt s i .members) k ≡ true)
 
--- a node that i counts in s and j counts in u
+-- a node that is counted by i in s and by j in u
 pub record CountedByBoth (n : ℕ) (s : State) (i : ℕ) (u : State) (j : ℕ) : Type 0 where
   pub node : ℕ
   pub low : 1 ≤ node
   pub high : node ≤ n
-  pub first : Counts s i node
-  pub second : Counts u j node
+  pub first : IsCountedBy s i node
+  pub second : IsCountedBy u j node
 
 -- Of every list of events from the starting table of n nodes with the limits l. "the smaller part of a split tower should not start one": what is claimed is that whoever
 -- starts one counts more than half of n, and so that two coordinators which start one count a common node. Not claimed is that no two start one: "The count is of
--- acceptances: a member that has left since still counts, so nothing is said about two coordinators that both counted it." (MajorityCases.both-counted is such a run.)
+-- acceptances: a member that has left since still counts, so nothing is said about two coordinators that both counted it." (`countedTwice` of Cases is a run in which two do.)
 pub record PealsByMajority (r : PairRule) (n : ℕ) (l : Limits) : Type 0 where
-  -- whoever plays a full peal, Normal with such a task, has it from a finish in the list, by a node of its group that counted more than half of n
-  pub played : (es : List Event) (i : ℕ) → 1 ≤ i → i ≤ n → nodeAt (runBy r n l es) i .status ≡ Normal → FullPeal (nodeAt (runBy r n l es) i .task .number)
+  -- "A finish with such a task passes only if the coordinator and its members together are more than half of n.": at each event of the list; and it is the coordinator's
+  pub only-if : (es : List Event) (i : ℕ) (t : TaskNo) (u : State) (k : Mark) → step (runBy r n l es) (Finish i t) ≡ accepted u k → FullPeal (t .number)
+      → MoreThanHalf n (nodeAt (runBy r n l es) i)
+  pub by-coordinator : (es : List Event) (i : ℕ) (t : TaskNo) (u : State) (k : Mark) → step (runBy r n l es) (Finish i t) ≡ accepted u k → nodeAt (runBy r n l es) i .coordinator ≡ i
+  -- a Normal node whose task is a full peal has it from such a finish in the list, for its group
+  pub normal : (es : List Event) (i : ℕ) → 1 ≤ i → i ≤ n → nodeAt (runBy r n l es) i .status ≡ Normal → FullPeal (nodeAt (runBy r n l es) i .task .number)
       → PealStarted r n l es (nodeAt (runBy r n l es) i .group .number) (nodeAt (runBy r n l es) i .task .number)
   -- and so has every group for which the history has such a task
   pub entered : (es : List Event) (g t : ℕ) → historyBy r n l es .entry g ≡ Task t → FullPeal t → PealStarted r n l es g t
-  -- of any two that were started in the list, a node was counted for both
-  pub share : (es : List Event) (g t h u : ℕ) (a : PealStarted r n l es g t) (b : PealStarted r n l es h u)
-      → CountedByBoth n (runBy r n l (a .before)) (a .node) (runBy r n l (b .before)) (b .node)
+  -- two full peals that are accepted, in whatever places of lists, have a node that is counted for both
+  pub share : (es fs : List Event) (i j : ℕ) (t v : TaskNo) (x y : State) (k m : Mark) → step (runBy r n l es) (Finish i t) ≡ accepted x k → FullPeal (t .number)
+      → step (runBy r n l fs) (Finish j v) ≡ accepted y m → FullPeal (v .number) → CountedByBoth n (runBy r n l es) i (runBy r n l fs) j
+  -- "The count is of acceptances": a node's member set is that of the nodes whose Accept it took since it formed its group, whatever they did later
+  pub of-acceptances : (es : List Event) (i : ℕ) → 1 ≤ i → i ≤ n → nodeAt (runBy r n l es) i .members ≡ acceptances r n l es i
 
 -- ── T-08: for which tables this is claimed ──
 
@@ -799,8 +837,8 @@ withReady s i t = record {
 }
 
 -- "or with none, Normal and idle"
-abbrev pub withTaskAlone : State → ℕ → TaskNo → State
-withTaskAlone s i t = record {
+abbrev pub withNoMember : State → ℕ → TaskNo → State
+withNoMember s i t = record {
   rule = s .rule;
   n = s .n;
   limits = s .limits;
@@ -823,7 +861,7 @@ withTaskAlone s i t = record {
 
 -- what finish i with task t leaves where it is accepted
 abbrev pub withFinish : State → ℕ → TaskNo → State
-withFinish s i t = pick (eqb (nodeAt s i .members) 0) (withTaskAlone s i t) (withReady s i t)
+withFinish s i t = pick (eqb (nodeAt s i .members) 0) (withNoMember s i t) (withReady s i t)
 
 -- finish i with task t meets none of 1, 7, 8, 9 and 10: the table is in range, i is a node that is not Down, and collecting, and t is 100 to 65,535
 pub record FinishReaches (s : State) (i : ℕ) (t : TaskNo) : Type 0 where
@@ -833,28 +871,28 @@ pub record FinishReaches (s : State) (i : ℕ) (t : TaskNo) : Type 0 where
   pub not-down : isDown (nodeAt s i .status) ≡ false
   pub collects : isCollecting (nodeAt s i .activity) ≡ true
 
--- finish i with a full peal t reaches 19, and the coordinator and its members together are not more than half of n
-pub record FinishTurnedAway (s : State) (i : ℕ) (t : TaskNo) : Type 0 where
+-- finish i with a full peal t reaches 19, and node i and its members together are not more than half of n
+pub record WithoutMajority (s : State) (i : ℕ) (t : TaskNo) : Type 0 where
   pub reaches : FinishReaches s i t
   pub full-peal : FullPeal (t .number)
   pub no-majority : MoreThanHalf (s .n) (nodeAt s i) → ⊥
 
--- the event is a finish that 19 turns away
-pub record TurnsAway (s : State) (e : Event) : Type 0 where
+-- the event is such a finish
+pub record MeetsNineteen (s : State) (e : Event) : Type 0 where
   pub node : ℕ
   pub task : TaskNo
   pub event : e ≡ Finish node task
-  pub turned-away : FinishTurnedAway s node task
+  pub is : WithoutMajority s node task
 
--- node i needs no call, as it has no member, or has one to make: 13, 14 and 17 do not apply
+-- node i needs no call, as it has no member, or may make one: 13, 14 and 17 do not apply
 abbrev pub MayHand : State → ℕ → Type 0
 MayHand s i =
     (nodeAt s i .members ≡ 0)
     ⊎ ((nodeAt s i .last .number < callEnd) × (length (s .queue) < s .limits .messages) × MaySend s i (highest (nodeAt s i .members)))
 
--- the step as it was before T-10, by the table of grounds without 19
-abbrev pub formerStep : State → Event → Result
-formerStep s e = judged refused (accepted (effect s e) (reactionTo s e .mark)) (leavingOut 19 (grounds s e))
+-- the step by the table of grounds without 19. It is the step as it was before T-10, which changed nothing else; that is no claim, as the former definitions are gone
+abbrev pub stepWithoutNineteen : State → Event → Result
+stepWithoutNineteen s e = judged refused (accepted (effect s e) (reactionTo s e .mark)) (leavingOut 19 (grounds s e))
 
 pub record MajorityRules : Type 0 where
   -- all of finish i with task t on any table, as one equation: it is refused by these grounds, in this order, and by nothing else; and what it leaves
@@ -863,23 +901,24 @@ pub record MajorityRules : Type 0 where
   pub leaves : (s : State) (i : ℕ) (t : TaskNo) (u : State) (k : Mark) → step s (Finish i t) ≡ accepted u k → u ≡ withFinish s i t
   -- "A finish with such a task passes only if the coordinator and its members together are more than half of n."
   pub only-if : (s : State) (i : ℕ) (t : TaskNo) (u : State) (k : Mark) → step s (Finish i t) ≡ accepted u k → FullPeal (t .number) → MoreThanHalf (s .n) (nodeAt s i)
-  -- and where they are not, it is refused with 19
-  pub turned-away : (s : State) (i : ℕ) (t : TaskNo) → FinishTurnedAway s i t → step s (Finish i t) ≡ refused 19
+  -- where they are not, and it reaches 19, it is refused with that
+  pub turned-away : (s : State) (i : ℕ) (t : TaskNo) → WithoutMajority s i t → step s (Finish i t) ≡ refused 19
   -- "Checks: 19, finish with task 100 to 199 when ..": no other event meets it, and no other finish
-  pub nineteen : (s : State) (e : Event) → step s e ≡ refused 19 → TurnsAway s e
+  pub nineteen : (s : State) (e : Event) → step s e ≡ refused 19 → MeetsNineteen s e
   -- "twice the members plus two is at most n" says the same as that the coordinator and its members are not more than half of n
   pub at-most : (n : ℕ) (c : Node) → 2 * count (c .members) + 2 ≤ n → MoreThanHalf n c → ⊥
   pub else-more : (n : ℕ) (c : Node) → (2 * count (c .members) + 2 ≤ n → ⊥) → MoreThanHalf n c
   -- with more than half of n, or with another task, it passes where 13, 14 and 17 do not apply
   pub passes : (s : State) (i : ℕ) (t : TaskNo) → FinishReaches s i t → (FullPeal (t .number) → MoreThanHalf (s .n) (nodeAt s i)) → MayHand s i
       → step s (Finish i t) ≡ accepted (withFinish s i t) Plain
-  -- "Other tasks pass as before.": any event that is not such a finish is refused as it was, or accepted and does what it did
-  pub as-before : (s : State) (e : Event) → (TurnsAway s e → ⊥) → step s e ≡ formerStep s e
-  pub other-tasks : (s : State) (i : ℕ) (t : TaskNo) → (FullPeal (t .number) → ⊥) → step s (Finish i t) ≡ formerStep s (Finish i t)
+  -- "Other tasks pass as before."
+  pub other-tasks : (s : State) (i : ℕ) (t : TaskNo) → (FullPeal (t .number) → ⊥) → step s (Finish i t) ≡ stepWithoutNineteen s (Finish i t)
+  -- and so does every event that is not a finish of which 19 speaks: it is refused as without 19, or accepted and does the same
+  pub as-before : (s : State) (e : Event) → (MeetsNineteen s e → ⊥) → step s e ≡ stepWithoutNineteen s e
   -- with n = 1 the coordinator alone is more than half
   pub one : (s : State) (e : Event) → s .n ≡ 1 → step s e ≡ refused 19 → ⊥
   -- none of the first six events of a run meets it
   pub not-early : (n : ℕ) (l : Limits) (es : List Event) (e : Event) → length es ≤ 5 → step (run n l es) e ≡ refused 19 → ⊥
-  -- two full peals that are accepted, in whatever tables of n nodes, have a node that both coordinators count
+  -- two full peals that are accepted, in whatever tables of n nodes, have a node that is counted for both. Not claimed is that there are not two such: PealsByMajority
   pub share : (s u : State) (i j : ℕ) (t v : TaskNo) (x y : State) (k m : Mark) → s .n ≡ u .n → step s (Finish i t) ≡ accepted x k → FullPeal (t .number)
       → step u (Finish j v) ≡ accepted y m → FullPeal (v .number) → CountedByBoth (s .n) s i u j

@@ -62,8 +62,8 @@ abbrev pub isFullPeal : ℕ → Bool
 isFullPeal t = leb fullPealLow t && leb t fullPealEnd
 
 -- T-10: "twice the members plus two is at most n", of the member set of a coordinator: with itself it has no more than half of n
-abbrev pub isMinority : ℕ → ℕ → Bool
-isMinority n members = leb (2 * count members + 2) n
+abbrev pub isAtMostHalf : ℕ → ℕ → Bool
+isAtMostHalf n members = leb (2 * count members + 2) n
 
 -- "call numbers in messages and of callers are at least 1"
 abbrev pub isCall : ℕ → Bool

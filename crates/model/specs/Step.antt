@@ -10,7 +10,7 @@ use Rattle.model.specs.Counts.{countAt, oneMore}
 use Rattle.model.specs.Node.{isDown, isIdle, isWaiting, isCollecting, hasOpenCall}
 use Rattle.model.specs.Procedures.{stays}
 use Rattle.model.specs.React.{leads, react}
-use Rattle.model.specs.Range.{PairRule, isNode, isPair, isGivenTask, isFullPeal, isMinority}
+use Rattle.model.specs.Range.{PairRule, isNode, isPair, isGivenTask, isFullPeal, isAtMostHalf}
 use Rattle.model.specs.State.{State, startBy, start, nodeAt, waits, oldest, withoutOldest, countsAside, inRange}
 use Rattle.model.specs.declared.Limits.{Limits}
 use Rattle.model.specs.declared.Status.{Status}
@@ -182,7 +182,7 @@ noMajority n c (Check i) = false
 noMajority n c (Timeout i) = false
 noMajority n c (Tick i) = false
 noMajority n c (Expire i) = false
-noMajority n c (Finish i t) = isFullPeal (t .number) && isMinority n (c .members)
+noMajority n c (Finish i t) = isFullPeal (t .number) && isAtMostHalf n (c .members)
 noMajority n c (Deliver a b) = false
 noMajority n c (Lose a b) = false
 

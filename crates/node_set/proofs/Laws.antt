@@ -279,17 +279,17 @@ count-lacks n s i l u w e =
     let p : n ≡ suc (n - 1) = omega arith in
     ones-lacks (i - 1) (n - 1) s (omega arith) (subst (λ (m : ℕ). s < 2 ^ m) p (within-lt n s w)) (no-digit s i e)
 
-ones-apart : (n s t : ℕ) → s < 2 ^ n → t < 2 ^ n → ((k : ℕ) → k < n → digit s k ≡ 1 → digit t k ≡ 1 → ⊥) → ones s + ones t ≤ n
-ones-apart zero s t a b f = omega (arith, ones-le 0 s a, ones-le 0 t b)
-ones-apart (suc n) s t a b f =
+ones-disjoint : (n s t : ℕ) → s < 2 ^ n → t < 2 ^ n → ((k : ℕ) → k < n → digit s k ≡ 1 → digit t k ≡ 1 → ⊥) → ones s + ones t ≤ n
+ones-disjoint zero s t a b f = omega (arith, ones-le 0 s a, ones-le 0 t b)
+ones-disjoint (suc n) s t a b f =
     let low : s % 2 + t % 2 < 2 = lt-of-not-le (λ h. f 0 (omega arith) (digit-zero s ∙ omega arith) (digit-zero t ∙ omega arith)) in
-    let high = ones-apart n (s / 2) (t / 2) (omega (arith, pow-suc 2 n)) (omega (arith, pow-suc 2 n)) (λ k l p q. f (suc k) (omega arith) (digit-suc s k ∙ p) (digit-suc t k ∙ q)) in
+    let high = ones-disjoint n (s / 2) (t / 2) (omega (arith, pow-suc 2 n)) (omega (arith, pow-suc 2 n)) (λ k l p q. f (suc k) (omega arith) (digit-suc s k ∙ p) (digit-suc t k ∙ q)) in
     omega (arith, ones-step s, ones-step t, low, high)
 
 -- two sets within n that have no node in common have together at most n nodes
-pub count-apart : (n s t : ℕ) → within n s ≡ true → within n t ≡ true → ((j : ℕ) → 1 ≤ j → j ≤ n → has s j ≡ true → has t j ≡ true → ⊥) → count s + count t ≤ n
-count-apart n s t v w f =
-    ones-apart n s t (within-lt n s v) (within-lt n t w) (λ k l p q. f (k + 1) (omega arith) (omega arith) (has-at s k p) (has-at t k q))
+pub count-disjoint : (n s t : ℕ) → within n s ≡ true → within n t ≡ true → ((j : ℕ) → 1 ≤ j → j ≤ n → has s j ≡ true → has t j ≡ true → ⊥) → count s + count t ≤ n
+count-disjoint n s t v w f =
+    ones-disjoint n s t (within-lt n s v) (within-lt n t w) (λ k l p q. f (k + 1) (omega arith) (omega arith) (has-at s k p) (has-at t k q))
   where
     has-at : (a k : ℕ) → digit a k ≡ 1 → has a (k + 1) ≡ true
     has-at a k e = rw (add-sub-cancel, e)
@@ -358,5 +358,5 @@ set-laws n h =
       count-with = λ s i. count-with n s i h;
       count-without = λ s i w. count-without s i (within-word n s h w);
       count-within = count-within n;
-      count-apart = count-apart n;
+      count-disjoint = count-disjoint n;
     }

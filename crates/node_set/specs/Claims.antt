@@ -37,4 +37,4 @@ pub record SetLaws (n : ℕ) : Type 0 where
   pub count-without : (s i : ℕ) → within n s ≡ true → has s i ≡ true → count (without s i) + 1 ≡ count s
   pub count-within : (s : ℕ) → within n s ≡ true → count s ≤ n
   -- two sets without a common node have together at most n
-  pub count-apart : (s t : ℕ) → within n s ≡ true → within n t ≡ true → ((j : ℕ) → 1 ≤ j → j ≤ n → has s j ≡ true → has t j ≡ true → ⊥) → count s + count t ≤ n
+  pub count-disjoint : (s t : ℕ) → within n s ≡ true → within n t ≡ true → ((j : ℕ) → 1 ≤ j → j ≤ n → has s j ≡ true → has t j ≡ true → ⊥) → count s + count t ≤ n

@@ -8,7 +8,7 @@ ghost use Rattle.model.specs.Node.{isDown, isElection, isReorganization, isNorm
 ghost use Rattle.model.specs.Pick.{pick};
 ghost use Rattle.model.specs.State.{wrongCount};
 ghost use Rattle.model.specs.Answers.{startNumber};
-ghost use Rattle.model.specs.Range.{sameLimits, isTowerOrStand, isNode, isOther, isSetOfOthers, isGivenTask, isFullPeal, isMinority};
+ghost use Rattle.model.specs.Range.{sameLimits, isTowerOrStand, isNode, isOther, isSetOfOthers, isGivenTask, isFullPeal, isAtMostHalf};
 use model::Limits;
 use model::StartAnswer;
 use model::Status;
@@ -112,8 +112,8 @@ pub fn is_full_peal(t: TaskNo) -> bool
 }
 
 // "twice the members plus two is at most n"
-pub fn is_minority(n: u8, members: u16) -> bool
-    ensures { λ r. ⌜ r ≡ isMinority n members ⌝ }
+pub fn is_at_most_half(n: u8, members: u16) -> bool
+    ensures { λ r. ⌜ r ≡ isAtMostHalf n members ⌝ }
 {
     2 * node_set::count(members) + 2 <= n as u32
 }

@@ -11,7 +11,7 @@ use Rattle.model.specs.Pick.{pick, pick-true, pick-false}
 use Rattle.model.specs.State.{State, start}
 use Rattle.model.specs.Step.{Result, refused, accepted, step, kept, run}
 use Rattle.model.specs.Answers.{resultNumber}
-use Rattle.model.specs.Claims.{TurnsAway, formerStep}
+use Rattle.model.specs.Claims.{MeetsNineteen, stepWithoutNineteen}
 use Rattle.model.proofs.Judged.{accepted-apart, refused-same}
 use Rattle.model.proofs.Majority.{majority-rules}
 use Rattle.model.specs.declared.Event.{Event}
@@ -23,7 +23,7 @@ use Rattle.short_lists_text.specs.Claims.{listsBy, answersBy, isOneOf, w
 use Rattle.short_lists_text.proofs.Stay.{same-rows, from-start}
 
 -- the machine's step is the former one where 19 is not met
-not-met : (s : State) (e : Event) → (step s e ≡ refused 19 → ⊥) → step s e ≡ formerStep s e
+not-met : (s : State) (e : Event) → (step s e ≡ refused 19 → ⊥) → step s e ≡ stepWithoutNineteen s e
 not-met s e f = majority-rules .as-before s e (λ z. f (ap (step s) (z .event) ∙ majority-rules .turned-away s (z .node) (z .task) (z .turned-away)))
 
 -- ── leaving lists out ──
@@ -64,48 +64,48 @@ module _ (s : State) where
 -- ── all lists ──
 
 -- one event before the lists that follow it
-module _ (m : ℕ) (on : (u : State) → listsFrom m u ≡ withoutNineteen u (listsBy formerStep m u)) (s : State) (e : Event) where
+module _ (m : ℕ) (on : (u : State) → listsFrom m u ≡ withoutNineteen u (listsBy stepWithoutNineteen m u)) (s : State) (e : Event) where
   -- 19 takes all of them out
-  turned : step s e ≡ refused 19 → (x : Result) → [] ≡ withoutNineteen s (continued e x (listsBy formerStep m))
+  turned : step s e ≡ refused 19 → (x : Result) → [] ≡ withoutNineteen s (continued e x (listsBy stepWithoutNineteen m))
   unfolding withoutNineteen
   turned q (refused r) = refl
-  turned q (accepted u k) = sym (all-out s e q (listsBy formerStep m u))
+  turned q (accepted u k) = sym (all-out s e q (listsBy stepWithoutNineteen m u))
 
   -- any other result is what it was
-  same : (x : Result) → step s e ≡ x → (x ≡ refused 19 → ⊥) → continued e x (listsFrom m) ≡ withoutNineteen s (continued e x (listsBy formerStep m))
+  same : (x : Result) → step s e ≡ x → (x ≡ refused 19 → ⊥) → continued e x (listsFrom m) ≡ withoutNineteen s (continued e x (listsBy stepWithoutNineteen m))
   unfolding withoutNineteen
   same (refused r) q f = refl
   same (accepted u k) q f =
-      ap (map (λ l. e ∷ l)) (on u) ∙ sym (each-on s e u (ap (kept s) q) (ap (λ (x : Result). eqb (resultNumber x) 19) q) (listsBy formerStep m u))
+      ap (map (λ l. e ∷ l)) (on u) ∙ sym (each-on s e u (ap (kept s) q) (ap (λ (x : Result). eqb (resultNumber x) 19) q) (listsBy stepWithoutNineteen m u))
 
-  one : continued e (step s e) (listsFrom m) ≡ withoutNineteen s (continued e (formerStep s e) (listsBy formerStep m))
+  one : continued e (step s e) (listsFrom m) ≡ withoutNineteen s (continued e (stepWithoutNineteen s e) (listsBy stepWithoutNineteen m))
   one = by (step s e) refl
     where
-      other : (step s e ≡ refused 19 → ⊥) → continued e (step s e) (listsFrom m) ≡ withoutNineteen s (continued e (formerStep s e) (listsBy formerStep m))
-      other f = same (step s e) refl f ∙ ap (λ (x : Result). withoutNineteen s (continued e x (listsBy formerStep m))) (not-met s e f)
+      other : (step s e ≡ refused 19 → ⊥) → continued e (step s e) (listsFrom m) ≡ withoutNineteen s (continued e (stepWithoutNineteen s e) (listsBy stepWithoutNineteen m))
+      other f = same (step s e) refl f ∙ ap (λ (x : Result). withoutNineteen s (continued e x (listsBy stepWithoutNineteen m))) (not-met s e f)
 
       by-number : (r : ℕ) → step s e ≡ refused r → (t : Bool) → eqb r 19 ≡ t
-          → continued e (step s e) (listsFrom m) ≡ withoutNineteen s (continued e (formerStep s e) (listsBy formerStep m))
+          → continued e (step s e) (listsFrom m) ≡ withoutNineteen s (continued e (stepWithoutNineteen s e) (listsBy stepWithoutNineteen m))
       by-number r q true h =
           let z = q ∙ ap refused (eqb-true r 19 h) in
-          ap (λ (x : Result). continued e x (listsFrom m)) z ∙ turned z (formerStep s e)
+          ap (λ (x : Result). continued e x (listsFrom m)) z ∙ turned z (stepWithoutNineteen s e)
       by-number r q false h = other (λ z. eqb-false r 19 h (refused-same (sym q ∙ z)))
 
-      by : (x : Result) → step s e ≡ x → continued e (step s e) (listsFrom m) ≡ withoutNineteen s (continued e (formerStep s e) (listsBy formerStep m))
+      by : (x : Result) → step s e ≡ x → continued e (step s e) (listsFrom m) ≡ withoutNineteen s (continued e (stepWithoutNineteen s e) (listsBy stepWithoutNineteen m))
       by (refused r) q = by-number r q (eqb r 19) refl
       by (accepted u k) q = other (λ z. accepted-apart (sym q ∙ z))
 
-lists : (m : ℕ) (s : State) → listsFrom m s ≡ withoutNineteen s (listsBy formerStep m s)
+lists : (m : ℕ) (s : State) → listsFrom m s ≡ withoutNineteen s (listsBy stepWithoutNineteen m s)
 unfolding listsFrom listsBy withoutNineteen pick
 lists zero s = refl
 lists (suc m) s =
-    same-rows _ _ (one m (lists m) s) (alphabet (s .n)) ∙ sym (out-rows s (λ e. continued e (formerStep s e) (listsBy formerStep m)) (alphabet (s .n)))
+    same-rows _ _ (one m (lists m) s) (alphabet (s .n)) ∙ sym (out-rows s (λ e. continued e (stepWithoutNineteen s e) (listsBy stepWithoutNineteen m)) (alphabet (s .n)))
 
-same-lists : (n m : ℕ) → m ≤ 6 → listsFrom m (start n tower) ≡ listsBy formerStep m (start n tower)
+same-lists : (n m : ℕ) → m ≤ 6 → listsFrom m (start n tower) ≡ listsBy stepWithoutNineteen m (start n tower)
 same-lists n m h =
-    sym (from-start formerStep n 6 (λ es e l. sym (not-met (run n tower es) e (majority-rules .not-early n tower es e (omega (arith, l))))) m h)
+    sym (from-start stepWithoutNineteen n 6 (λ es e l. sym (not-met (run n tower es) e (majority-rules .not-early n tower es e (omega (arith, l))))) m h)
 
-texts : (n m : ℕ) → 1 ≤ n → n ≤ 3 → m ≤ 7 → textOf (n ∷ m ∷ []) ≡ joined (linesOf (withoutNineteen (start n tower) (listsBy formerStep m (start n tower))))
+texts : (n m : ℕ) → 1 ≤ n → n ≤ 3 → m ≤ 7 → textOf (n ∷ m ∷ []) ≡ joined (linesOf (withoutNineteen (start n tower) (listsBy stepWithoutNineteen m (start n tower))))
 unfolding textOf fits pick
 texts n m l h k = rw (le-leb 1 n l, le-leb n 3 h, le-leb m 7 k, lists m (start n tower))
 

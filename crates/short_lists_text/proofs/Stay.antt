@@ -16,7 +16,7 @@ use Rattle.listing.specs.Printing.{joined}
 use Rattle.short_lists_text.specs.Rows.{concatMap}
 use Rattle.short_lists_text.specs.Lists.{alphabet, continued, listsFrom}
 use Rattle.short_lists_text.specs.Text.{linesOf, fits, textOf}
-use Rattle.short_lists_text.specs.Claims.{listsBy, formerResult, uncheckedStep, ListsStay}
+use Rattle.short_lists_text.specs.Claims.{listsBy, formerResult, stepWithoutEighteen, ListsStay}
 
 pub same-rows : {A B : Type 0} (f g : A → List B) → ((x : A) → f x ≡ g x) → (xs : List A) → concatMap f xs ≡ concatMap g xs
 same-rows f g h [] = refl
@@ -45,7 +45,7 @@ module _ (f : State → Event → Result) (n k : ℕ) (same : (es : List Event) 
   from-start m h = from-run m [] (omega (arith, h))
 
 -- ── T-06 ──
-unchecked : (n : ℕ) (es : List Event) (e : Event) → length es < 7 → uncheckedStep (run n tower es) e ≡ step (run n tower es) e
+unchecked : (n : ℕ) (es : List Event) (e : Event) → length es < 7 → stepWithoutEighteen (run n tower es) e ≡ step (run n tower es) e
 unchecked n es e h = by (step (run n tower es) e) refl
   where
     by : (x : Result) → step (run n tower es) e ≡ x → formerResult (run n tower es) x ≡ x
@@ -53,10 +53,10 @@ unchecked n es e h = by (step (run n tower es) e) refl
         by-test (λ (y : Result). y ≡ refused r) (λ t. absurd (check-rules .not-early n tower es e (omega (arith, h)) (q ∙ ap refused (eqb-true r 18 t)))) (λ _. refl)
     by (accepted u k) q = refl
 
-lists : (n m : ℕ) → m ≤ 7 → listsBy uncheckedStep m (start n tower) ≡ listsFrom m (start n tower)
-lists n m h = from-start uncheckedStep n 7 (unchecked n) m h
+lists : (n m : ℕ) → m ≤ 7 → listsBy stepWithoutEighteen m (start n tower) ≡ listsFrom m (start n tower)
+lists n m h = from-start stepWithoutEighteen n 7 (unchecked n) m h
 
-texts : (n m : ℕ) → 1 ≤ n → n ≤ 3 → m ≤ 7 → textOf (n ∷ m ∷ []) ≡ joined (linesOf (listsBy uncheckedStep m (start n tower)))
+texts : (n m : ℕ) → 1 ≤ n → n ≤ 3 → m ≤ 7 → textOf (n ∷ m ∷ []) ≡ joined (linesOf (listsBy stepWithoutEighteen m (start n tower)))
 unfolding textOf fits pick
 texts n m l h k = rw (le-leb 1 n l, le-leb n 3 h, le-leb m 7 k, lists n m k)
 

@@ -6,7 +6,7 @@ use lib.ListN.{replicate}
 use Rattle.model.specs.Limits.{tower}
 use Rattle.model.specs.State.{start}
 use Rattle.model.specs.Step.{step, run}
-use Rattle.model.specs.Claims.{formerStep}
+use Rattle.model.specs.Claims.{stepWithoutNineteen}
 use Rattle.model.specs.Cases.{collecting, unanswered}
 use Rattle.model.specs.declared.Event.{Event}
 use Rattle.model.specs.declared.Event.the-variants.{Crash, Recover, Check, Timeout, Tick, Expire, Finish, Deliver, Lose}
@@ -71,9 +71,9 @@ pub record TextCases : Type 0 where
   pub gone-first : answersBy step (start 2 tower) (goneBy (Recover 1 ∷ Recover 2 ∷ Check 2 ∷ [])) ≡ 0 ∷ 0 ∷ 0 ∷ 0 ∷ 0 ∷ 0 ∷ 19 ∷ []
   pub gone-second : answersBy step (start 2 tower) (goneBy (Recover 2 ∷ Recover 1 ∷ Check 2 ∷ [])) ≡ 0 ∷ 0 ∷ 0 ∷ 0 ∷ 0 ∷ 0 ∷ 19 ∷ []
   pub gone-third : answersBy step (start 2 tower) (goneBy (Recover 2 ∷ Check 2 ∷ Recover 1 ∷ [])) ≡ 0 ∷ 0 ∷ 0 ∷ 0 ∷ 0 ∷ 0 ∷ 19 ∷ []
-  pub former-first : answersBy formerStep (start 2 tower) (goneBy (Recover 1 ∷ Recover 2 ∷ Check 2 ∷ [])) ≡ replicate 7 0
-  pub former-second : answersBy formerStep (start 2 tower) (goneBy (Recover 2 ∷ Recover 1 ∷ Check 2 ∷ [])) ≡ replicate 7 0
-  pub former-third : answersBy formerStep (start 2 tower) (goneBy (Recover 2 ∷ Check 2 ∷ Recover 1 ∷ [])) ≡ replicate 7 0
+  pub former-first : answersBy stepWithoutNineteen (start 2 tower) (goneBy (Recover 1 ∷ Recover 2 ∷ Check 2 ∷ [])) ≡ replicate 7 0
+  pub former-second : answersBy stepWithoutNineteen (start 2 tower) (goneBy (Recover 2 ∷ Recover 1 ∷ Check 2 ∷ [])) ≡ replicate 7 0
+  pub former-third : answersBy stepWithoutNineteen (start 2 tower) (goneBy (Recover 2 ∷ Check 2 ∷ Recover 1 ∷ [])) ≡ replicate 7 0
   -- 16 is not met at the ends of the ranges, and is met just outside them: `Refuses` has all inputs
   pub most : fits (3 ∷ 7 ∷ []) ≡ true
   pub least : fits (1 ∷ 0 ∷ []) ≡ true

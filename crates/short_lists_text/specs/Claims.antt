@@ -11,7 +11,7 @@ use Rattle.model.specs.Pick.{pick}
 use Rattle.model.specs.State.{State, start}
 use Rattle.model.specs.Step.{Result, refused, accepted, step, kept, runFrom}
 use Rattle.model.specs.Answers.{resultNumber}
-use Rattle.model.specs.Claims.{Accepts, formerStep}
+use Rattle.model.specs.Claims.{Accepts, stepWithoutNineteen}
 use Rattle.model.specs.declared.TaskNo.{TaskNo}
 use Rattle.model.specs.declared.Mark.the-variants.{Plain}
 use Rattle.model.specs.declared.Event.{Event}
@@ -181,14 +181,14 @@ abbrev pub formerResult : State → Result → Result
 formerResult s (refused r) = pick (eqb r 18) (accepted s Plain) (refused r)
 formerResult s (accepted u mark) = accepted u mark
 
-abbrev pub uncheckedStep : State → Event → Result
-uncheckedStep s e = formerResult s (step s e)
+abbrev pub stepWithoutEighteen : State → Event → Result
+stepWithoutEighteen s e = formerResult s (step s e)
 
 pub record ListsStay : Type 0 where
   -- up to seven events, for every n, in the tower
-  pub lists : (n m : ℕ) → m ≤ 7 → listsBy uncheckedStep m (start n tower) ≡ listsFrom m (start n tower)
+  pub lists : (n m : ℕ) → m ≤ 7 → listsBy stepWithoutEighteen m (start n tower) ≡ listsFrom m (start n tower)
   -- and so all that is printed of them
-  pub texts : (n m : ℕ) → 1 ≤ n → n ≤ 3 → m ≤ 7 → textOf (n ∷ m ∷ []) ≡ joined (linesOf (listsBy uncheckedStep m (start n tower)))
+  pub texts : (n m : ℕ) → 1 ≤ n → n ≤ 3 → m ≤ 7 → textOf (n ∷ m ∷ []) ≡ joined (linesOf (listsBy stepWithoutEighteen m (start n tower)))
 
 -- ── 02, T-10: the lists that go are those in which 19 is met ──
 
@@ -209,8 +209,8 @@ withoutNineteen s (l ∷ ls) = pick (isOneOf 19 (answersBy step s l)) (withoutNi
 
 pub record ListsFewer : Type 0 where
   -- for every length, and from every state: the lists are those that were accepted before T-10, in the same order, without those in which an event meets 19
-  pub lists : (m : ℕ) (s : State) → listsFrom m s ≡ withoutNineteen s (listsBy formerStep m s)
+  pub lists : (m : ℕ) (s : State) → listsFrom m s ≡ withoutNineteen s (listsBy stepWithoutNineteen m s)
   -- up to six events, for every n, in the tower, none has gone
-  pub same : (n m : ℕ) → m ≤ 6 → listsFrom m (start n tower) ≡ listsBy formerStep m (start n tower)
+  pub same : (n m : ℕ) → m ≤ 6 → listsFrom m (start n tower) ≡ listsBy stepWithoutNineteen m (start n tower)
   -- and so is what is printed of them
-  pub texts : (n m : ℕ) → 1 ≤ n → n ≤ 3 → m ≤ 7 → textOf (n ∷ m ∷ []) ≡ joined (linesOf (withoutNineteen (start n tower) (listsBy formerStep m (start n tower))))
+  pub texts : (n m : ℕ) → 1 ≤ n → n ≤ 3 → m ≤ 7 → textOf (n ∷ m ∷ []) ≡ joined (linesOf (withoutNineteen (start n tower) (listsBy stepWithoutNineteen m (start n tower))))

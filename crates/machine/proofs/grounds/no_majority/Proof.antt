@@ -24,6 +24,6 @@ no-majority-spec =
     (λ c. search needs)
     (λ c. search needs)
     (λ c. search needs)
-    (λ c. rw (c .is-minority .ensures, c .before .is-full-peal .ensures, c .before .before .before .e .given .1))
+    (λ c. rw (c .is-at-most-half .ensures, c .before .is-full-peal .ensures, c .before .before .before .e .given .1))
     (λ c. search needs)
     (λ c. search needs))
