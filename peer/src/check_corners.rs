@@ -68,15 +68,15 @@ const MET: [&str; 21] = [
     "check refused 1, Down and not idle",
 ];
 
-/// What a printed list meets.
-const PRINTED: [&str; 6] = [
-    "list, check refused 18 among the first 99 events",
+/// What a printed list meets in which an event is refused with some number.
+pub const PRINTED: [&str; 6] = [
+    "among the first 99 events",
     // The program written for speed prints its line in another way.
-    "list, check refused 18 behind them",
-    "list, check refused 18 and the next event accepted",
-    "list, check refused 18 and a later event accepted, not the next",
-    "list, check refused 18 and stopped later",
-    "list, check refused 18 as the last event",
+    "behind them",
+    "and the next event accepted",
+    "and a later event accepted, not the next",
+    "and stopped later",
+    "as the last event",
 ];
 
 /// What no check shows.
@@ -128,7 +128,8 @@ impl Grounds {
     fn of(table: &Table, i: u8) -> Grounds {
         let node = node_of(table, i);
         let is = |holds: fn(&Node) -> bool| node.is_some_and(holds);
-        let asks = node.is_some() && table.n > 1;
+        let asked = (table.n > 1).then(|| lowest_other(i));
+        let [no_call, full, no_more] = call_grounds(table, i, asked);
         Grounds {
             not_in_range: !table.in_range(),
             no_node: node.is_none(),
@@ -136,10 +137,9 @@ impl Grounds {
             busy: is(|node| node.activity != Activity::Idle),
             not_normal: is(|node| node.status != Status::Normal),
             not_own: node.is_some_and(|node| node.coordinator != i),
-            no_call: asks && is(|node| node.last_call == MAX_CALL),
-            // T-08: "Grounds 1, 6 and 14 read the table's own limits."
-            full: asks && table.messages.len() == usize::from(table.limits.messages),
-            no_more: asks && count_of(&table.traffic.sent, i, lowest_other(i)) == MAX_COUNT,
+            no_call,
+            full,
+            no_more,
         }
     }
 
@@ -150,7 +150,7 @@ impl Grounds {
 
     /// The number of the first that applies.
     fn first(&self) -> Option<u8> {
-        let in_order = [
+        first_ground(&[
             (1, self.not_in_range),
             (7, self.no_node),
             (9, self.down),
@@ -159,13 +159,30 @@ impl Grounds {
             (13, self.no_call),
             (14, self.full),
             (17, self.no_more),
-        ];
-        in_order.into_iter().find(|&(_, applies)| applies).map(|(number, _)| number)
+        ])
     }
 }
 
-fn node_of(table: &Table, i: u8) -> Option<&Node> {
+pub fn node_of(table: &Table, i: u8) -> Option<&Node> {
     (1..=table.n.min(MAX_NODES)).contains(&i).then(|| table.node(i))
+}
+
+/// Which of 13, 14 and 17 apply where node i must call another, if it must.
+pub fn call_grounds(table: &Table, i: u8, to: Option<u8>) -> [bool; 3] {
+    let (Some(node), Some(to)) = (node_of(table, i), to) else {
+        return [false; 3];
+    };
+    [
+        node.last_call == MAX_CALL,
+        // T-08: "Grounds 1, 6 and 14 read the table's own limits."
+        table.messages.len() == usize::from(table.limits.messages),
+        count_of(&table.traffic.sent, i, to) == MAX_COUNT,
+    ]
+}
+
+/// The number of the first ground that applies, of all in their order.
+pub fn first_ground(in_order: &[(u8, bool)]) -> Option<u8> {
+    in_order.iter().find(|&&(_, applies)| applies).map(|&(number, _)| number)
 }
 
 /// Whom node i asks first.
@@ -267,7 +284,7 @@ impl CheckCorners {
 
     /// Counts a list by the numbers that are printed for its events.
     pub fn printed(&mut self, refused: &[Option<u8>], stopped: bool) {
-        add(&mut self.printed, Source::Run as usize, printed(refused, stopped));
+        add(&mut self.printed, Source::Run as usize, printed(refused, stopped, 18));
     }
 
     /// Every corner, with its counts.
@@ -287,8 +304,9 @@ impl CheckCorners {
                 }
             }
         }
-        let named = MET.iter().zip(self.met).chain(PRINTED.iter().zip(self.printed));
-        corners.extend(named.map(|(name, count)| (name.to_string(), count)));
+        let printed = PRINTED.map(|place| format!("list, check refused 18 {place}"));
+        corners.extend(MET.map(String::from).into_iter().zip(self.met));
+        corners.extend(printed.into_iter().zip(self.printed));
         corners
     }
 
@@ -343,11 +361,11 @@ fn met(table: &Table, i: u8, answer: Result<(), u8>, grounds: &Grounds) -> [bool
     ]
 }
 
-/// Which of `PRINTED` a list meets, by the numbers of its events.
-fn printed(refused: &[Option<u8>], stopped: bool) -> [bool; PRINTED.len()] {
+/// Which of `PRINTED` a list meets with a number, by the numbers of its events.
+pub fn printed(refused: &[Option<u8>], stopped: bool, number: u8) -> [bool; PRINTED.len()] {
     let last_accepted = refused.iter().rposition(|number| number.is_none());
     let mut met = [false; PRINTED.len()];
-    for (k, _) in refused.iter().enumerate().filter(|(_, number)| **number == Some(18)) {
+    for (k, _) in refused.iter().enumerate().filter(|(_, refused)| **refused == Some(number)) {
         let next = refused.get(k + 1) == Some(&None);
         met[usize::from(k >= 99)] = true;
         met[2] |= next;

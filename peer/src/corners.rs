@@ -2,7 +2,7 @@
 //! next node and invitations, so that a corner that was never met shows. What document 01 and T-02 and
 //! T-03 of document 02 make possible is written out here, apart from the machine. `recovery_corners.rs`
 //! does the same for the records of a recovery, `traffic_corners.rs` for the messages counted by pair,
-//! `check_corners.rs` for checks, and `limit_corners.rs` for the limits.
+//! `check_corners.rs` for checks, `limit_corners.rs` for the limits, and `majority_corners.rs` for finishes.
 
 use crate::check_corners::{CheckBefore, CheckCorners};
 use crate::limit_corners::{LimitBefore, LimitCorners};
@@ -11,6 +11,7 @@ use crate::machine::{
     advance, only, owner, Activity, Body, Event, Message, Node, Set, Status, Table, MAX_CALL,
     MAX_MESSAGES,
 };
+use crate::majority_corners::{FinishBefore, MajorityCorners};
 use crate::proved::tag;
 use crate::recovery_corners::{Call, RecoveryCorners};
 use crate::traffic_corners::{TrafficBefore, TrafficCorners};
@@ -215,23 +216,29 @@ fn refusable(event: usize, number: usize) -> bool {
         14 => matches!(name, "check" | "timeout" | "tick" | "expire" | "finish"),
         17 => matches!(name, "check" | "timeout" | "tick" | "expire" | "finish" | "deliver"),
         18 => name == "check",
+        19 => name == "finish",
         _ => false,
     }
 }
 
+/// Whether an answer is a ground that comes before the ends of ranges, 12, 13, 14 and 17.
+pub fn before_ends(answer: Result<(), u8>) -> bool {
+    matches!(answer, Err(1 | 7..=11 | 18 | 19))
+}
+
 /// The places of refusals. At 16, which is no ground of these, all that are none at all are counted.
-const NUMBERS: usize = 19;
+const NUMBERS: usize = 20;
 
 fn number_place(number: u8) -> usize {
     match number {
-        0..=15 | 17 | 18 => usize::from(number),
+        0..=15 | 17..=19 => usize::from(number),
         _ => 16,
     }
 }
 
 /// The grounds that events, lists and lines can meet.
 fn grounds() -> impl Iterator<Item = usize> {
-    (1..=15).chain([17, 18])
+    (1..=15).chain(17..=19)
 }
 
 /// What is remembered of a table for the count of the event that follows.
@@ -242,6 +249,7 @@ pub struct Before {
     held: Option<Table>,
     traffic: TrafficBefore,
     check: Option<CheckBefore>,
+    finish: Option<FinishBefore>,
     limits: LimitBefore,
 }
 
@@ -261,8 +269,15 @@ impl Before {
             }
             _ => None,
         };
-        let (traffic, check) = (TrafficBefore::of(table, &event), CheckBefore::of(table, &event));
-        Before { node, message, held, traffic, check, limits: LimitBefore::of(table, &event) }
+        Before {
+            node,
+            message,
+            held,
+            traffic: TrafficBefore::of(table, &event),
+            check: CheckBefore::of(table, &event),
+            finish: FinishBefore::of(table, &event),
+            limits: LimitBefore::of(table, &event),
+        }
     }
 }
 
@@ -322,6 +337,7 @@ pub struct Corners {
     recoveries: RecoveryCorners,
     traffic: TrafficCorners,
     checks: CheckCorners,
+    finishes: MajorityCorners,
     limits: LimitCorners,
     /// Whom each inviting node has called since it merged, as far as it was seen.
     called: [Set; 16],
@@ -344,6 +360,7 @@ impl Default for Corners {
             recoveries: RecoveryCorners::default(),
             traffic: TrafficCorners::default(),
             checks: CheckCorners::default(),
+            finishes: MajorityCorners::default(),
             limits: LimitCorners::default(),
             called: [0; 16],
         }
@@ -354,6 +371,7 @@ impl Corners {
     /// The events that follow are those of another run, or begin on another table.
     pub fn begin(&mut self) {
         self.called = [0; 16];
+        self.finishes.begin();
     }
 
     /// Counts an event with what followed.
@@ -369,6 +387,7 @@ impl Corners {
         if let Some(before) = &before.check {
             self.checks.count(source, before, answer, after);
         }
+        self.finishes.count(source, before.finish.as_ref(), answer, after);
         self.limits.count(source, &before.limits, &before.traffic, answer, after);
         let source = source as usize;
         let place = event_place(event);
@@ -514,10 +533,12 @@ impl Corners {
         let mut table = Table::start(list.n, list.limits);
         for (event, &number) in list.events.iter().zip(&refused) {
             self.checks.printed_event(&table, event, number);
+            self.finishes.printed_event(&table, event, number);
             self.limits.printed_event(&table, event, number);
             let _ = advance(&mut table, event);
         }
         self.checks.printed(&refused, list.stop.is_some());
+        self.finishes.printed(&refused, list.stop.is_some());
         self.limits.printed(&table);
     }
 
@@ -587,6 +608,7 @@ impl Corners {
         corners.extend(named.map(|(name, count)| (name.to_string(), count)));
         corners.extend(self.traffic.corners());
         corners.extend(self.checks.corners());
+        corners.extend(self.finishes.corners());
         corners.extend(self.limits.corners());
         corners
     }
@@ -617,7 +639,7 @@ impl Corners {
         let wrong = picks.chain(WRONG_INVITATIONS.iter().zip(self.wrong_invitations));
         let wrong = wrong.map(|(&name, count)| (name, count)).chain(self.recoveries.wrong());
         let wrong = wrong.chain(self.traffic.wrong()).chain(self.checks.wrong());
-        let wrong = wrong.chain(self.limits.wrong());
+        let wrong = wrong.chain(self.finishes.wrong()).chain(self.limits.wrong());
         found.extend(wrong.filter(|&(_, count)| met(count)).map(|(name, _)| name.to_string()));
         found
     }

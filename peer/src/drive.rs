@@ -1,6 +1,7 @@
 //! Picks the events of random runs, with an eye on the table, so that the protocol gets on and its
 //! corners are met.
 
+use crate::left_members::{left_members, too_few_members};
 use crate::limit_tables::any_limits;
 use crate::list::MAX_LIST;
 use crate::machine::{advance, Activity, Event, Limits, Set, Status, Table, MIN_TASK, STAND};
@@ -157,14 +158,24 @@ fn waiting_pair(table: &Table, numbers: &mut Numbers) -> (u8, u8) {
     (m.sender, m.receiver)
 }
 
-/// A task that a finish can have.
+/// A task that a finish can have: of a full peal (T-10) or another, each as often.
 pub fn task(numbers: &mut Numbers) -> u16 {
-    match numbers.below(8) {
-        0 => MIN_TASK,
-        1 => u16::MAX,
-        2 => numbers.between(u32::from(MIN_TASK), u32::from(u16::MAX)) as u16,
-        _ => MIN_TASK + numbers.below(5) as u16,
+    match numbers.one_in(2) {
+        true => full_peal(numbers),
+        false => other_task(numbers),
     }
+}
+
+/// A task of a full peal, often the first or the last.
+pub fn full_peal(numbers: &mut Numbers) -> u16 {
+    let any = numbers.between(101, 198) as u16;
+    numbers.of(&[100, 199, any])
+}
+
+/// Another task, often the first behind them or the last of all.
+pub fn other_task(numbers: &mut Numbers) -> u16 {
+    let any = numbers.between(201, 65_534) as u16;
+    numbers.of(&[200, 65_535, any])
 }
 
 /// Any node number, mostly 1 to n.
@@ -190,7 +201,7 @@ pub fn any_event(n: u8, numbers: &mut Numbers) -> Event {
         6 => Event::Finish(i, task(numbers)),
         7 => {
             let low = numbers.below(u32::from(MIN_TASK)) as u16;
-            Event::Finish(i, numbers.of(&[0, 99, 100, 65_535, low]))
+            Event::Finish(i, numbers.of(&[0, 99, 100, 199, 200, 65_535, low]))
         }
         8 => Event::Deliver(i, j),
         _ => Event::Lose(i, j),
@@ -263,6 +274,43 @@ pub fn run_with_wrong_checks(numbers: &mut Numbers) -> (u8, Limits, Vec<Event>) 
     if numbers.one_in(2) {
         let event = wrong_check(&run.table, numbers);
         run.go(event);
+    }
+    (n, limits, run.events)
+}
+
+/// A finish with the task of a full peal, by a collecting node if there is one, else by any.
+fn finish_with_full_peal(table: &Table, numbers: &mut Numbers) -> Event {
+    let i = match Ready::of(table).finish {
+        0 => numbers.between(1, u32::from(table.n)) as u8,
+        set => member(set, numbers),
+    };
+    Event::Finish(i, full_peal(numbers))
+}
+
+/// A short run of few nodes, among which groups form soon, with many full peals (T-10), and members that leave after
+/// they were counted. Full peals that are refused stand early in it and late, and often at its end.
+pub fn run_with_full_peals(numbers: &mut Numbers) -> (u8, Limits, Vec<Event>) {
+    let limits = any_limits(numbers);
+    let n = numbers.between(2, u32::from(limits.nodes).min(6)) as u8;
+    let length = match numbers.below(4) {
+        0 => numbers.between(100, 140),
+        _ => numbers.between(1, 40),
+    } as usize;
+    let mut run = Run { table: Table::start(n, limits), events: Vec::with_capacity(length + 50) };
+    while run.events.len() < length {
+        let event = match numbers.below(16) {
+            0 => {
+                left_members(&mut run, numbers);
+                continue;
+            }
+            1..=3 => finish_with_full_peal(&run.table, numbers),
+            _ => pick(&run.table, &GROUPS, numbers),
+        };
+        run.go(event);
+    }
+    match numbers.one_in(2) {
+        true => too_few_members(&mut run, numbers),
+        false => left_members(&mut run, numbers),
     }
     (n, limits, run.events)
 }

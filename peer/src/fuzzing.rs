@@ -8,7 +8,8 @@ use crate::compare::{
 use crate::corners::{Before, Corners, Source};
 use crate::damage::{damage, first_tag_later, no_event, other_first};
 use crate::drive::{
-    any_event, any_manner, any_node, full_queue, member, pick, run, run_with_wrong_checks, Ready,
+    any_event, any_manner, any_node, full_queue, member, pick, run, run_with_full_peals,
+    run_with_wrong_checks, Ready,
 };
 use crate::limit_corners::BROKEN as BROKEN_LIMITS;
 use crate::limit_tables::{any_limits, to_break, to_fill, wrong_pair};
@@ -17,7 +18,7 @@ use crate::machine::{advance, step, Event, Limits, Table};
 use crate::numbers::Numbers;
 use crate::print::run_list;
 use crate::proved::{Library, Proved, RECORDS_BYTES, TABLE_BYTES};
-use crate::tables::{in_range, move_to_ends, scramble, spoil, to_check, to_recover};
+use crate::tables::{in_range, move_to_ends, scramble, spoil, to_check, to_finish, to_recover};
 use crate::traffic_corners::BROKEN;
 use crate::traffic_tables::{break_counts, raise_to_calls, to_send, to_take_last};
 use std::time::{Duration, Instant};
@@ -107,7 +108,7 @@ impl<L: Library> Fuzz<L> {
             for _ in 0..200 {
                 self.table();
             }
-            for _ in 0..250 {
+            for _ in 0..220 {
                 self.sends();
             }
             for _ in 0..60 {
@@ -123,14 +124,14 @@ impl<L: Library> Fuzz<L> {
             for _ in 0..4 {
                 self.list_with_checks();
             }
-            for _ in 0..190 {
+            for _ in 0..205 {
                 let (table, event) = to_fill(&mut self.numbers);
                 self.walk(&table, &[event]);
             }
             for _ in 0..40 {
                 self.broken_limits();
             }
-            for _ in 0..60 {
+            for _ in 0..66 {
                 self.limits_first();
             }
             for _ in 0..3 {
@@ -140,10 +141,17 @@ impl<L: Library> Fuzz<L> {
                 let (table, event) = to_check(&mut self.numbers);
                 self.walk(&table, &[event]);
             }
+            for _ in 0..160 {
+                let (table, events) = to_finish(&mut self.numbers);
+                self.walk(&table, &events);
+            }
+            for _ in 0..3 {
+                self.full_peals();
+            }
             for _ in 0..10 {
                 self.field();
             }
-            for _ in 0..100 {
+            for _ in 0..118 {
                 let (table, i) = to_recover(&mut self.numbers);
                 self.recovery(Source::Table, &table, i);
             }
@@ -341,7 +349,7 @@ impl<L: Library> Fuzz<L> {
     /// Other first fields, now and then with nothing behind them, and the tags of first ones in other places.
     fn first_fields(&mut self, list: &[u8]) {
         let mut short = list[..list.len().min(60)].to_vec();
-        for _ in 0..24 {
+        for _ in 0..26 {
             let other = other_first(&short, &mut self.numbers);
             self.list(&other);
             let later = first_tag_later(&short, &mut self.numbers);
@@ -352,14 +360,27 @@ impl<L: Library> Fuzz<L> {
         self.list(&short);
     }
 
-    /// A list with checks that are refused 18, which a field that is no event may stop.
+    /// A list with checks that are refused 18.
     fn list_with_checks(&mut self) {
         let (n, limits, events) = run_with_wrong_checks(&mut self.numbers);
-        let mut list = write_list(n, limits, &events);
+        self.short_list(n, limits, &events);
+    }
+
+    /// The list of a short run, which now and then a field that is no event stops.
+    fn short_list(&mut self, n: u8, limits: Limits, events: &[Event]) {
+        let mut list = write_list(n, limits, events);
         if self.numbers.one_in(3) {
             list.extend(no_event(&mut self.numbers));
         }
         self.list(&list);
+    }
+
+    /// A short run with full peals, and its list.
+    fn full_peals(&mut self) {
+        let (n, limits, events) = run_with_full_peals(&mut self.numbers);
+        if self.each_event(n, limits, &events) {
+            self.short_list(n, limits, &events);
+        }
     }
 
     /// A list about as long as a list may be: 65,535 to 65,537 bytes, or longer by far.
@@ -442,12 +463,16 @@ impl<L: Library> Fuzz<L> {
 
     /// An event that is refused, or not, on a table whose limits become no allowed pair: ground 1 comes first.
     fn limits_first(&mut self) {
-        let (mut table, event) = match self.numbers.below(8) {
+        let (mut table, event) = match self.numbers.below(9) {
             0 | 1 => to_check(&mut self.numbers),
             2 | 3 => to_fill(&mut self.numbers),
             4 => {
                 let (table, i) = to_recover(&mut self.numbers);
                 (table, Event::Recover(i))
+            }
+            5 => {
+                let (table, events) = to_finish(&mut self.numbers);
+                (table, events[0])
             }
             _ => {
                 let table = in_range(&mut self.numbers);

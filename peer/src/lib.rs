@@ -1,4 +1,4 @@
-//! A second implementation of document 01 (coordinator election among cabinets) and of T-01 to T-09 of
+//! A second implementation of document 01 (coordinator election among cabinets) and of T-01 to T-10 of
 //! document 02, written from the papers alone, so that other implementations can be compared with it.
 //! Document 01's cabinet is called node here, and its book history.
 
@@ -12,15 +12,18 @@ pub mod drive;
 pub mod ending;
 pub mod fuzzing;
 pub mod history;
+pub mod left_members;
 pub mod limit_corners;
 pub mod limit_tables;
 pub mod list;
 pub mod machine;
+pub mod majority_corners;
 pub mod numbers;
 pub mod print;
 pub mod proved;
 pub mod recovery_corners;
 pub mod round;
+pub mod rows;
 pub mod sha256;
 pub mod short;
 pub mod shortest;

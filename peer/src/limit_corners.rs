@@ -2,21 +2,21 @@
 //! document 02 says of the limits is written out here, apart from the machine: "Our practice stand has four
 //! cabinets and memory for 12 waiting messages. The tower keeps 16 and 64."
 
-use crate::corners::{add, Count, Source};
+use crate::corners::{add, before_ends, Count, Source};
 use crate::machine::{Event, Limits, Table};
 use crate::proved::table_from_bytes;
 use crate::recovery_corners::Call;
 use crate::traffic_corners::{need, TrafficBefore, Way, WAYS};
 
 /// The two rigs that there are: each with its first tag, its most nodes and its most waiting messages.
-struct Rig {
-    name: &'static str,
+pub struct Rig {
+    pub name: &'static str,
     tag: u8,
-    nodes: u8,
+    pub nodes: u8,
     messages: usize,
 }
 
-const RIGS: [Rig; 2] = [
+pub const RIGS: [Rig; 2] = [
     Rig { name: "tower", tag: 0x01, nodes: 16, messages: 64 },
     Rig { name: "stand", tag: 0x02, nodes: 4, messages: 12 },
 ];
@@ -24,7 +24,7 @@ pub const THE_TOWER: usize = 0;
 pub const THE_STAND: usize = 1;
 
 /// Which rig has these limits. T-08: "no other pair is allowed".
-fn rig(limits: Limits) -> Option<usize> {
+pub fn rig(limits: Limits) -> Option<usize> {
     let Limits { nodes, messages } = limits;
     RIGS.iter().position(|rig| (rig.nodes, rig.messages) == (nodes, usize::from(messages)))
 }
@@ -66,7 +66,7 @@ fn possible(way: Way, side: usize) -> bool {
 }
 
 /// What else an event meets.
-const MET: [&str; 18] = [
+const MET: [&str; 19] = [
     "stand, accepted, n = 1",
     "stand, accepted, n = 2",
     "stand, accepted, n = 3",
@@ -74,8 +74,9 @@ const MET: [&str; 18] = [
     "tower, accepted, n = 4",
     "tower, accepted, n = 5",
     "tower, accepted, n = 16",
-    // It comes before the limits of messages.
+    // They come before the limits of messages.
     "stand, refused 18, 12 wait",
+    "stand, refused 19, 12 wait",
     // All ends of ranges at once.
     "stand, refused 12, and 13, 14 and 17 too",
     "stand, refused 13, and 14 and 17 too",
@@ -168,7 +169,7 @@ fn broken_name(which: usize) -> String {
 }
 
 /// What would have been answered with the right limits; 0 is accepted.
-const ELSE: [u8; 11] = [0, 7, 8, 9, 10, 11, 12, 13, 14, 17, 18];
+const ELSE: [u8; 12] = [0, 7, 8, 9, 10, 11, 12, 13, 14, 17, 18, 19];
 
 /// What a call for the records of a recovery meets.
 const RECOVERED: [&str; 7] = [
@@ -325,7 +326,7 @@ impl LimitCorners {
             let no_room = traffic.need.is_some() && !delivers && before.waiting == most;
             wrong[4] = answer == Err(14) && !no_room;
             // The grounds that come before it.
-            let earlier = matches!(answer, Err(1 | 7..=13 | 18));
+            let earlier = before_ends(answer) || matches!(answer, Err(12 | 13));
             wrong[5] = answer != Err(14) && no_room && !earlier;
             wrong[6] = answer.is_ok() && after.messages.len() > most;
             add(&mut self.met, source as usize, met(source, place, before, traffic, answer));
@@ -616,6 +617,7 @@ fn met(
         !stand && accepted && n == 5,
         !stand && accepted && n == 16,
         stand && answer == Err(18) && waiting == 12,
+        stand && answer == Err(19) && waiting == 12,
         stand && answer == Err(12) && grounds == [true; 4],
         stand && answer == Err(13) && grounds == [false, true, true, true],
         stand && accepted && waiting == 12 && !sends,

@@ -1,7 +1,9 @@
 //! The reference machine: the table, when it is in range, what each of the nine events does to it, and
-//! the records of a recovery. T-02 to T-06 and T-08 of document 02 are in it. Words in quotation marks in
-//! the comments are document 01's, or those of a request where that is said; their cabinet is called node
+//! the records of a recovery. T-02 to T-06, T-08 and T-10 of document 02 are in it. Words in quotation marks
+//! in the comments are document 01's, or those of a request where that is said; their cabinet is called node
 //! here.
+
+use std::ops::RangeInclusive;
 
 /// The largest number of nodes and of waiting messages. T-08: "One machine serves both, and its two limits
 /// are part of the table's starting data".
@@ -23,6 +25,8 @@ pub const MAX_COUNTER: u32 = 1_048_575;
 pub const MAX_CALL: u32 = 16_777_215;
 pub const MAX_TICKS: u8 = 15;
 pub const MIN_TASK: u16 = 100;
+/// T-10: "Tasks 100 to 199 are full peals"
+pub const FULL_PEALS: RangeInclusive<u16> = 100..=199;
 /// T-05: "no count is above 33,554,430"
 pub const MAX_COUNT: u32 = 33_554_430;
 
@@ -219,6 +223,12 @@ impl Node {
     /// asked.
     fn normal_coordinator(&self, i: u8) -> bool {
         self.status == Status::Normal && self.coordinator == i
+    }
+
+    /// Whether the node and its members are no more than half of n. T-10: "twice the members plus two is at
+    /// most n". "The count is of acceptances: a member that has left since still counts".
+    pub fn minority(&self, n: u8) -> bool {
+        2 * self.members.count_ones() + 2 <= u32::from(n)
     }
 }
 
@@ -494,7 +504,7 @@ fn acting_node(n: u8, event: &Event) -> Result<u8, u8> {
     }
 }
 
-/// Grounds 9, 10, 18 and 11, "state", in this order. Gives the place of "the oldest message from a to b".
+/// Grounds 9, 10, 18, 19 and 11, "state", in this order. Gives the place of "the oldest message from a to b".
 fn check_state(table: &Table, event: &Event, i: u8) -> Result<Option<usize>, u8> {
     let node = table.node(i);
     let down = node.status == Status::Down;
@@ -522,6 +532,13 @@ fn check_state(table: &Table, event: &Event, i: u8) -> Result<Option<usize>, u8>
     // after 10"
     if matches!(event, Event::Check(_)) && !node.normal_coordinator(i) {
         return Err(18);
+    }
+    // T-10: "finish with task 100 to 199 when twice the members plus two is at most n, in the state place
+    // after 18"
+    if matches!(event, Event::Finish(_, task) if FULL_PEALS.contains(task))
+        && node.minority(table.n)
+    {
+        return Err(19);
     }
     match *event {
         Event::Deliver(a, b) | Event::Lose(a, b) => {

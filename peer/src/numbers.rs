@@ -38,8 +38,12 @@ impl Numbers {
 
     /// Puts random bytes everywhere.
     pub fn fill(&mut self, bytes: &mut [u8]) {
-        for part in bytes.chunks_mut(8) {
-            part.copy_from_slice(&self.bits().to_le_bytes()[..part.len()]);
+        let (words, rest) = bytes.as_chunks_mut();
+        for word in words {
+            *word = self.bits().to_le_bytes();
+        }
+        if !rest.is_empty() {
+            rest.copy_from_slice(&self.bits().to_le_bytes()[..rest.len()]);
         }
     }
 

@@ -1,11 +1,16 @@
 //! The text that the bench program prints for a list.
 
 use crate::list::{read_list, Stop};
-use crate::machine::{advance, total, Table};
+use crate::machine::{advance, total, Event, Table};
 use std::fmt::Write;
 
 /// Runs a list from the starting table and gives the whole text.
 pub fn run_list(list: &[u8]) -> Vec<u8> {
+    run_list_by(advance, list)
+}
+
+/// The same by any machine.
+pub fn run_list_by(machine: impl Fn(&mut Table, &Event) -> Result<(), u8>, list: &[u8]) -> Vec<u8> {
     let mut text = String::new();
     match read_list(list) {
         // "if the whole list or the first field failed, that line is all that is printed"
@@ -15,7 +20,7 @@ pub fn run_list(list: &[u8]) -> Vec<u8> {
             line(&mut text, format_args!("cabinets {}", list.n));
             for (k, event) in list.events.iter().enumerate() {
                 // "e counts events from 1, r the number"
-                if let Err(r) = advance(&mut table, event) {
+                if let Err(r) = machine(&mut table, event) {
                     line(&mut text, format_args!("refused {} {}", k + 1, r));
                 }
             }

@@ -370,10 +370,11 @@ pub fn limits_to_bytes(limits: Limits, bytes: &mut TableBytes) {
 
 /// Writes the counts of a table.
 pub fn traffic_to_bytes(traffic: &Traffic, bytes: &mut TableBytes) {
-    let places = bytes[COUNTS_AT..LIMITS_AT].chunks_exact_mut(PAIRS_BYTES);
-    for (counts, place) in [&traffic.sent, &traffic.delivered, &traffic.lost].iter().zip(places) {
-        for (count, place) in counts.iter().flatten().zip(place.chunks_exact_mut(COUNT_BYTES)) {
-            place.copy_from_slice(&count.to_be_bytes());
+    let parts = bytes[COUNTS_AT..LIMITS_AT].chunks_exact_mut(PAIRS_BYTES);
+    for (counts, part) in [&traffic.sent, &traffic.delivered, &traffic.lost].iter().zip(parts) {
+        let (places, _) = part.as_chunks_mut::<COUNT_BYTES>();
+        for (count, place) in counts.as_flattened().iter().zip(places) {
+            *place = count.to_be_bytes();
         }
     }
 }

@@ -1,12 +1,13 @@
 //! Random tables: in range, near the ends of the ranges, and with a number out of range.
 
 use crate::check_corners::lowest_other;
-use crate::drive::any_node;
+use crate::drive::{any_node, full_peal, member, other_task};
 use crate::limit_corners::BROKEN as BROKEN_LIMITS;
 use crate::limit_tables::{any_limits, to_break, wrong_pair};
 use crate::machine::{
-    group_number, only, owner, Activity, Body, Event, Limits, Message, Node, Set, Status, Table,
-    MAX_CALL, MAX_COUNT, MAX_COUNTER, MAX_MESSAGES, MAX_NODES, MAX_TICKS, MIN_TASK, STAND,
+    group_number, highest, only, owner, Activity, Body, Event, Limits, Message, Node, Set, Status,
+    Table, MAX_CALL, MAX_COUNT, MAX_COUNTER, MAX_MESSAGES, MAX_NODES, MAX_TICKS, MIN_TASK, STAND,
+    TOWER,
 };
 use crate::numbers::Numbers;
 use crate::proved::{
@@ -154,6 +155,82 @@ pub fn to_check(numbers: &mut Numbers) -> (Table, Event) {
         spoil(&mut table, numbers);
     }
     (table, Event::Check(number))
+}
+
+/// A table and a few finishes of a node on it: mostly it collects, and the tasks are too low, of a full peal, and
+/// another. Its members are often just enough for a full peal or one too few (T-10), and often they are up and in its
+/// group. What grounds 13, 14 and 17 look at is at its end in a quarter of them each. Now and then the table is not
+/// in range.
+pub fn to_finish(numbers: &mut Numbers) -> (Table, Vec<Event>) {
+    // Runs have fewer nodes.
+    let (limits, n) = match numbers.below(16) {
+        0 | 1 => (STAND, STAND.nodes),
+        2 => (STAND, numbers.between(1, 4) as u8),
+        3..=6 => (TOWER, numbers.between(1, 6) as u8),
+        _ => (TOWER, numbers.between(7, 16) as u8),
+    };
+    let i = numbers.between(1, u32::from(n)) as u8;
+    let ends = numbers.one_in(2);
+    let [no_call, full, no_more] = [0; 3].map(|_| ends && numbers.one_in(2));
+    let waiting = match n {
+        1 => 0,
+        _ if full => u32::from(limits.messages),
+        _ => numbers.below(4),
+    };
+    let mut table = with_waiting(n, limits, waiting as usize, numbers);
+    let enough = u32::from(n) / 2;
+    let count = match numbers.below(16) {
+        0..=5 => enough.saturating_sub(1),
+        6..=12 => enough,
+        _ => numbers.below(u32::from(n)),
+    };
+    let (mut members, mut others) = (0, (u16::MAX >> (MAX_NODES - n)) & !only(i));
+    for _ in 0..count {
+        let j = member(others, numbers);
+        (members, others) = (members | only(j), others & !only(j));
+    }
+    let own = n == 1 || !numbers.one_in(4);
+    let owner = if own { i } else { other(i, n, numbers) };
+    let group = group_number(near_ends(1, MAX_COUNTER, numbers), owner);
+    if numbers.one_in(2) {
+        // A part of the others too, whose acceptances may be late.
+        let there = members | part(others, numbers);
+        for j in (1..=n).filter(|&j| there & only(j) != 0) {
+            let node = &mut table.nodes[usize::from(j) - 1];
+            node.status = numbers.of(&[Status::Election, Status::Reorganization]);
+            (node.group, node.coordinator, node.activity) = (group, owner, Activity::Idle);
+        }
+    }
+    let node = &mut table.nodes[usize::from(i) - 1];
+    (node.group, node.coordinator, node.members) = (group, owner, members);
+    node.last_call = if no_call { MAX_CALL } else { near_ends(0, MAX_CALL - 1, numbers) };
+    node.task = if numbers.one_in(4) { full_peal(numbers) } else { node.task };
+    let any_status = numbers.of(&[Status::Election, Status::Reorganization, Status::Normal]);
+    node.status = if numbers.one_in(2) { Status::Election } else { any_status };
+    let activity = match n {
+        _ if !numbers.one_in(5) => 4,
+        1 => numbers.of(&[0, 2, 6]),
+        _ if own => numbers.below(7),
+        _ => numbers.of(&[0, 1, 2, 3, 5, 6, 7, 7, 8, 8]),
+    };
+    set_activity(node, activity, i, n, numbers);
+    if numbers.one_in(24) {
+        (node.status, node.activity) = (Status::Down, Activity::Idle);
+    }
+    if no_more && members != 0 {
+        set_sent(&mut table, (i, highest(members)), MAX_COUNT, numbers);
+    }
+    if numbers.one_in(16) {
+        spoil(&mut table, numbers);
+    }
+    let number = match numbers.below(32) {
+        0 => numbers.of(&[0, n + 1, 17, 255]),
+        _ => i,
+    };
+    let low = numbers.below(u32::from(MIN_TASK)) as u16;
+    let tasks = [numbers.of(&[99, low]), full_peal(numbers), other_task(numbers)];
+    let from = numbers.of(&[0, 1, 1, 2]);
+    (table, tasks[from..].iter().map(|&task| Event::Finish(number, task)).collect())
 }
 
 /// A number from low to high, often at an end.

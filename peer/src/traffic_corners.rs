@@ -2,7 +2,7 @@
 //! of document 02 says of them, and which events send a message and to whom, is written out here, apart
 //! from the machine.
 
-use crate::corners::{acting, add, Count, Source};
+use crate::corners::{acting, add, before_ends, Count, Source};
 use crate::history::beyond_calls;
 use crate::machine::{
     count_mut, count_of, only, owner, total, Activity, Body, Event, Message, Node, PairCounts, Set,
@@ -97,7 +97,7 @@ pub struct Need {
     pub to: u8,
 }
 
-/// The message that an event must send on a table where none of the grounds 1 to 11 and 18 applies.
+/// The message that an event must send on a table where none of the grounds 1 to 11, 18 and 19 applies.
 pub fn need(table: &Table, event: &Event) -> Option<Need> {
     let i = acting(event);
     if !(1..=table.n.min(MAX_NODES)).contains(&i) {
@@ -391,7 +391,7 @@ impl TrafficCorners {
         wrong[3] = answer.is_err() && after.traffic != before.traffic;
         wrong[4] = answer == Err(17) && source == Source::Run;
         wrong[5] = answer == Err(17) && before.within_calls;
-        if !matches!(answer, Err(1 | 7..=11 | 18)) {
+        if !before_ends(answer) {
             match &before.need {
                 Some(need) => {
                     let grounds = before.grounds(need);

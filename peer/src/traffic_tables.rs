@@ -2,7 +2,7 @@
 //! on which an event must send a message and a pair's count is at its end, tables with one rule of the
 //! range broken in the counts, and tables whose counts are as high as the calls allow.
 
-use crate::drive::task;
+use crate::drive::{other_task, task};
 use crate::history::due_by_calls;
 use crate::limit_tables::any_limits;
 use crate::machine::{
@@ -205,6 +205,8 @@ pub fn sending(scene: &Scene, numbers: &mut Numbers) -> (Table, Event) {
                 Way::CheckAsks => Event::Check(i),
                 Way::TimeoutContacts => Event::Timeout(i),
                 Way::TickInvites => Event::Tick(i),
+                // T-10: a minority has no full peal.
+                Way::FinishHands if node.minority(n) => Event::Finish(i, other_task(numbers)),
                 Way::FinishHands => Event::Finish(i, task(numbers)),
                 _ => Event::Expire(i),
             }

@@ -1,7 +1,7 @@
-//! Document 01's list program, with T-02, T-03, T-05, T-06 and T-08 of document 02, written for speed alone,
-//! as the second baseline of the benchmark: the bytes of a list in, the printed text out, into a lent buffer,
-//! and nothing allocated. Words in quotation marks in the comments are document 01's, or those of a request
-//! where that is said; their cabinet is called node here.
+//! Document 01's list program, with T-02, T-03, T-05, T-06, T-08 and T-10 of document 02, written for speed
+//! alone, as the second baseline of the benchmark: the bytes of a list in, the printed text out, into a lent
+//! buffer, and nothing allocated. Words in quotation marks in the comments are document 01's, or those of a
+//! request where that is said; their cabinet is called node here.
 //!
 //! What it does otherwise than `machine`:
 //! - Nothing of a run shows in which order messages of different pairs were sent. So the messages of
@@ -9,7 +9,7 @@
 //!   T-08's stand twelve of the slots are free at the start, so that ground 14 is the same look there.
 //! - Status, activity and "its own coordinator" are one number. With the event, and for a delivery the
 //!   kind of the message, it gives refusals 7 to 11 and 18, or what is to be done, by one look into a
-//!   table.
+//!   table. 19 is looked at where a finish is to be done.
 //! - Asking, inviting, forwarding and handing are one walk over a set of whom still, in which the two
 //!   sets of inviting are one of 32 bits. It takes the lowest bit. Bit 15 - k stands for node k, so that
 //!   the highest node comes first; of those still to be asked bit k does, so that they come from 1 up.
@@ -23,7 +23,7 @@
 //! Nodes are numbered from 0 here. All of it is safe Rust: what is masked needs no check.
 
 use crate::list::MAX_LIST;
-use crate::machine::{Limits, MAX_CALL, MAX_COUNTER, MIN_TASK, STAND, TOWER};
+use crate::machine::{Limits, FULL_PEALS, MAX_CALL, MAX_COUNTER, MIN_TASK, STAND, TOWER};
 use std::hint::select_unpredictable;
 
 /// A state is a multiple of this, so that a row of `ACTIONS` is added to it.
@@ -118,8 +118,9 @@ struct Table {
     lost: [u16; QUEUES as usize],
     /// The slots that are free.
     free: u64,
-    /// All nodes.
+    /// All nodes, and how many they are.
     all: u32,
+    n: u32,
 }
 
 /// "Starting table: all Down and idle, every number 0, every set empty, no messages." Here without
@@ -152,11 +153,12 @@ static START: Table = {
         lost: [0; QUEUES as usize],
         free: 0,
         all: 0,
+        n: 0,
     }
 };
 
-/// What an event does. 7 to 11 and 18 are refusals. The numbers leave few gaps, so that one jump is
-/// enough.
+/// What an event does. 7 to 11 and 18 are refusals; ground 19 is met in FINISH alone. The numbers leave few
+/// gaps, so that one jump is enough.
 const NOTHING: u8 = 12;
 const CRASH: u8 = 13;
 const RECOVER: u8 = 14;
@@ -397,6 +399,7 @@ impl Table {
     /// Nodes 0 to n - 1 and their pairs.
     fn set_nodes(&mut self, n: u8) {
         self.all = (1 << n) - 1;
+        self.n = u32::from(n);
         for k in 0..usize::from(n) {
             self.nodes[k & 31].state = DOWN | IDLE;
             let first = k * usize::from(SENDER);
@@ -457,6 +460,11 @@ impl Table {
             // Normal and idle."
             FINISH => {
                 let members = u32::from(node.members);
+                // T-10: "finish with task 100 to 199 when twice the members plus two is at most n"; one with a
+                // task below 100 is no FINISH.
+                if task <= *FULL_PEALS.end() && 2 * members.count_ones() + 2 <= self.n {
+                    return 19;
+                }
                 if members == 0 {
                     node.task = task;
                     node.state = NORMAL | OWN | IDLE;

@@ -301,6 +301,18 @@ fn refuses_18(table: &mut Table, event: &Event) -> Result<(), u8> {
     Ok(())
 }
 
+/// T-10's ground, by Up.
+fn refuses_19(table: &mut Table, event: &Event) -> Result<(), u8> {
+    let before = *table;
+    step(table, event)?;
+    match *event {
+        Finish(i, 100..=199) if 2 * before.node(i).up.count_ones() + 2 <= u32::from(before.n) => {
+            Err(19)
+        }
+        _ => Ok(()),
+    }
+}
+
 /// "Up" is not emptied at the halting step.
 fn keeps_up(table: &mut Table, event: &Event) -> Result<(), u8> {
     then(table, event, |before, after| {
@@ -336,7 +348,7 @@ const AGAINST_THE_CLAIMS: [(Machine, &str); 7] = [
     (ready_keeps_the_task, "different tasks"),
 ];
 
-const OTHERS: [Machine; 14] = [
+const OTHERS: [Machine; 15] = [
     moves_nothing,
     halt_keeps_the_halter,
     ready_without_status,
@@ -350,6 +362,7 @@ const OTHERS: [Machine; 14] = [
     hands_on,
     timeout_of_a_coordinator_elects,
     refuses_18,
+    refuses_19,
     keeps_up,
 ];
 

@@ -62,12 +62,13 @@ fn k5_last_counter() {
     refused(&table, Recover(16), 12);
 }
 
+/// T-10: "K6 now uses task 200 for the one that passes."
 #[test]
 fn k6_finish_task() {
     let mut table = recovered(2);
     table.nodes[0].activity = Activity::Collecting;
     refused(&table, Finish(1, 99), 8);
-    assert_eq!(step(&mut table, &Finish(1, 100)), Ok(()));
+    assert_eq!(step(&mut table, &Finish(1, 200)), Ok(()));
 }
 
 #[test]

@@ -3,8 +3,10 @@
 //! messages are counted, and those of T-06 where a node checks or a list with checks is printed.
 
 mod common;
+mod met_corners;
 
 use common::{invited_twice, LATE, NODES};
+use met_corners::met_corners;
 use peer::compare::{recovery_difference, run_difference, walk_difference};
 use peer::corners::{Before, Corners, Source};
 use peer::drive::run;
@@ -19,17 +21,8 @@ use Event::*;
 
 /// The corners that begin with these words and were met, with their counts in runs and in tables.
 fn met(corners: &Corners, words: &[&str]) -> Vec<(String, u64, u64)> {
-    let text = corners.text();
-    let line = |line: &str| {
-        let mut parts = line.trim_start().splitn(2, ' ');
-        let runs = parts.next()?.parse().ok()?;
-        let (tables, name) = parts.next()?.trim_start().split_once("  ")?;
-        Some((name.to_string(), runs, tables.parse().ok()?))
-    };
-    let fits = |(name, runs, tables): &(String, u64, u64)| {
-        runs + tables > 0 && words.iter().any(|words| name.starts_with(words))
-    };
-    text.lines().filter_map(line).filter(fits).collect()
+    let fits = |name: &str| words.iter().any(|words| name.starts_with(words));
+    met_corners(corners).into_iter().filter(|(name, ..)| fits(name)).collect()
 }
 
 /// The same for the corners of picks.
@@ -1192,6 +1185,8 @@ fn checks_in_lists() {
 fn wrong_texts_of_checks_are_told() {
     let otherwise = "list, check printed otherwise than by the grounds";
     let another = "list, 18 printed for another event";
+    // Which is a finish.
+    let finish = "list, finish printed otherwise than by the grounds";
     let events = &k10_with_checks()[..14];
     let list = write_list(2, TOWER, events);
     let right = String::from_utf8(run_list(&list)).unwrap();
@@ -1200,7 +1195,7 @@ fn wrong_texts_of_checks_are_told() {
     assert_eq!(told("", ""), [""; 0]);
     assert_eq!(told("refused 13 18\n", ""), [otherwise]);
     assert_eq!(told("refused 13 18\n", "refused 13 10\n"), [otherwise]);
-    assert_eq!(told("refused 13 18\n", "refused 13 18\nrefused 14 18\n"), [another]);
+    assert_eq!(told("refused 13 18\n", "refused 13 18\nrefused 14 18\n"), [another, finish]);
     assert_eq!(told("refused 13 18\n", "refused 12 18\n"), [otherwise, another]);
     assert_eq!(told("refused 6 10\n", "refused 6 18\n"), [otherwise]);
 }

@@ -31,7 +31,7 @@ fn pick(numbers: &mut Numbers, table: &Table) -> Event {
         29..=34 => Event::Timeout(i),
         35..=54 => Event::Tick(i),
         55..=58 => Event::Expire(i),
-        59..=74 => Event::Finish(i, 100 + u16::from(numbers.below(5))),
+        59..=74 => Event::Finish(i, 198 + u16::from(numbers.below(5))),
         75 => Event::Lose(a, b),
         _ => Event::Deliver(a, b),
     }

@@ -1,6 +1,9 @@
 //! The corners of T-08 are counted where they are met, and nowhere else, and what the papers have no place for is
 //! told.
 
+mod met_corners;
+
+use met_corners::met_corners;
 use peer::compare::{recovery_difference, run_difference, walk_difference};
 use peer::corners::{Before, Corners, Source};
 use peer::list::{read_list, write_list};
@@ -17,17 +20,9 @@ const NAMES: [&str; 7] =
 
 /// The corners of T-08 that were met, with their counts in runs and in tables.
 fn met(corners: &Corners) -> Vec<(String, u64, u64)> {
-    let text = corners.text();
-    let line = |line: &str| {
-        let mut parts = line.trim_start().splitn(2, ' ');
-        let runs = parts.next()?.parse().ok()?;
-        let (tables, name) = parts.next()?.trim_start().split_once("  ")?;
-        Some((name.to_string(), runs, tables.parse().ok()?))
-    };
     let named =
         |name: &str| name.starts_with("0x0") || NAMES.iter().any(|words| name.starts_with(words));
-    let fits = |(name, runs, tables): &(String, u64, u64)| runs + tables > 0 && named(name);
-    text.lines().filter_map(line).filter(fits).collect()
+    met_corners(corners).into_iter().filter(|(name, ..)| named(name)).collect()
 }
 
 /// Their names alone; nothing may be told.

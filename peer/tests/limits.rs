@@ -260,7 +260,7 @@ fn k6_finish_task() {
     let mut table = recovered(2, STAND);
     table.nodes[0].activity = Activity::Collecting;
     refused(&table, Finish(1, 99), 8);
-    assert_eq!(step(&mut table, &Finish(1, 100)), Ok(()));
+    assert_eq!(step(&mut table, &Finish(1, 200)), Ok(()));
 }
 
 #[test]

@@ -170,6 +170,24 @@ fn too_short_for_ground_18() {
     }
 }
 
+/// T-10 leaves out three lists of two nodes and seven events: they end with a finish of one of two nodes. All others
+/// are too short to meet ground 19.
+#[test]
+fn three_lists_fewer_by_ground_19() {
+    for n in 1..=3 {
+        for length in 0..=6 {
+            let mut refused = 0;
+            for list in lists(n, length) {
+                let mut table = Table::start(n, TOWER);
+                assert!(list.iter().all(|event| step(&mut table, event).is_ok()));
+                let finish = |i: u8| step(&mut table.clone(), &Event::Finish(i, 100));
+                refused += (1..=n).filter(|&i| finish(i) == Err(19)).count();
+            }
+            assert_eq!(refused, if (n, length) == (2, 6) { 3 } else { 0 }, "{n} {length}");
+        }
+    }
+}
+
 #[test]
 fn counts() {
     // Each list of no event up to length - 1 events is followed by each event once.

@@ -72,7 +72,7 @@ fn counts_of_a_run() {
         // Accept.
         (Lose(1, 2), vec![back(2, 1, 1), there(2, 2, 0)]),
         (Expire(2), vec![back(2, 1, 1), there(2, 2, 0)]),
-        (Finish(2, 100), vec![back(2, 1, 1), there(2, 2, 0)]),
+        (Finish(2, 200), vec![back(2, 1, 1), there(2, 2, 0)]),
         (Check(2), vec![back(2, 1, 1), there(3, 2, 0)]),
         (Crash(2), vec![back(2, 1, 1), there(3, 2, 0)]),
         (Lose(2, 1), vec![back(2, 1, 1), there(3, 2, 1)]),

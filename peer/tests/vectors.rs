@@ -126,7 +126,7 @@ fn lists_of_the_vectors() {
             check_run(list.n, list.limits, &list.events).unwrap();
         }
     }
-    assert!(read.iter().all(|&count| count > 40), "{read:?}");
+    assert!(read.iter().all(|&count| count > 30), "{read:?}");
 }
 
 /// The single steps of the vectors, on tables of both, and on some whose limits are no allowed pair.
@@ -149,5 +149,5 @@ fn steps_of_the_vectors() {
             }
         }
     }
-    assert_eq!(met, [481, 313, 6]);
+    assert_eq!(met, [521, 273, 6]);
 }

@@ -15,11 +15,11 @@ use Rattle.node_set.specs.NodeSet.{has}
 use Rattle.model.specs.Pick.{pick, by-test}
 use Rattle.model.specs.Limits.{tower, counterEnd, callEnd, trafficEnd}
 use Rattle.model.specs.Counts.{pairPlace, noCounts}
-use Rattle.model.specs.Node.{isDown, isReorganization, isNormal, replies, isActive}
+use Rattle.model.specs.Node.{isDown, isCollecting, isReorganization, isNormal, replies, isActive}
 use Rattle.model.specs.Recovery.{recoveryRecords}
 use Rattle.model.specs.Procedures.{recovers, inviteNext, merges, handNext, finishes, forwardNext, askedAll, askAt, askAfter}
 use Rattle.model.specs.React.{checked, timedOut, ticked, expired, resumed, onAreYouCoordinator, onAreYouThere, onInvitation, onAccept, onReady, onReply, received, react}
-use Rattle.model.specs.Range.{PairRule, TwoPairs, pairRule, isWithinTower, activityInRange, nodeInRange, messageInRange}
+use Rattle.model.specs.Range.{PairRule, TwoPairs, pairRule, isWithinTower, activityInRange, nodeInRange, messageInRange, isNode}
 use Rattle.model.specs.State.{State, startingNode, start, nodeAt, noMessage, waits, oldest, withoutOldest, allWaiting, countsAside, every, baseInRange, trafficInRange, inRange, firstOf, view, tableOf}
 use Rattle.model.specs.Grounds.{judged}
 use Rattle.model.specs.Step.{actor, reactionTo, remaining, sent, withSent, withDelivered, withLost, effect, wrongStatus, notCoordinator, noMajority, forms, isCalling, isSending, pairAtEnd, grounds, Result, refused, accepted, step, kept, aside, after, runFrom}
@@ -627,7 +627,7 @@ is-nineteen {t} {e} {r} x y = by-number (step (view t) e) 19 (omega arith) (sym 
 turned-away-finish : {t : Table} {i : ℕ} {x : TaskNo} {r : Outcome} → Stepped t (Finish i x) r → r .answer ≡ NoMajority → WithoutMajority (view t) i x
 turned-away-finish {t} {i} {x} s y =
     let z = majority-rules .nineteen (view t) (Finish i x) (is-nineteen s y) in
-    subst (λ (e : Event). turned e) (sym (z .event)) (z .turned-away)
+    subst (λ (e : Event). turned e) (sym (z .event)) (z .is)
   where
     turned : Event → Type 0
     turned (Crash j) = Unit {0}
@@ -655,14 +655,27 @@ no-other-peals =
       too-soon = λ f s y. f (turned-away-finish s y .reaches);
       to-majority = λ m s y. turned-away-finish s y .no-majority m;
       to-one = λ {t} {e} n s y. majority-rules .one (view t) e n (is-nineteen s y);
-      looks-further = λ {t} {u} {i} {x} n c s y v w.
-          let z = turned-away-finish s y in
-          z .no-majority
-          (subst (λ (k : ℕ). MoreThanHalf k (nodeAt (view t) i)) (sym n)
-          (subst (λ (d : Node). MoreThanHalf (u .n) d) (sym c) (majority-rules .only-if (view u) i x _ _ (accepted-alike .model-accepts v w) (z .full-peal))));
+      early = λ n lim {es} {t} {e} {r} c few s y.
+          majority-rules .not-early n lim es e few (ap (λ (v : State). step v e) (sym (code-runs .from-start n lim es t c)) ∙ is-nineteen s y);
+      looks-further = λ {t} {u} {i} {x} {r} {q} n c k s y v h. h (answer-known (q .answer) NoMajority (v .answer ∙ ap resultNumber (majority-rules .turned-away (view u) i x (same t u i x n c k (turned-away-finish s y)))));
       turns-away = λ {t} {i} {x} {r} z f m s h. h (answer-known (r .answer) Accepted (s .answer ∙ ap resultNumber (majority-rules .passes (view t) i x z f m)));
       finishes-otherwise = λ {t} {i} {x} s y h. let q = accepted-alike .model-accepts s y in h (s .table ∙ ap (kept (view t)) q ∙ majority-rules .leaves (view t) i x _ _ q);
     }
+  where
+    -- of another table in range with the same n and the same record
+    same : (t u : Table) (i : ℕ) (x : TaskNo) → t .n ≡ u .n → nodeAt (view t) i ≡ nodeAt (view u) i → inRange (view u) ≡ true → WithoutMajority (view t) i x → WithoutMajority (view u) i x
+    same t u i x n c k z =
+        record {
+          reaches = record {
+            in-range = k;
+            number = subst (λ (m : ℕ). isNode m i ≡ true) n (z .reaches .number);
+            given = z .reaches .given;
+            not-down = subst (λ (d : Node). isDown (d .status) ≡ false) c (z .reaches .not-down);
+            collects = subst (λ (d : Node). isCollecting (d .activity) ≡ true) c (z .reaches .collects);
+          };
+          full-peal = z .full-peal;
+          no-majority = subst (λ (d : Node). MoreThanHalf (u .n) d → ⊥) c (subst (λ (m : ℕ). MoreThanHalf m (nodeAt (view t) i) → ⊥) n (z .no-majority));
+        }
 
 -- ── T-08 ──
 

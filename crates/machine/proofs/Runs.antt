@@ -21,7 +21,6 @@ use Rattle.model.proofs.Traffic.{run-n, run-limits, traffic-agrees}
 use Rattle.model.proofs.Refusals.{refuses-by-ground}
 use Rattle.model.proofs.Whole.{run-fixes}
 use Rattle.model.proofs.Fixed.{task-from-list}
-use Rattle.model.proofs.Majority.{majority-rules}
 use Rattle.model.proofs.Peals.{peals-by-majority}
 use Rattle.model.proofs.InRange.{start-small, stays-in-range}
 use Rattle.model.specs.declared.Limits.{Limits}
@@ -223,20 +222,21 @@ module _ (chain : Chain) (folds : (t : Table) (es : List Event) (u : Table) → 
   pub chain-peals : (n : ℕ) (lim : Limits) → n ≤ nodeLimit → CodePeals chain n lim
   chain-peals n lim h =
       record {
-        played = λ {es} {t} c.
+        only-if = λ {es} {u} {i} {x} {r} c s a p.
+            subst (λ (v : State). MoreThanHalf n (nodeAt v i)) (sym (runs c)) (peals-by-majority TwoPairs n lim h .only-if es i x _ _ (steps n lim es (runs c) s a) p);
+        by-coordinator = λ {es} {u} {i} {x} {r} c s a.
+            ap (λ (v : State). nodeAt v i .coordinator) (runs c) ∙ peals-by-majority TwoPairs n lim h .by-coordinator es i x _ _ (steps n lim es (runs c) s a);
+        normal = λ {es} {t} c.
             subst
             (λ (s : State). (i : ℕ) → 1 ≤ i → i ≤ n → nodeAt s i .status ≡ Normal → FullPeal (nodeAt s i .task .number)
             → PealStarted TwoPairs n lim es (nodeAt s i .group .number) (nodeAt s i .task .number))
-            (sym (runs c)) (peals-by-majority TwoPairs n lim h .played es);
-        only-if = λ {es} {u} {i} {x} {r} c s a p.
-            subst (λ (k : ℕ). MoreThanHalf k (nodeAt (view u) i)) (same-n c) (majority-rules .only-if (view u) i x _ _ (accepted-alike .model-accepts s a) p);
+            (sym (runs c)) (peals-by-majority TwoPairs n lim h .normal es);
         share = λ {es} {fs} {t} {u} {i} {j} {x} {y} {r} {q} c d s a p v b w.
-            subst (λ (k : ℕ). CountedByBoth k (view t) i (view u) j) (same-n c)
-            (majority-rules .share (view t) (view u) i j x y _ _ _ _ (same-n c ∙ sym (same-n d)) (accepted-alike .model-accepts s a) p (accepted-alike .model-accepts v b) w);
+            subst (λ (z : State). CountedByBoth n z i (view u) j) (sym (runs c))
+            (subst (λ (z : State). CountedByBoth n (run n lim es) i z j) (sym (runs d))
+            (peals-by-majority TwoPairs n lim h .share es fs i j x y _ _ _ _ (steps n lim es (runs c) s a) p (steps n lim fs (runs d) v b) w));
+        of-acceptances = λ {es} {t} c i low high. ap (λ (s : State). nodeAt s i .members) (runs c) ∙ peals-by-majority TwoPairs n lim h .of-acceptances es i low high;
       }
-    where
-      same-n : {es : List Event} {t : Table} → Reached chain n lim es t → view t .n ≡ n
-      same-n {es} c = ap (λ (s : State). s .n) (runs c) ∙ run-nodes n lim es
 
   -- 02, T-08
   pub chain-holds : (n : ℕ) (lim : Limits) → MayStart TwoPairs n lim → CodeHolds chain n lim

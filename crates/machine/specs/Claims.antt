@@ -14,7 +14,7 @@ use Rattle.model.specs.Step.{actor, reactionTo, forms, accepted, step, runFrom,
 use Rattle.model.specs.History.{NotFormed, NoTask, Task, newest, coming, history}
 use Rattle.model.specs.Traffic.{tally, sentIn, deliveredIn, lostIn, sendsAny, deliversAny, losesAny}
 use Rattle.model.specs.Node.{isActive}
-use Rattle.model.specs.Claims.{Lacks, Fixes, FullPeal, MoreThanHalf, PealStarted, CountedByBoth, MayStart, EachGroup, recordAfter}
+use Rattle.model.specs.Claims.{Lacks, Fixes, FullPeal, MoreThanHalf, acceptances, PealStarted, CountedByBoth, MayStart, EachGroup, recordAfter}
 use Rattle.model.specs.declared.Limits.{Limits}
 use Rattle.model.specs.declared.Status.the-variants.{Normal}
 use Rattle.model.specs.declared.TaskNo.{TaskNo}
@@ -131,18 +131,23 @@ pub record CodeTraffic (chain : Chain) (n : ℕ) (l : Limits) : Type 0 where
 
 -- ── 02, T-10: full peal only by a majority ──
 
--- T-10 of the tables that the code returned, as `PealsByMajority` (model/specs/Claims) has it of the run. Nothing is said about two coordinators that both counted a member.
+-- T-10 of the tables that the code returned: each field is that of `PealsByMajority` (model/specs/Claims), of them. Not claimed, as there: that no two coordinators start a
+-- full peal; two that both counted a node may.
 pub record CodePeals (chain : Chain) (n : ℕ) (l : Limits) : Type 0 where
-  -- whoever plays a full peal has it from a finish in the list, by a node of its group that counted more than half of n
-  pub played : {es : List Event} {t : Table} → Reached chain n l es t → (i : ℕ) → 1 ≤ i → i ≤ n → nodeAt (view t) i .status ≡ Normal → FullPeal (nodeAt (view t) i .task .number)
-      → PealStarted TwoPairs n l es (nodeAt (view t) i .group .number) (nodeAt (view t) i .task .number)
-  -- "A finish with such a task passes only if the coordinator and its members together are more than half of n."
+  -- "A finish with such a task passes only if the coordinator and its members together are more than half of n."; and it is the coordinator's
   pub only-if : {es : List Event} {u : Table} {i : ℕ} {x : TaskNo} {r : Outcome} → Reached chain n l es u → Stepped u (Finish i x) r → r .answer ≡ Accepted
       → FullPeal (x .number) → MoreThanHalf n (nodeAt (view u) i)
-  -- of any two full peals that the code accepts, on whatever tables of n nodes it was led to, a node is counted for both
+  pub by-coordinator : {es : List Event} {u : Table} {i : ℕ} {x : TaskNo} {r : Outcome} → Reached chain n l es u → Stepped u (Finish i x) r → r .answer ≡ Accepted
+      → nodeAt (view u) i .coordinator ≡ i
+  -- a Normal node whose task is a full peal has it from such a finish in the list, for its group
+  pub normal : {es : List Event} {t : Table} → Reached chain n l es t → (i : ℕ) → 1 ≤ i → i ≤ n → nodeAt (view t) i .status ≡ Normal → FullPeal (nodeAt (view t) i .task .number)
+      → PealStarted TwoPairs n l es (nodeAt (view t) i .group .number) (nodeAt (view t) i .task .number)
+  -- (`PealsByMajority.entered` is said of the list alone.) Two full peals that are accepted, on whatever tables the code was led to, have a node that is counted for both
   pub share : {es fs : List Event} {t u : Table} {i j : ℕ} {x y : TaskNo} {r q : Outcome} → Reached chain n l es t → Reached chain n l fs u
       → Stepped t (Finish i x) r → r .answer ≡ Accepted → FullPeal (x .number) → Stepped u (Finish j y) q → q .answer ≡ Accepted → FullPeal (y .number)
       → CountedByBoth n (view t) i (view u) j
+  -- "The count is of acceptances": a node's member set is that of the nodes whose Accept it took since it formed its group
+  pub of-acceptances : {es : List Event} {t : Table} → Reached chain n l es t → (i : ℕ) → 1 ≤ i → i ≤ n → nodeAt (view t) i .members ≡ acceptances TwoPairs n l es i
 
 -- ── 02, T-08: for which tables this is claimed ──
 

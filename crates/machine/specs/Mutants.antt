@@ -354,30 +354,32 @@ pub record NoOtherChecks : Type 0 where
 
 -- ── 02, T-10: full peal only by a majority ──
 
--- No machine that meets `Stepped` is:
+-- No machine that meets `Stepped` is one of these. (A machine that lets two coordinators start a full peal which both counted a node is not among them: 02 says nothing of that.)
 pub record NoOtherPeals : Type 0 where
-  -- one that lets a full peal pass where the coordinator and its members together are not more than half of n
+  -- one that lets a full peal pass where node i and its members together are not more than half of n
   pub passes : {t : Table} {i : ℕ} {x : TaskNo} {r : Outcome} → FullPeal (x .number) → (MoreThanHalf (t .n) (nodeAt (view t) i) → ⊥) → Stepped t (Finish i x) r → r .answer ≡ Accepted → ⊥
-  -- where they are just half of it, say: "less than" read for "at most"
-  pub passes-half : {t : Table} {i : ℕ} {x : TaskNo} {r : Outcome} → FullPeal (x .number) → 2 * (1 + count (nodeAt (view t) i .members)) ≡ t .n → Stepped t (Finish i x) r → r .answer ≡ Accepted → ⊥
   -- or changes something at it
   pub changes : {t : Table} {i : ℕ} {x : TaskNo} {r : Outcome} → FullPeal (x .number) → (MoreThanHalf (t .n) (nodeAt (view t) i) → ⊥) → Stepped t (Finish i x) r → (r .table ≡ t → ⊥) → ⊥
   -- or gives it another number, where the table is in range and i a node that collects: 13, 14 or 17 before 19, say
   pub other-number : {t : Table} {i : ℕ} {x : TaskNo} {r : Outcome} → WithoutMajority (view t) i x → Stepped t (Finish i x) r → (r .answer ≡ NoMajority → ⊥) → ⊥
+  -- one that lets it pass where they are just half of n: "less than" read for "at most"
+  pub passes-half : {t : Table} {i : ℕ} {x : TaskNo} {r : Outcome} → FullPeal (x .number) → 2 * (1 + count (nodeAt (view t) i .members)) ≡ t .n → Stepped t (Finish i x) r → r .answer ≡ Accepted → ⊥
   -- one that gives 19 to another event
   pub other-event : {t : Table} {e : Event} {r : Outcome} → Stepped t e r → ((i : ℕ) (x : TaskNo) → e ≡ Finish i x → ⊥) → r .answer ≡ NoMajority → ⊥
   -- or with another task
   pub other-task : {t : Table} {i : ℕ} {x : TaskNo} {r : Outcome} → (FullPeal (x .number) → ⊥) → Stepped t (Finish i x) r → r .answer ≡ NoMajority → ⊥
   -- or before 1, 7, 8, 9 or 10
   pub too-soon : {t : Table} {i : ℕ} {x : TaskNo} {r : Outcome} → (FinishReaches (view t) i x → ⊥) → Stepped t (Finish i x) r → r .answer ≡ NoMajority → ⊥
-  -- or to a coordinator that with its members is more than half of n: one that leaves the coordinator out of the count, say
+  -- or where node i and its members are more than half of n: one that leaves node i itself out of the count, say
   pub to-majority : {t : Table} {i : ℕ} {x : TaskNo} {r : Outcome} → MoreThanHalf (t .n) (nodeAt (view t) i) → Stepped t (Finish i x) r → r .answer ≡ NoMajority → ⊥
   -- or with n = 1
   pub to-one : {t : Table} {e : Event} {r : Outcome} → t .n ≡ 1 → Stepped t e r → r .answer ≡ NoMajority → ⊥
-  -- "a member that has left since still counts": one that gives 19 and looks at anything but n, the task and the coordinator's own record, at what the members do now, say,
-  -- or at the limits
-  pub looks-further : {t u : Table} {i : ℕ} {x : TaskNo} {r q : Outcome} → t .n ≡ u .n → nodeAt (view t) i ≡ nodeAt (view u) i
-      → Stepped t (Finish i x) r → r .answer ≡ NoMajority → Stepped u (Finish i x) q → q .answer ≡ Accepted → ⊥
+  -- or to one of the first six events from the starting table
+  pub early : (n : ℕ) (l : Limits) {es : List Event} {t : Table} {e : Event} {r : Outcome} → Reached Folded n l es t → length es ≤ 5 → Stepped t e r → r .answer ≡ NoMajority → ⊥
+  -- "a member that has left since still counts": one for which 19 depends on anything but n, the task and node i's own record, on what the members do now, say, or on the
+  -- limits. u is another table in range with the same n and the same record of i
+  pub looks-further : {t u : Table} {i : ℕ} {x : TaskNo} {r q : Outcome} → t .n ≡ u .n → nodeAt (view t) i ≡ nodeAt (view u) i → inRange (view u) ≡ true
+      → Stepped t (Finish i x) r → r .answer ≡ NoMajority → Stepped u (Finish i x) q → (q .answer ≡ NoMajority → ⊥) → ⊥
   -- one that turns away a finish with more than half of n, or with another task, where 13, 14 and 17 do not apply
   pub turns-away : {t : Table} {i : ℕ} {x : TaskNo} {r : Outcome} → FinishReaches (view t) i x → (FullPeal (x .number) → MoreThanHalf (t .n) (nodeAt (view t) i)) → MayHand (view t) i
       → Stepped t (Finish i x) r → (r .answer ≡ Accepted → ⊥) → ⊥

@@ -165,7 +165,8 @@ pub fn no_majority(n: u8, c: Node, e: Event) -> bool
         Event::Timeout(_) => false,
         Event::Tick(_) => false,
         Event::Expire(_) => false,
-        Event::Finish(_, t) => predicates::is_full_peal(t) & predicates::is_at_most_half(n, c.members),
+        Event::Finish(_, t) => predicates::is_full_peal(t)
+            & predicates::is_at_most_half(n, c.members),
         Event::Deliver(_, _) => false,
         Event::Lose(_, _) => false,
     }

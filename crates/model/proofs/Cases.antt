@@ -36,7 +36,7 @@ use Rattle.model.specs.declared.Activity.the-variants.{Idle, Collecting}
 use Rattle.model.specs.declared.Node.{Node}
 use Rattle.model.specs.declared.Message.{Message}
 use Rattle.model.specs.declared.Event.{Event}
-use Rattle.model.specs.declared.Event.the-variants.{Crash, Recover, Check, Timeout, Tick, Expire, Finish, Deliver}
+use Rattle.model.specs.declared.Event.the-variants.{Crash, Recover, Check, Timeout, Tick, Expire, Finish, Deliver, Lose}
 
 -- ── a case is computed with the counts set aside, so that neither their range nor 17 is computed at each event ──
 
@@ -543,6 +543,7 @@ majority-cases =
       two-of-three = finished-in tower in-tower 3 (setOf (3 ∷ [])) [] 100 refl;
       two-of-three-end = finished-in tower in-tower 3 (setOf (3 ∷ [])) [] 199 refl;
       two-of-three-above = finished-in tower in-tower 3 (setOf (3 ∷ [])) [] 200 refl;
+      two-of-four-above = finished-in tower in-tower 4 (setOf (4 ∷ [])) [] 200 refl;
       one-of-one = finished-in tower in-tower 1 none [] 100 refl;
       one-of-three = one-refused _ _ _ _ _ refl refl;
       two-of-four = one-refused _ _ _ _ _ refl refl;
@@ -559,6 +560,7 @@ majority-cases =
       stand-three-of-four = finished-in stand in-stand 4 (setOf (2 ∷ 4 ∷ [])) [] 100 refl;
       range-first = not-in-range _ _ _ _ refl;
       number-first = one-refused _ _ _ _ _ refl refl;
+      number-none = one-refused _ _ _ _ _ refl refl;
       down-first = one-refused _ _ _ _ _ refl refl;
       activity-first = one-refused _ _ _ _ _ refl refl;
       calls-end = one-refused _ _ _ _ _ refl refl;
@@ -570,7 +572,13 @@ majority-cases =
       run-turned-away = no-peal;
       skipped = step-is-local .refused-skips 2 tower unanswered (Finish 2 (record { number = 100 })) (Finish 2 (record { number = 200 }) ∷ []) 19 no-peal;
       run-above = ap (λ (s : State). printedFields s 2) (two (unanswered ++ (Finish 2 (record { number = 200 }) ∷ [])) (omega arith));
+      run-no-task = ap (λ (h : History). h .entry 33) (history-two (unanswered ++ (Finish 2 (record { number = 100 }) ∷ [])) (omega arith));
+      run-task = ap (λ (h : History). h .entry 33) (history-two (unanswered ++ (Finish 2 (record { number = 100 }) ∷ Finish 2 (record { number = 200 }) ∷ [])) (omega arith));
+      accept-waits = from-two (unanswered ++ (Deliver 2 1 ∷ [])) (Finish 2 (record { number = 100 })) 19 (omega arith) refl;
+      accept-lost = from-two (unanswered ++ (Deliver 2 1 ∷ Lose 1 2 ∷ [])) (Finish 2 (record { number = 100 })) 19 (omega arith) refl;
+      accept-taken = ap (λ (s : State). printedFields s 2) (after-two (unanswered ++ (Deliver 2 1 ∷ Deliver 1 2 ∷ [])) (Finish 2 (record { number = 100 })) (omega arith));
       left-counts = ap (λ (s : State). printedFields s 2) (after-two (collecting ++ (Crash 1 ∷ [])) (Finish 2 (record { number = 100 })) (omega arith));
+      left-before = ap (λ (s : State). printedFields s 1) (in-three (firstTwo ++ lastTwo) (omega arith));
       both-counted-first = ap (λ (s : State). printedFields s 1) (in-three countedTwice (omega arith));
       both-counted-second = ap (λ (s : State). printedFields s 2) (in-three countedTwice (omega arith));
       both-counted-third = ap (λ (s : State). printedFields s 3) (in-three countedTwice (omega arith));

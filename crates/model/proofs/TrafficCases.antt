@@ -180,6 +180,7 @@ traffic-cases =
       other-pair = after-many _ _ _ 1 2 33554430 0 _ refl refl refl;
       half-at-end = after-many _ _ _ 1 2 33554430 0 _ refl refl refl;
       half-at-end-above = after-many _ _ _ 1 2 33554430 0 _ refl refl refl;
+      majority-at-end = after-many _ _ _ 1 2 33554430 0 _ refl refl refl;
       member-at-end = after-many _ _ _ 2 1 33554430 0 _ refl refl refl;
       nothing-sent = after-many _ _ _ 2 1 33554430 0 _ refl refl refl;
       lose-at-end = after-many _ _ _ 2 1 33554429 0 _ refl refl refl;

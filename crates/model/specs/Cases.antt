@@ -913,9 +913,10 @@ pub record TrafficCases : Type 0 where
   -- nor the count of what is delivered, whose reply goes the other way
   pub deliver-at-end : step (past 2 1 33554429 0 (pair Normal none Idle (queued 1))) (Deliver 2 1)
       ≡ accepted (past 2 1 33554430 0 (pair Normal none Idle (replies 1 2 (callNo 1) true ∷ []))) Plain
-  -- a full peal of two of four meets 19 (T-10), and not 17, which another task meets
+  -- a full peal of two of four meets 19 (T-10), and not 17, which another task meets, and a full peal of two of three
   pub half-at-end : step (past 1 2 33554430 0 (gathered 4 (2 ∷ []))) (Finish 1 (taskNo 100)) ≡ refused 19
   pub half-at-end-above : step (past 1 2 33554430 0 (gathered 4 (2 ∷ []))) (Finish 1 (taskNo 200)) ≡ refused 17
+  pub majority-at-end : step (past 1 2 33554430 0 (gathered 3 (2 ∷ []))) (Finish 1 (taskNo 100)) ≡ refused 17
   -- a check of a member meets 18 (T-06), and not 17
   pub member-at-end : step (past 2 1 33554430 0 (beside (follower Normal 32 100 none 2 Idle) [])) (Check 2) ≡ refused 18
   -- "after 14": 12 before 13 before 14 before 17
@@ -1032,13 +1033,13 @@ unanswered = Recover 1 ∷ Recover 2 ∷ Check 2 ∷ Deliver 2 1 ∷ Deliver 1 2
 abbrev pub firstTwo : List Event
 firstTwo = Recover 1 ∷ Recover 2 ∷ Check 2 ∷ Deliver 2 1 ∷ Deliver 1 2 ∷ Expire 2 ∷ Deliver 2 1 ∷ Deliver 1 2 ∷ Deliver 2 1 ∷ Deliver 1 2 ∷ []
 
--- node 1 leaves, and accepts the invitation of node 3, which found it, and not node 2
+-- node 1 crashes and recovers, and accepts the invitation of node 3, which found it, and not node 2; node 3 collects
 abbrev pub lastTwo : List Event
 lastTwo = Crash 1 ∷ Recover 1 ∷ Recover 3 ∷ Check 3 ∷ Deliver 3 1 ∷ Deliver 1 3 ∷ Expire 3 ∷ Deliver 3 1 ∷ Deliver 1 3 ∷ Deliver 3 1 ∷ Deliver 1 3 ∷ []
 
--- node 2 starts a full peal, and then node 3 another: node 1 was counted for both
+-- both collect, and node 1 is counted by both: node 2 starts a full peal, though node 1 has left it, and node 3 another
 abbrev pub countedTwice : List Event
-countedTwice = firstTwo ++ (Finish 2 (taskNo 100) ∷ (lastTwo ++ (Finish 3 (taskNo 199) ∷ Deliver 2 1 ∷ Deliver 1 2 ∷ Deliver 3 1 ∷ Deliver 1 3 ∷ [])))
+countedTwice = firstTwo ++ (lastTwo ++ (Finish 2 (taskNo 100) ∷ Finish 3 (taskNo 199) ∷ Deliver 2 1 ∷ Deliver 1 2 ∷ Deliver 3 1 ∷ Deliver 1 3 ∷ []))
 
 pub record MajorityCases : Type 0 where
   -- one of two: 100 and 199 are refused with 19; 99 with 8; 200 passes, and so does the last task
@@ -1054,7 +1055,9 @@ pub record MajorityCases : Type 0 where
   pub two-of-three : printedFields (after (gathered 3 (3 ∷ [])) (Finish 1 (taskNo 100))) 1 ≡ finished 2 100 1
   pub two-of-three-end : printedFields (after (gathered 3 (3 ∷ [])) (Finish 1 (taskNo 199))) 1 ≡ finished 2 199 1
   pub two-of-three-above : printedFields (after (gathered 3 (3 ∷ [])) (Finish 1 (taskNo 200))) 1 ≡ finished 2 200 1
-  -- on either side of the edge: half of n is too few, one more is enough, for n even and odd, small and large
+  -- two of four with another task: 200 passes
+  pub two-of-four-above : printedFields (after (gathered 4 (4 ∷ [])) (Finish 1 (taskNo 200))) 1 ≡ finished 2 200 1
+  -- on either side of the edge, for n even, where just half is too few, and odd, small and large
   pub one-of-one : printedFields (after (gathered 1 []) (Finish 1 (taskNo 100))) 1 ≡ finished 3 100 0
   pub one-of-three : step (gathered 3 []) (Finish 1 (taskNo 100)) ≡ refused 19
   pub two-of-four : step (gathered 4 (4 ∷ [])) (Finish 1 (taskNo 100)) ≡ refused 19
@@ -1065,17 +1068,19 @@ pub record MajorityCases : Type 0 where
   pub eight-of-fifteen : printedFields (after (gathered 15 (2 ∷ 3 ∷ 5 ∷ 7 ∷ 11 ∷ 13 ∷ 15 ∷ [])) (Finish 1 (taskNo 100))) 1 ≡ finished 2 100 7
   pub eight-of-sixteen : step (gathered 16 (2 ∷ 3 ∷ 5 ∷ 7 ∷ 11 ∷ 13 ∷ 16 ∷ [])) (Finish 1 (taskNo 100)) ≡ refused 19
   pub nine-of-sixteen : printedFields (after (gathered 16 (2 ∷ 3 ∷ 5 ∷ 7 ∷ 11 ∷ 13 ∷ 15 ∷ 16 ∷ [])) (Finish 1 (taskNo 100))) 1 ≡ finished 2 100 8
-  -- n counts, and not the limit: on the stand as in the tower
+  -- n decides, and not the limit of nodes: on the stand as in the tower
   pub stand-one-of-two : step (gatheredIn stand 2 none 4 []) (Finish 1 (taskNo 100)) ≡ refused 19
   pub stand-two-of-two : printedFields (after (gatheredIn stand 2 (setOf (2 ∷ [])) 4 []) (Finish 1 (taskNo 100))) 1 ≡ finished 2 100 1
   pub stand-two-of-four : step (gatheredIn stand 4 (setOf (4 ∷ [])) 4 []) (Finish 1 (taskNo 100)) ≡ refused 19
   pub stand-three-of-four : printedFields (after (gatheredIn stand 4 (setOf (2 ∷ 4 ∷ [])) 4 []) (Finish 1 (taskNo 100))) 1 ≡ finished 2 100 2
-  -- "in the state place after 18", so 1, 7, 8 (above), 9 and 10 come first: a table that is not in range, no such node, a Down one, one that does not collect
-  pub range-first : step (gathered 2 (1 ∷ [])) (Finish 1 (taskNo 100)) ≡ refused 1
+  -- "in the state place after 18", so 1, 7, 9 and 10 come first: a table that is not in range, no such node, a Down one, one that does not collect. (8, 18, 11 and 12 never
+  -- apply together with 19.)
+  pub range-first : step (gathered 4 (1 ∷ [])) (Finish 1 (taskNo 100)) ≡ refused 1
   pub number-first : step (gathered 2 []) (Finish 3 (taskNo 100)) ≡ refused 7
+  pub number-none : step (gathered 2 []) (Finish 0 (taskNo 100)) ≡ refused 7
   pub down-first : step (gathered 2 []) (Finish 2 (taskNo 100)) ≡ refused 9
   pub activity-first : step (pair Election none (Inviting none none 1) []) (Finish 2 (taskNo 100)) ≡ refused 10
-  -- and 13 and 14 behind it (17: TrafficCases.half-at-end), which the same node meets with 200, and with a majority
+  -- and 13 and 14 behind it (17: TrafficCases.half-at-end), which the same node meets with 200, and one with two of three
   pub calls-end : step (gatheredIn tower 4 (setOf (2 ∷ [])) 16777215 []) (Finish 1 (taskNo 100)) ≡ refused 19
   pub calls-end-above : step (gatheredIn tower 4 (setOf (2 ∷ [])) 16777215 []) (Finish 1 (taskNo 200)) ≡ refused 13
   pub calls-end-majority : step (gatheredIn tower 3 (setOf (2 ∷ [])) 16777215 []) (Finish 1 (taskNo 100)) ≡ refused 13
@@ -1086,9 +1091,18 @@ pub record MajorityCases : Type 0 where
   pub run-turned-away : step (run 2 tower unanswered) (Finish 2 (taskNo 100)) ≡ refused 19
   pub skipped : run 2 tower (unanswered ++ (Finish 2 (taskNo 100) ∷ Finish 2 (taskNo 200) ∷ [])) ≡ run 2 tower (unanswered ++ (Finish 2 (taskNo 200) ∷ []))
   pub run-above : printedFields (run 2 tower (unanswered ++ (Finish 2 (taskNo 200) ∷ []))) 2 ≡ 2 ∷ 3 ∷ 2 ∷ 33 ∷ 200 ∷ 2 ∷ 0 ∷ []
-  -- "The count is of acceptances: a member that has left since still counts": node 1 accepts and crashes, and node 2 starts a full peal
+  -- the history has no task for its group after the one, and 200 after the other
+  pub run-no-task : history 2 tower (unanswered ++ (Finish 2 (taskNo 100) ∷ [])) .entry 33 ≡ NoTask
+  pub run-task : history 2 tower (unanswered ++ (Finish 2 (taskNo 100) ∷ Finish 2 (taskNo 200) ∷ [])) .entry 33 ≡ Task 200
+  -- "The count is of acceptances": the Accept counts when it is taken, also by a node that already collects; sent, or lost, it does not
+  pub accept-waits : step (run 2 tower (unanswered ++ (Deliver 2 1 ∷ []))) (Finish 2 (taskNo 100)) ≡ refused 19
+  pub accept-lost : step (run 2 tower (unanswered ++ (Deliver 2 1 ∷ Lose 1 2 ∷ []))) (Finish 2 (taskNo 100)) ≡ refused 19
+  pub accept-taken : printedFields (after (run 2 tower (unanswered ++ (Deliver 2 1 ∷ Deliver 1 2 ∷ []))) (Finish 2 (taskNo 100))) 2 ≡ 2 ∷ 2 ∷ 2 ∷ 33 ∷ 100 ∷ 2 ∷ 1 ∷ []
+  -- "a member that has left since still counts": node 1 accepts and crashes, and node 2 starts a full peal; or it is in another group by then (`countedTwice`)
   pub left-counts : printedFields (after (run 2 tower (collecting ++ (Crash 1 ∷ []))) (Finish 2 (taskNo 100))) 2 ≡ 2 ∷ 2 ∷ 2 ∷ 33 ∷ 100 ∷ 2 ∷ 1 ∷ []
-  -- "so nothing is said about two coordinators that both counted it": node 2 of three plays one full peal, and nodes 1 and 3 another
+  -- "so nothing is said about two coordinators that both counted it": here both pass. Node 1 is in the group of node 3 before either starts; then node 2 is Normal with one
+  -- full peal, and nodes 1 and 3 with another
+  pub left-before : printedFields (run 3 tower (firstTwo ++ lastTwo)) 1 ≡ 1 ∷ 2 ∷ 3 ∷ 34 ∷ 1 ∷ 2 ∷ 0 ∷ []
   pub both-counted-first : printedFields (run 3 tower countedTwice) 1 ≡ 1 ∷ 3 ∷ 3 ∷ 34 ∷ 199 ∷ 2 ∷ 0 ∷ []
   pub both-counted-second : printedFields (run 3 tower countedTwice) 2 ≡ 2 ∷ 3 ∷ 2 ∷ 33 ∷ 100 ∷ 2 ∷ 1 ∷ []
   pub both-counted-third : printedFields (run 3 tower countedTwice) 3 ≡ 3 ∷ 3 ∷ 3 ∷ 34 ∷ 199 ∷ 2 ∷ 1 ∷ []

@@ -1,5 +1,5 @@
 -- The local step of one node: what it does with an event, and on delivery. It sees the number of nodes, its own number, its own record and the input.
--- Where Step refuses an event by the table, by its numbers, by the node's record, or for want of a message (1, 7 to 11, 18, 19), what is written here does not matter.
+-- Where Step refuses an event by the table, by its numbers, by the node's record and n, or for want of a message (1, 7 to 11, 18, 19), what is written here does not matter.
 -- Grounds 12 to 14 and 17 are read off what is written here.
 use Prim.Native.Nat.{ℕ, _-_}
 use mathlib.Core.Bool.{Bool, true, not, _&&_, _||_}

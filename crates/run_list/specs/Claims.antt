@@ -33,7 +33,8 @@ pub record Behind (l : List ℕ) (n : ℕ) (lim : Limits) (r : Reading) : Type 0
   -- the line of each node: its fields are those that the run's table has for it, the count of its members too
   pub node-line : (i : ℕ) → 1 ≤ i → i ≤ n → linesOf l ≡ linesBefore n lim r i ++ (nodeLine i (nodeAt (run n lim (r .events)) i) ∷ linesBehind n lim r i)
   -- demand 3 of every list of events with n nodes and these limits, so of r's events and each beginning of them; where in the list each task comes from; T-05: the records behind
-  -- the totals printed are the counts of the list's accepted events, and no event meets 17; and every table is in range
+  -- the totals printed are the counts of the list's accepted events, and no event meets 17; T-10: who starts a full peal counts more than half of n (and what is not claimed:
+  -- `PealsByMajority` of model/specs/Claims); and every table is in range
   pub holds : RunHolds TwoPairs n lim
   -- so in the table printed, nodes that are Normal with the same group have the same coordinator and the same task
   pub agree : (i j : ℕ) → 1 ≤ i → i ≤ n → 1 ≤ j → j ≤ n

@@ -1,4 +1,4 @@
--- T-01's lists are those that they were before T-10 without those in which an event meets 19.
+-- T-01's lists are those of the step without 19, but for those in which an event meets 19 (02, T-10).
 use Prim.Native.Nat.{ℕ, zero, suc, _≤_}
 use native.Mathlib.Omega.{arith}
 use mathlib.Core.Bool.{Bool, true, false, _||_}
@@ -14,6 +14,7 @@ use Rattle.model.specs.Answers.{resultNumber}
 use Rattle.model.specs.Claims.{MeetsNineteen, stepWithoutNineteen}
 use Rattle.model.proofs.Judged.{accepted-apart, refused-same}
 use Rattle.model.proofs.Majority.{majority-rules}
+use Rattle.model.proofs.Traffic.{run-n}
 use Rattle.model.specs.declared.Event.{Event}
 use Rattle.listing.specs.Printing.{joined}
 use Rattle.short_lists_text.specs.Rows.{concatMap}
@@ -22,9 +23,9 @@ use Rattle.short_lists_text.specs.Text.{linesOf, fits, textOf}
 use Rattle.short_lists_text.specs.Claims.{listsBy, answersBy, isOneOf, withoutNineteen, ListsFewer}
 use Rattle.short_lists_text.proofs.Stay.{same-rows, from-start}
 
--- the machine's step is the former one where 19 is not met
+-- where 19 is not met, the machine's step is the one without it
 not-met : (s : State) (e : Event) → (step s e ≡ refused 19 → ⊥) → step s e ≡ stepWithoutNineteen s e
-not-met s e f = majority-rules .as-before s e (λ z. f (ap (step s) (z .event) ∙ majority-rules .turned-away s (z .node) (z .task) (z .turned-away)))
+not-met s e f = majority-rules .as-before s e (λ z. f (ap (step s) (z .event) ∙ majority-rules .turned-away s (z .node) (z .task) (z .is)))
 
 -- ── leaving lists out ──
 module _ (s : State) where
@@ -109,5 +110,20 @@ texts : (n m : ℕ) → 1 ≤ n → n ≤ 3 → m ≤ 7 → textOf (n ∷ m ∷ 
 unfolding textOf fits pick
 texts n m l h k = rw (le-leb 1 n l, le-leb n 3 h, le-leb m 7 k, lists m (start n tower))
 
+-- with one node
+alone : (m : ℕ) → listsFrom m (start 1 tower) ≡ listsBy stepWithoutNineteen m (start 1 tower)
+alone m =
+    sym
+    (from-start stepWithoutNineteen 1 m (λ es e l. sym (not-met (run 1 tower es) e (majority-rules .one (run 1 tower es) e (run-n (start 1 tower) es)))) m (omega arith))
+
+own : (m : ℕ) (s : State) → listsBy step m s ≡ listsFrom m s
+unfolding listsBy listsFrom
+own zero s = refl
+own (suc m) s = same-rows _ _ (λ e. each e (step s e) (own m)) (alphabet (s .n))
+  where
+    each : (e : Event) (x : Result) → ((u : State) → listsBy step m u ≡ listsFrom m u) → continued e x (listsBy step m) ≡ continued e x (listsFrom m)
+    each e (refused r) f = refl
+    each e (accepted u k) f = ap (map (λ es. e ∷ es)) (f u)
+
 pub lists-fewer : ListsFewer
-lists-fewer = record { lists = lists; same = same-lists; texts = texts }
+lists-fewer = record { own = own; lists = lists; texts = texts; same = same-lists; alone = alone }

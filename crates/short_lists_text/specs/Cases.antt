@@ -1,4 +1,4 @@
--- A few texts in full, single inputs that are refused, the lists of one event from tables that five, six and nine events lead to, and the lists that went with T-10.
+-- A few texts in full, single inputs that are refused, the lists of one event from tables that five, six and nine events lead to, and the lists that T-10 turns away.
 use mathlib.Core.Bool.{true}
 use mathlib.Core.Path.{_≡_}
 use mathlib.Core.List.{List, [], _∷_, _++_, map}
@@ -17,8 +17,8 @@ use Rattle.short_lists_text.specs.Text.{listLine, linesOf, fits, textOf}
 use Rattle.short_lists_text.specs.Claims.{answersBy}
 
 -- T-10: node 2 of two asks node 1, which is a coordinator, invites it, gets no answer and is told to finish with task 100; the first three events are those given
-abbrev pub goneBy : List Event → List Event
-goneBy first = first ++ (Deliver 2 1 ∷ Deliver 1 2 ∷ Expire 2 ∷ Finish 2 (record { number = onlyTask }) ∷ [])
+abbrev pub aloneAfter : List Event → List Event
+aloneAfter first = first ++ (Deliver 2 1 ∷ Deliver 1 2 ∷ Expire 2 ∷ Finish 2 (record { number = onlyTask }) ∷ [])
 
 pub record TextCases : Type 0 where
   -- "the list of no events is an empty line"
@@ -66,14 +66,15 @@ pub record TextCases : Type 0 where
   pub finish : joined (linesOf (listsFrom 1 (run 2 tower collecting))) ≡ bytes "crash 1\ncrash 2\ntimeout 1\nfinish 2 100\nlists 4\n"
   pub no-finish : joined (linesOf (listsFrom 1 (run 2 tower unanswered))) ≡ bytes "crash 1\ncrash 2\ncheck 1\ntimeout 1\ndeliver 2 1\nlose 2 1\nlists 6\n"
   pub tick : joined (linesOf (listsFrom 1 (run 2 tower (Recover 1 ∷ Recover 2 ∷ Check 1 ∷ Deliver 1 2 ∷ Deliver 2 1 ∷ [])))) ≡ bytes "crash 1\ncrash 2\ncheck 2\ntimeout 2\ntick 1\nlists 5\n"
-  -- 02, T-10: three lists of seven events for two nodes were accepted before it, and are not now: node 2 collects alone, and is told to start a full peal. (`ListsFewer` says
-  -- that nothing but 19 took lists away; that these are all that went from the texts is not stated: the gate compares the sums of the texts.)
-  pub gone-first : answersBy step (start 2 tower) (goneBy (Recover 1 ∷ Recover 2 ∷ Check 2 ∷ [])) ≡ 0 ∷ 0 ∷ 0 ∷ 0 ∷ 0 ∷ 0 ∷ 19 ∷ []
-  pub gone-second : answersBy step (start 2 tower) (goneBy (Recover 2 ∷ Recover 1 ∷ Check 2 ∷ [])) ≡ 0 ∷ 0 ∷ 0 ∷ 0 ∷ 0 ∷ 0 ∷ 19 ∷ []
-  pub gone-third : answersBy step (start 2 tower) (goneBy (Recover 2 ∷ Check 2 ∷ Recover 1 ∷ [])) ≡ 0 ∷ 0 ∷ 0 ∷ 0 ∷ 0 ∷ 0 ∷ 19 ∷ []
-  pub former-first : answersBy stepWithoutNineteen (start 2 tower) (goneBy (Recover 1 ∷ Recover 2 ∷ Check 2 ∷ [])) ≡ replicate 7 0
-  pub former-second : answersBy stepWithoutNineteen (start 2 tower) (goneBy (Recover 2 ∷ Recover 1 ∷ Check 2 ∷ [])) ≡ replicate 7 0
-  pub former-third : answersBy stepWithoutNineteen (start 2 tower) (goneBy (Recover 2 ∷ Check 2 ∷ Recover 1 ∷ [])) ≡ replicate 7 0
+  -- 02, T-10: the three lists of seven events for two nodes that are no longer accepted, and were without 19: node 2 collects alone, and is told to start a full peal.
+  -- (`ListsFewer` says that the lists are those without 19 but for such ones. That these three are all that the texts of T-01 have lost is not stated; the tests compare the
+  -- sums of the texts.)
+  pub now-first : answersBy step (start 2 tower) (aloneAfter (Recover 1 ∷ Recover 2 ∷ Check 2 ∷ [])) ≡ 0 ∷ 0 ∷ 0 ∷ 0 ∷ 0 ∷ 0 ∷ 19 ∷ []
+  pub now-second : answersBy step (start 2 tower) (aloneAfter (Recover 2 ∷ Recover 1 ∷ Check 2 ∷ [])) ≡ 0 ∷ 0 ∷ 0 ∷ 0 ∷ 0 ∷ 0 ∷ 19 ∷ []
+  pub now-third : answersBy step (start 2 tower) (aloneAfter (Recover 2 ∷ Check 2 ∷ Recover 1 ∷ [])) ≡ 0 ∷ 0 ∷ 0 ∷ 0 ∷ 0 ∷ 0 ∷ 19 ∷ []
+  pub former-first : answersBy stepWithoutNineteen (start 2 tower) (aloneAfter (Recover 1 ∷ Recover 2 ∷ Check 2 ∷ [])) ≡ replicate 7 0
+  pub former-second : answersBy stepWithoutNineteen (start 2 tower) (aloneAfter (Recover 2 ∷ Recover 1 ∷ Check 2 ∷ [])) ≡ replicate 7 0
+  pub former-third : answersBy stepWithoutNineteen (start 2 tower) (aloneAfter (Recover 2 ∷ Check 2 ∷ Recover 1 ∷ [])) ≡ replicate 7 0
   -- 16 is not met at the ends of the ranges, and is met just outside them: `Refuses` has all inputs
   pub most : fits (3 ∷ 7 ∷ []) ≡ true
   pub least : fits (1 ∷ 0 ∷ []) ≡ true

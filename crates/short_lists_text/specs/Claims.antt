@@ -168,15 +168,15 @@ pub record ListLinesDetermine : Type 0 where
   -- from the text the lists can be told
   pub text : (ls ms : List (List Event)) → All (All SmallNumbers) ls → All (All SmallNumbers) ms → joined (linesOf ls) ≡ joined (linesOf ms) → ls ≡ ms
 
--- all lists of m events from s that the step f accepts one after another; `listsFrom` are those of the machine's own
+-- all lists of m events from s that the step f accepts one after another; `listsFrom` are those of the machine's own step (ListsFewer.own)
 unfoldable pub listsBy : (State → Event → Result) → ℕ → State → List (List Event)
 listsBy f zero s = [] ∷ []
 listsBy f (suc m) s = concatMap (λ e. continued e (f s e) (listsBy f m)) (alphabet (s .n))
 
 -- ── 02, T-06: "The lists of T-01 are too short to meet this and stay the same." ──
 
--- what the step came to before T-06, read off 01: a check that meets 18 now was accepted, and nothing changed ("Otherwise, or with n = 1, nothing changes."). That no
--- other event's step changed is not stated; the gate compares the sums of the texts.
+-- the step with 18 taken back: a check that meets 18 is accepted, and nothing changes, as 01 has it ("Otherwise, or with n = 1, nothing changes."). All else is as it is now, with
+-- T-10 too: what T-10 took from the lists is below. The tests compare the sums of the texts.
 abbrev pub formerResult : State → Result → Result
 formerResult s (refused r) = pick (eqb r 18) (accepted s Plain) (refused r)
 formerResult s (accepted u mark) = accepted u mark
@@ -190,7 +190,7 @@ pub record ListsStay : Type 0 where
   -- and so all that is printed of them
   pub texts : (n m : ℕ) → 1 ≤ n → n ≤ 3 → m ≤ 7 → textOf (n ∷ m ∷ []) ≡ joined (linesOf (listsBy stepWithoutEighteen m (start n tower)))
 
--- ── 02, T-10: the lists that go are those in which 19 is met ──
+-- ── 02, T-10: the lists are those that would be accepted without 19, but for those in which 19 is met ──
 
 -- the numbers with which the step f answers the events of a list one after another, 0 where it accepts
 abbrev pub answersBy : (State → Event → Result) → State → List Event → List ℕ
@@ -208,9 +208,13 @@ withoutNineteen s [] = []
 withoutNineteen s (l ∷ ls) = pick (isOneOf 19 (answersBy step s l)) (withoutNineteen s ls) (l ∷ withoutNineteen s ls)
 
 pub record ListsFewer : Type 0 where
-  -- for every length, and from every state: the lists are those that were accepted before T-10, in the same order, without those in which an event meets 19
+  -- `listsFrom` are the lists of the machine's own step
+  pub own : (m : ℕ) (s : State) → listsBy step m s ≡ listsFrom m s
+  -- for every length, and from every state: the lists are those of the step without 19 (`stepWithoutNineteen` of model/specs/Claims), in the same order, but for those in which
+  -- an event meets 19
   pub lists : (m : ℕ) (s : State) → listsFrom m s ≡ withoutNineteen s (listsBy stepWithoutNineteen m s)
-  -- up to six events, for every n, in the tower, none has gone
-  pub same : (n m : ℕ) → m ≤ 6 → listsFrom m (start n tower) ≡ listsBy stepWithoutNineteen m (start n tower)
   -- and so is what is printed of them
   pub texts : (n m : ℕ) → 1 ≤ n → n ≤ 3 → m ≤ 7 → textOf (n ∷ m ∷ []) ≡ joined (linesOf (withoutNineteen (start n tower) (listsBy stepWithoutNineteen m (start n tower))))
+  -- up to six events, for every n, in the tower, 19 takes none away; and for one node whatever the length
+  pub same : (n m : ℕ) → m ≤ 6 → listsFrom m (start n tower) ≡ listsBy stepWithoutNineteen m (start n tower)
+  pub alone : (m : ℕ) → listsFrom m (start 1 tower) ≡ listsBy stepWithoutNineteen m (start 1 tower)

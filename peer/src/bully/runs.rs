@@ -2,7 +2,7 @@
 //! are reached.
 
 use crate::bully::machine::{Event, Node, Place, Table};
-use crate::drive::{member, task};
+use crate::drive::member;
 use crate::machine::{highest, only, Set, Status, MAX_NODES, MIN_TASK};
 use crate::numbers::Numbers;
 
@@ -54,6 +54,16 @@ pub fn any_n(numbers: &mut Numbers) -> u8 {
         9..=12 => numbers.between(4, 7) as u8,
         13 => MAX_NODES,
         _ => numbers.between(1, u32::from(MAX_NODES)) as u8,
+    }
+}
+
+/// A task that a finish can have. T-10 tells none of them apart here.
+pub fn task(numbers: &mut Numbers) -> u16 {
+    match numbers.below(8) {
+        0 => MIN_TASK,
+        1 => u16::MAX,
+        2 => numbers.between(u32::from(MIN_TASK), u32::from(u16::MAX)) as u16,
+        _ => MIN_TASK + numbers.below(5) as u16,
     }
 }
 

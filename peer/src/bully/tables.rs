@@ -3,8 +3,8 @@
 
 use crate::bully::bytes::{free, TableBytes, NODE_BYTES, TABLE_BYTES};
 use crate::bully::machine::{Event, Node, Place, Table};
+use crate::bully::runs::task;
 use crate::bully::runs::{any_event, any_n};
-use crate::drive::task;
 use crate::machine::{only, Set, Status, MAX_NODES};
 use crate::numbers::Numbers;
 use crate::tables::{near_ends, other, part};

@@ -12,9 +12,7 @@ use crate::round::compare::{call, schedule_difference, tell_schedule};
 use crate::round::corners::Corners;
 use crate::round::driver::Place;
 use crate::round::schedules::{from_start, from_table, Schedule};
-use crate::round::tables::{
-    any_place, cut_short, in_another_form, no_pair, not_in_range, to_turn,
-};
+use crate::round::tables::{any_place, cut_short, in_another_form, no_pair, not_in_range, to_turn};
 use crate::vectors::write_hex;
 use std::time::{Duration, Instant};
 
