@@ -2,6 +2,7 @@
 //! random tables of the fuzzer, and libraries that are wrong on purpose.
 
 mod functions;
+mod printing;
 mod wrong_libraries;
 
 use peer::check_corners::lowest_other;
@@ -10,11 +11,10 @@ use peer::drive::run;
 use peer::list::{write_list, List};
 use peer::machine::*;
 use peer::numbers::Numbers;
-use peer::print::{print_table, run_list};
-use peer::proved::{Library, Proved};
+use peer::print::print_table;
 use peer::tables::to_check;
 use peer::traffic_tables::{count_waiting, pairs};
-use peer::tuned;
+use printing::{by_all, Prints};
 use wrong_libraries::{found, steps, texts};
 use Event::*;
 use Status::*;
@@ -240,7 +240,7 @@ fn other_grounds_and_events() {
 }
 
 /// "Like 17 and any later ground of an event, it skips the event": its line is printed, and the list goes on.
-fn printed(print: impl Fn(&[u8]) -> Vec<u8>) {
+fn printed(print: Prints) {
     // Node 1 is a member; it checks in vain, also as the 106th event, and then alone.
     let mut events = k10();
     events.extend([Check(1), Check(2), Check(1)]);
@@ -253,7 +253,7 @@ fn printed(print: impl Fn(&[u8]) -> Vec<u8>) {
     text += "refused 106 18\n1 3 1 32 1 2 0\n2 0 2 33 100 2 1\n";
     // AreYouCoordinator to 1, AreYouThere to 2, AreYouCoordinator to 2.
     text += "messages 3\nsent 11\ndelivered 8\nlost 0\n";
-    assert_eq!(String::from_utf8(print(&write_list(2, TOWER, &events))).unwrap(), text);
+    assert_eq!(print(&write_list(2, TOWER, &events)), text);
     // One that is refused last, and one behind which the list stops.
     let ended = "1 2 2 33 1 1 0\n2 1 2 33 2 2 1\nmessages 1\nsent 6\ndelivered 5\nlost 0\n";
     let mut events = k10();
@@ -261,33 +261,21 @@ fn printed(print: impl Fn(&[u8]) -> Vec<u8>) {
     events.push(Check(1));
     let mut list = write_list(2, TOWER, &events);
     let text = format!("cabinets 2\nrefused 9 18\n{ended}");
-    assert_eq!(String::from_utf8(print(&list)).unwrap(), text);
+    assert_eq!(print(&list), text);
     let at = list.len();
     list.push(0x12);
     let text = format!("cabinets 2\nrefused 9 18\nstopped {at} 3\n{ended}");
-    assert_eq!(String::from_utf8(print(&list)).unwrap(), text);
+    assert_eq!(print(&list), text);
     // A node alone.
     let events = [Check(1), Recover(1), Check(1), Crash(1), Check(1)];
     let text = "cabinets 1\nrefused 1 9\nrefused 5 9\n1 0 1 16 1 1 0\n\
                 messages 0\nsent 0\ndelivered 0\nlost 0\n";
-    assert_eq!(String::from_utf8(print(&write_list(1, TOWER, &events))).unwrap(), text);
-}
-
-/// What is printed into a buffer that is long enough.
-fn by(print: impl Fn(&[u8], &mut [u8]) -> Option<usize>, list: &[u8]) -> Vec<u8> {
-    let mut out = vec![0; 4000];
-    let length = print(list, &mut out).unwrap();
-    out.truncate(length);
-    out
+    assert_eq!(print(&write_list(1, TOWER, &events)), text);
 }
 
 #[test]
 fn printed_by_all() {
-    printed(run_list);
-    printed(|list| by(tuned::print, list));
-    if let Ok(library) = Proved::linked() {
-        printed(|list| by(|list, out| library.print(list, out), list));
-    }
+    by_all(printed);
 }
 
 /// In a run no idle node is in Election, and none in Reorganization is its own coordinator; what ground 18

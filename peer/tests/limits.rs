@@ -3,6 +3,7 @@
 //! purpose. The boundary is that of this program's own machine, and of the proved library where it is linked.
 
 mod functions;
+mod printing;
 mod wrong_libraries;
 
 use functions::Functions;
@@ -19,7 +20,7 @@ use peer::print::{print_table, run_list};
 use peer::proved::*;
 use peer::traffic_corners::{need, WAYS};
 use peer::traffic_tables::count_waiting;
-use peer::tuned;
+use printing::{by_all, Prints};
 use std::time::Duration;
 use wrong_libraries::{found, steps, texts};
 use Event::*;
@@ -202,26 +203,6 @@ fn a_full_queue(print: Prints) {
     let again = [&answered[..], &[Check(1), Check(2), Check(3)]].concat();
     assert_eq!(on_the_stand(&again), text("refused 27 14\n", 12, 4, 0));
     assert_eq!(on_the_stand(&[Lose(1, 2), Check(1), Check(2)]), text("refused 23 14\n", 12, 0, 1));
-}
-
-/// What gives the text of a list.
-type Prints<'a> = &'a dyn Fn(&[u8]) -> String;
-
-/// The text of a list by a function that prints into a lent buffer.
-fn into_buffer(print: impl Fn(&[u8], &mut [u8]) -> Option<usize>, list: &[u8]) -> String {
-    let mut out = vec![0; 4000];
-    let length = print(list, &mut out).unwrap();
-    out.truncate(length);
-    String::from_utf8(out).unwrap()
-}
-
-/// The test on each that prints.
-fn by_all(test: fn(Prints)) {
-    test(&|list| String::from_utf8(run_list(list)).unwrap());
-    test(&|list| into_buffer(tuned::print, list));
-    if let Ok(library) = Proved::linked() {
-        test(&|list| into_buffer(|list, out| library.print(list, out), list));
-    }
 }
 
 #[test]

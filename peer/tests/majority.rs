@@ -3,6 +3,7 @@
 
 mod functions;
 mod met_corners;
+mod printing;
 mod wrong_libraries;
 
 use met_corners::met_corners;
@@ -15,11 +16,11 @@ use peer::list::{read_list, write_list};
 use peer::machine::*;
 use peer::numbers::Numbers;
 use peer::print::{run_list, run_list_by};
-use peer::proved::{Library, Own, Proved};
+use peer::proved::Own;
 use peer::tables::to_finish;
 use peer::traffic_tables::pairs;
-use peer::tuned;
 use peer::vectors::{read_lists, read_steps};
+use printing::{by_all, Prints};
 use std::path::Path;
 use wrong_libraries::{found, steps, texts};
 use Event::*;
@@ -364,10 +365,10 @@ fn k10(task: u16) -> Vec<Event> {
 
 /// What is printed: K10, which prints the same; a full peal that is refused, also as the 106th event; and one at the
 /// end of a list, and one behind which it stops.
-fn printed(print: impl Fn(&[u8]) -> Vec<u8>) {
+fn printed(print: Prints) {
     let text = |n: u8, limits: Limits, events: &[Event], behind: &[u8]| {
         let list = [&write_list(n, limits, events)[..], behind].concat();
-        String::from_utf8(print(&list)).unwrap()
+        print(&list)
     };
     for task in [100, 199, 200] {
         let expected = format!(
@@ -402,21 +403,9 @@ fn printed(print: impl Fn(&[u8]) -> Vec<u8>) {
     assert_eq!(text(2, TOWER, &events, &[]), expected);
 }
 
-/// What is printed into a buffer that is long enough.
-fn by(print: impl Fn(&[u8], &mut [u8]) -> Option<usize>, list: &[u8]) -> Vec<u8> {
-    let mut out = vec![0; 4000];
-    let length = print(list, &mut out).unwrap();
-    out.truncate(length);
-    out
-}
-
 #[test]
 fn printed_by_all() {
-    printed(run_list);
-    printed(|list| by(tuned::print, list));
-    if let Ok(library) = Proved::linked() {
-        printed(|list| by(|list, out| library.print(list, out), list));
-    }
+    by_all(printed);
 }
 
 /// The Bully machine has no such ground: node 1 of four is alone, and finishes with a full peal.
