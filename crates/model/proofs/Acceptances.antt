@@ -9,18 +9,18 @@ use lib.ListN.{getD-replicate}
 use borrow.Author.Tests.{not-false, eqb-true, eqb-false, eq-eqb}
 use Rattle.node_set.specs.NodeSet.{with}
 use Rattle.model.specs.Pick.{pick, pick-true, pick-false, by-test}
-use Rattle.model.specs.Node.{isElection, merged, tasked, invited, joined}
-use Rattle.model.specs.Procedures.{stays, answers, recovers, inviteNext, merges, handNext, finishes, forwardNext, askedAll, askAt, askAfter}
+use Rattle.model.specs.Node.{isElection, tasked, invited}
+use Rattle.model.specs.Procedures.{stays, recovers, inviteNext, merges, handNext, finishes, forwardNext, askedAll, askAt, askAfter}
 use Rattle.model.specs.React.{checked, timedOut, ticked, expired, resumed, onAreYouCoordinator, onAreYouThere, onInvitation, onAccept, onReady, onReply, received, react}
 use Rattle.model.specs.Range.{PairRule}
-use Rattle.model.specs.State.{State, startingNode, startBy, nodeAt, waits, oldest}
-use Rattle.model.specs.Step.{runFrom, actor, reactionTo, effect, forms, Result, refused, accepted, step, kept, after, runBy}
+use Rattle.model.specs.State.{State, startingNode, startBy, nodeAt, oldest}
+use Rattle.model.specs.Step.{runFrom, actor, reactionTo, effect, forms, Result, step, kept, after, runBy}
 use Rattle.model.specs.Claims.{isAcceptance, withAcceptance, countedNext, acceptancesFrom, acceptances}
 use Rattle.model.proofs.Judged.{Clear, by-step}
 use Rattle.model.proofs.Local.{both-left}
 use Rattle.model.proofs.Fields.{oldest-goes, own-record, other-record}
 use Rattle.model.specs.declared.Limits.{Limits}
-use Rattle.model.specs.declared.Status.the-variants.{Reorganization, Normal}
+use Rattle.model.specs.declared.Status.the-variants.{Reorganization}
 use Rattle.model.specs.declared.Activity.{Activity}
 use Rattle.model.specs.declared.Activity.the-variants.{Idle, Asking, Waiting, Inviting, Collecting, Handing, Contacting, Forwarding, Accepting}
 use Rattle.model.specs.declared.Node.{Node}

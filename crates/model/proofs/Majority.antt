@@ -3,30 +3,28 @@ use Prim.Native.Nat.{ℕ, zero, suc, _+_, _-_, _*_, _≤_, _<_}
 use native.Mathlib.Nat.{lt-of-not-le}
 use native.Mathlib.Omega.{arith}
 use mathlib.Core.Bool.{Bool, true, false, not, _&&_, true≢false}
-use mathlib.Core.Logic.{_⊎_, inl, inr, ⊎-elim}
-use mathlib.Core.Path.{_≡_, refl, sym, _∙_, ap, subst}
-use mathlib.Core.List.{List, [], _∷_, _++_, append-nil}
+use mathlib.Core.Logic.{_⊎_, inl, inr}
+use mathlib.Core.Path.{_≡_, refl, sym, _∙_, subst}
+use mathlib.Core.List.{List, [], _∷_, append-nil}
 use lib.Dec.{eqb, leb}
-use lib.ListN.{length, set}
-use borrow.Author.Tests.{not-false, not-true, eqb-true, eqb-false, eq-eqb, ne-eqb, le-leb, leb-true}
+use lib.ListN.{length}
+use borrow.Author.Tests.{not-false, eqb-true, eqb-false, eq-eqb, ne-eqb, le-leb, leb-true}
 use Rattle.node_set.specs.NodeSet.{has, with, within, highest, count}
-use Rattle.node_set.specs.Claims.{SetLaws}
 use Rattle.node_set.proofs.Laws.{set-laws}
-use Rattle.model.specs.Pick.{pick, pick-true, pick-false}
+use Rattle.model.specs.Pick.{pick, pick-false}
 use Rattle.model.specs.Limits.{callEnd, trafficEnd}
 use Rattle.model.specs.Counts.{countAt}
-use Rattle.model.specs.Node.{isDown, isCollecting, settled, tasked}
-use Rattle.model.specs.Procedures.{stays, next, handNext, finishes}
+use Rattle.model.specs.Procedures.{handNext, finishes}
 use Rattle.model.specs.React.{react}
-use Rattle.model.specs.Range.{isNode, isGivenTask, isFullPeal}
-use Rattle.model.specs.State.{State, nodeAt, inRange}
-use Rattle.model.specs.Grounds.{ground, judged, leavingOut}
+use Rattle.model.specs.Range.{isFullPeal}
+use Rattle.model.specs.State.{State, nodeAt}
+use Rattle.model.specs.Grounds.{ground, judged}
 use Rattle.model.specs.Step.{step, grounds, actor, reactionTo, remaining, effect, noMajority, Result, refused, accepted, run}
-use Rattle.model.specs.Claims.{FullPeal, MoreThanHalf, IsCountedBy, CountedByBoth, MaySend, finishGrounds, withNoMember, withReady, withFinish, FinishReaches, WithoutMajority, MeetsNineteen, MayHand, stepWithoutNineteen, MajorityRules}
+use Rattle.model.specs.Claims.{FullPeal, MoreThanHalf, IsCountedBy, CountedByBoth, finishGrounds, withFinish, FinishReaches, WithoutMajority, MeetsNineteen, MayHand, stepWithoutNineteen, MajorityRules}
 use Rattle.model.proofs.Grounds.{judged-by, judged-without}
-use Rattle.model.proofs.Judged.{Clear, accepted-apart, accepted-is, refused-same, met, passed, one-ground, leftBy, endsBy}
+use Rattle.model.proofs.Judged.{accepted-apart, accepted-is, refused-same, met, passed, one-ground, endsBy}
 use Rattle.model.proofs.Local.{both-left, both-right, right-fails}
-use Rattle.model.proofs.Fields.{IsNode, node-is, NodeFacts, node-facts, IsSetOfOthers, in-range-size, in-range-node}
+use Rattle.model.proofs.Fields.{node-is, node-facts, in-range-size, in-range-node}
 use Rattle.model.proofs.Early.{early-collects}
 use Rattle.model.specs.declared.Limits.{Limits}
 use Rattle.model.specs.declared.Node.{Node}

@@ -1,17 +1,17 @@
 -- T-01's lists are those of the step without 19, but for those in which an event meets 19 (02, T-10).
 use Prim.Native.Nat.{ℕ, zero, suc, _≤_}
 use native.Mathlib.Omega.{arith}
-use mathlib.Core.Bool.{Bool, true, false, _||_}
-use mathlib.Core.Path.{_≡_, refl, sym, _∙_, ap, ap₂, subst}
+use mathlib.Core.Bool.{Bool, true, false}
+use mathlib.Core.Path.{_≡_, refl, sym, _∙_, ap}
 use mathlib.Core.List.{List, [], _∷_, _++_, map}
 use lib.Dec.{eqb}
 use borrow.Author.Tests.{eqb-true, eqb-false, le-leb}
 use Rattle.model.specs.Limits.{tower}
-use Rattle.model.specs.Pick.{pick, pick-true, pick-false}
+use Rattle.model.specs.Pick.{pick, pick-true}
 use Rattle.model.specs.State.{State, start}
 use Rattle.model.specs.Step.{Result, refused, accepted, step, kept, run}
 use Rattle.model.specs.Answers.{resultNumber}
-use Rattle.model.specs.Claims.{MeetsNineteen, stepWithoutNineteen}
+use Rattle.model.specs.Claims.{stepWithoutNineteen}
 use Rattle.model.proofs.Judged.{accepted-apart, refused-same}
 use Rattle.model.proofs.Majority.{majority-rules}
 use Rattle.model.proofs.Traffic.{run-n}
