@@ -1,5 +1,5 @@
--- What is claimed of the tables that the code's turns and steps return: they are those of the model's schedules, T-09's claim holds of them, and so do demand 3, the traffic and
--- the range. The proofs are in proofs/Chains.
+-- What is claimed of the tables that the code's turns and steps return: they are those of the model's schedules, T-09's claim holds of them, and so do demand 3, the traffic,
+-- T-10 and the range. The proofs are in proofs/Chains.
 use Prim.Native.Nat.{ℕ, _+_, _-_, _*_, _≤_, _<_}
 use mathlib.Core.Bool.{true}
 use mathlib.Core.Path.{_≡_}
@@ -58,7 +58,7 @@ pub record CodeRound : Type 0 where
   pub stays : {t u : Table} {p q : Place} {ms : List Move} → Scheduled t p ms u q → AtPair (view t) p → AtPair (view u) q
   pub never-refused : {t u : Table} {p q : Place} {ms : List Move} {r : TurnOutcome} → Scheduled t p ms u q → AtPair (view t) p → Turned u q r → r .answer ≡ Accepted
 
--- Demand 3, the traffic and the range, whole, of the tables that turns and steps return, one after another: each turn is a step of the machine, or none.
+-- Demand 3, the traffic, T-10 and the range, whole, of the tables that turns and steps return, one after another: each turn is a step of the machine, or none.
 pub record CodeDriverRuns : Type 0 where
   -- what a turn that delivers or loses returns, a step with that event may return
   pub delivers : {t : Table} {p : Place} {r : TurnOutcome} → Turned t p r → r .done ≡ Delivered → Stepped t (Deliver (p .sender) (p .receiver)) (record { table = r .table; answer = r .answer })
@@ -68,7 +68,7 @@ pub record CodeDriverRuns : Type 0 where
   pub runs : CodeRuns ByDriver
   -- with any limits demand 3 holds of them,
   pub fixes : (n : ℕ) (l : Limits) → n ≤ nodeLimit → CodeFixes ByDriver n l
-  -- and in the tower and on the stand the traffic and the range too
+  -- and in the tower and on the stand the traffic, T-10 and the range too
   pub both : CodeTowerAndStand ByDriver
   -- there no turn is answered with 1
   pub never-one : (n : ℕ) (l : Limits) → MayStart TwoPairs n l → {es : List Event} {u : Table} {q : Place} {r : TurnOutcome} → Reached ByDriver n l es u → Turned u q r → r .answer ≡ NotInRange → ⊥

@@ -59,6 +59,7 @@ use Rattle.model.specs.declared.Table.{Table}
 use Rattle.model.specs.declared.Event.{Event}
 use Rattle.model.specs.declared.Event.the-variants.{Crash, Recover, Check, Timeout, Tick, Expire, Finish, Deliver, Lose}
 use Rattle.model.specs.declared.Outcome.{Outcome}
+use Rattle.model.specs.declared.Answer.{Answer}
 use Rattle.model.specs.declared.Answer.the-variants.{Accepted, NotInRange, NotCoordinator, NoMajority, SentAtEnd}
 use Rattle.machine.specs.declared.RecoveryAnswer.{RecoveryAnswer}
 use Rattle.machine.specs.Stepped.{Stepped, startingTable, RecoveryAnswered}
@@ -575,9 +576,9 @@ no-other-counts =
 
 -- ── T-06 ──
 
--- an answer 18 is the model's
-is-eighteen : {t : Table} {e : Event} {r : Outcome} → Stepped t e r → r .answer ≡ NotCoordinator → step (view t) e ≡ refused 18
-is-eighteen {t} {e} {r} x y = by-number (step (view t) e) 18 (omega arith) (sym (ap answerNumber y) ∙ x .answer)
+-- the answer of a refusal is the model's
+is-refused : {t : Table} {e : Event} {r : Outcome} (a : Answer) → 1 ≤ answerNumber a → Stepped t e r → r .answer ≡ a → step (view t) e ≡ refused (answerNumber a)
+is-refused {t} {e} {r} a h x y = by-number (step (view t) e) (answerNumber a) h (sym (ap answerNumber y) ∙ x .answer)
 
 no-pass : {t : Table} {i : ℕ} {r : Outcome} → DoesNotLead (view t) i → Stepped t (Check i) r → r .answer ≡ Accepted → ⊥
 no-pass {t} {i} {r} l x y =
@@ -604,9 +605,9 @@ no-other-checks =
       other-number = λ {t} {i} {r} l y x h.
           h (answer-known (r .answer) NotCoordinator
           (x .answer ∙ ap resultNumber (check-rules .turned-away (view t) i y l)));
-      other-event = λ {t} {e} {r} x f y. f (check-rules .eighteen (view t) e (is-eighteen x y) .0);
-      too-soon = λ {t} {i} {r} f x y. f (check-rules .eighteen (view t) (Check i) (is-eighteen x y) .1);
-      to-coordinator = λ {t} {i} {r} a b x y. ⊎-elim (λ f. f a) (λ f. f b) (check-rules .eighteen (view t) (Check i) (is-eighteen x y) .2);
+      other-event = λ {t} {e} {r} x f y. f (check-rules .eighteen (view t) e (is-refused NotCoordinator (omega arith) x y) .0);
+      too-soon = λ {t} {i} {r} f x y. f (check-rules .eighteen (view t) (Check i) (is-refused NotCoordinator (omega arith) x y) .1);
+      to-coordinator = λ {t} {i} {r} a b x y. ⊎-elim (λ f. f a) (λ f. f b) (check-rules .eighteen (view t) (Check i) (is-refused NotCoordinator (omega arith) x y) .2);
       turns-away = λ {t} {i} {r} n y a b l q m x h.
           h (answer-known (r .answer) Accepted
           (x .answer ∙ ap resultNumber (check-rules .asks (view t) i y n a b l (omega (arith, q, first-length (t .waiting) noMessage (t .messages))) m)));
@@ -614,50 +615,34 @@ no-other-checks =
       one-away = λ {t} {i} {r} n y a b x h. h (answer-known (r .answer) Accepted (x .answer ∙ ap resultNumber (check-rules .one (view t) i y n a b)));
       one-changes = λ {t} {i} {r} n x h. h (x .table ∙ one-kept (view t) i n);
       early = λ n lim {es} {t} {e} {r} c few x y.
-          check-rules .not-early n lim es e few (ap (λ (s : State). step s e) (sym (code-runs .from-start n lim es t c)) ∙ is-eighteen x y);
+          check-rules .not-early n lim es e few (ap (λ (s : State). step s e) (sym (code-runs .from-start n lim es t c)) ∙ is-refused NotCoordinator (omega arith) x y);
     }
 
 -- ── T-10 ──
 
--- an answer 19 is the model's
-is-nineteen : {t : Table} {e : Event} {r : Outcome} → Stepped t e r → r .answer ≡ NoMajority → step (view t) e ≡ refused 19
-is-nineteen {t} {e} {r} x y = by-number (step (view t) e) 19 (omega arith) (sym (ap answerNumber y) ∙ x .answer)
+-- a full peal without a majority does not pass
+without-half : {t : Table} {i : ℕ} {x : TaskNo} {r : Outcome} → FullPeal (x .number) → (MoreThanHalf (t .n) (nodeAt (view t) i) → ⊥) → Stepped t (Finish i x) r → r .answer ≡ Accepted → ⊥
+without-half {t} {i} {x} p f s y = f (majority-rules .only-if (view t) i x _ _ (accepted-alike .model-accepts s y) p)
 
--- so it is that of a finish of this node with this task
-turned-away-finish : {t : Table} {i : ℕ} {x : TaskNo} {r : Outcome} → Stepped t (Finish i x) r → r .answer ≡ NoMajority → WithoutMajority (view t) i x
-turned-away-finish {t} {i} {x} s y =
-    let z = majority-rules .nineteen (view t) (Finish i x) (is-nineteen s y) in
-    subst (λ (e : Event). turned e) (sym (z .event)) (z .is)
-  where
-    turned : Event → Type 0
-    turned (Crash j) = Unit {0}
-    turned (Recover j) = Unit {0}
-    turned (Check j) = Unit {0}
-    turned (Timeout j) = Unit {0}
-    turned (Tick j) = Unit {0}
-    turned (Expire j) = Unit {0}
-    turned (Finish j v) = WithoutMajority (view t) j v
-    turned (Deliver a b) = Unit {0}
-    turned (Lose a b) = Unit {0}
-
-no-minority : {t : Table} {i : ℕ} {x : TaskNo} {r : Outcome} → FullPeal (x .number) → (MoreThanHalf (t .n) (nodeAt (view t) i) → ⊥) → Stepped t (Finish i x) r → r .answer ≡ Accepted → ⊥
-no-minority {t} {i} {x} p f s y = f (majority-rules .only-if (view t) i x _ _ (accepted-alike .model-accepts s y) p)
+-- a finish that is answered with 19 has none
+lacks-majority : {t : Table} {i : ℕ} {x : TaskNo} {r : Outcome} → Stepped t (Finish i x) r → r .answer ≡ NoMajority → WithoutMajority (view t) i x
+lacks-majority {t} {i} {x} s y = majority-rules .nineteen-finish (view t) i x (is-refused NoMajority (omega arith) s y)
 
 pub no-other-peals : NoOtherPeals
 no-other-peals =
     record {
-      passes = no-minority;
-      passes-half = λ {t} {i} p h s y. no-minority p (λ m. omega (arith, h, m)) s y;
-      changes = λ p f s h. h (s .same (no-minority p f s));
+      passes = without-half;
+      passes-half = λ {t} {i} p h s y. without-half p (λ m. omega (arith, h, m)) s y;
+      changes = λ p f s h. h (s .same (without-half p f s));
       other-number = λ {t} {i} {x} {r} f s h. h (answer-known (r .answer) NoMajority (s .answer ∙ ap resultNumber (majority-rules .turned-away (view t) i x f)));
-      other-event = λ {t} {e} s f y. let z = majority-rules .nineteen (view t) e (is-nineteen s y) in f (z .node) (z .task) (z .event);
-      other-task = λ f s y. f (turned-away-finish s y .full-peal);
-      too-soon = λ f s y. f (turned-away-finish s y .reaches);
-      to-majority = λ m s y. turned-away-finish s y .no-majority m;
-      to-one = λ {t} {e} n s y. majority-rules .one (view t) e n (is-nineteen s y);
+      other-event = λ {t} {e} s f y. let z = majority-rules .nineteen (view t) e (is-refused NoMajority (omega arith) s y) in f (z .node) (z .task) (z .event);
+      other-task = λ f s y. f (lacks-majority s y .full-peal);
+      too-soon = λ f s y. f (lacks-majority s y .reaches);
+      to-majority = λ m s y. lacks-majority s y .no-majority m;
+      to-one = λ {t} {e} n s y. majority-rules .one (view t) e n (is-refused NoMajority (omega arith) s y);
       early = λ n lim {es} {t} {e} {r} c few s y.
-          majority-rules .not-early n lim es e few (ap (λ (v : State). step v e) (sym (code-runs .from-start n lim es t c)) ∙ is-nineteen s y);
-      looks-further = λ {t} {u} {i} {x} {r} {q} n c k s y v h. h (answer-known (q .answer) NoMajority (v .answer ∙ ap resultNumber (majority-rules .turned-away (view u) i x (same t u i x n c k (turned-away-finish s y)))));
+          majority-rules .not-early n lim es e few (ap (λ (v : State). step v e) (sym (code-runs .from-start n lim es t c)) ∙ is-refused NoMajority (omega arith) s y);
+      looks-further = λ {t} {u} {i} {x} {r} {q} n c k s y v h. h (answer-known (q .answer) NoMajority (v .answer ∙ ap resultNumber (majority-rules .turned-away (view u) i x (same t u i x n c k (lacks-majority s y)))));
       turns-away = λ {t} {i} {x} {r} z f m s h. h (answer-known (r .answer) Accepted (s .answer ∙ ap resultNumber (majority-rules .passes (view t) i x z f m)));
       finishes-otherwise = λ {t} {i} {x} s y h. let q = accepted-alike .model-accepts s y in h (s .table ∙ ap (kept (view t)) q ∙ majority-rules .leaves (view t) i x _ _ q);
     }

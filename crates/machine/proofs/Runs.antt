@@ -3,7 +3,7 @@ use Prim.Native.Nat.{ℕ, zero, suc, _+_, _≤_}
 use native.Mathlib.Omega.{arith}
 use mathlib.Core.Path.{_≡_, refl, sym, _∙_, ap, subst}
 use mathlib.Core.List.{List, [], _++_}
-use mathlib.Core.Bool.{true}
+use mathlib.Core.Bool.{true, false}
 use lib.Dec.{eqb}
 use lib.ListN.{getD, replicate}
 use Rattle.model.specs.Range.{TwoPairs}
@@ -14,7 +14,7 @@ use Rattle.model.specs.State.{State, startingNode, start, nodeAt, inRange, view
 use Rattle.model.specs.Step.{actor, reactionTo, Result, refused, accepted, step, kept, runFrom, run}
 use Rattle.model.specs.Answers.{answerNumber, resultNumber}
 use Rattle.model.specs.History.{Task, coming, history}
-use Rattle.model.specs.Node.{isActive}
+use Rattle.model.specs.Node.{isDown, isActive, isCollecting}
 use Rattle.model.specs.Claims.{Lacks, Fixes, FullPeal, MoreThanHalf, PealStarted, CountedByBoth, MayStart, EachGroup}
 use Rattle.model.proofs.Judged.{accepted-is}
 use Rattle.model.proofs.Traffic.{run-n, run-limits, traffic-agrees}
@@ -224,8 +224,10 @@ module _ (chain : Chain) (folds : (t : Table) (es : List Event) (u : Table) → 
       record {
         only-if = λ {es} {u} {i} {x} {r} c s a p.
             subst (λ (v : State). MoreThanHalf n (nodeAt v i)) (sym (runs c)) (peals-by-majority TwoPairs n lim h .only-if es i x _ _ (steps n lim es (runs c) s a) p);
-        by-coordinator = λ {es} {u} {i} {x} {r} c s a.
-            ap (λ (v : State). nodeAt v i .coordinator) (runs c) ∙ peals-by-majority TwoPairs n lim h .by-coordinator es i x _ _ (steps n lim es (runs c) s a);
+        by-coordinator = λ {es} {t} c.
+            subst
+            (λ (s : State). (i : ℕ) → 1 ≤ i → i ≤ n → isDown (nodeAt s i .status) ≡ false → isCollecting (nodeAt s i .activity) ≡ true → nodeAt s i .coordinator ≡ i)
+            (sym (runs c)) (peals-by-majority TwoPairs n lim h .by-coordinator es);
         normal = λ {es} {t} c.
             subst
             (λ (s : State). (i : ℕ) → 1 ≤ i → i ≤ n → nodeAt s i .status ≡ Normal → FullPeal (nodeAt s i .task .number)
@@ -275,6 +277,9 @@ code-fixes = chain-fixes Folded folded
 
 pub code-traffic : (n : ℕ) (lim : Limits) → MayStart TwoPairs n lim → CodeTraffic Folded n lim
 code-traffic = chain-traffic Folded folded
+
+pub code-peals : (n : ℕ) (lim : Limits) → n ≤ nodeLimit → CodePeals Folded n lim
+code-peals = chain-peals Folded folded
 
 pub code-both : CodeTowerAndStand Folded
 code-both = chain-both Folded folded

@@ -13,7 +13,7 @@ use Rattle.model.specs.State.{State, startingNode, start, nodeAt, waiting, inRa
 use Rattle.model.specs.Step.{actor, reactionTo, forms, accepted, step, runFrom, run}
 use Rattle.model.specs.History.{NotFormed, NoTask, Task, newest, coming, history}
 use Rattle.model.specs.Traffic.{tally, sentIn, deliveredIn, lostIn, sendsAny, deliversAny, losesAny}
-use Rattle.model.specs.Node.{isActive}
+use Rattle.model.specs.Node.{isDown, isActive, isCollecting}
 use Rattle.model.specs.Claims.{Lacks, Fixes, FullPeal, MoreThanHalf, acceptances, PealStarted, CountedByBoth, MayStart, EachGroup, recordAfter}
 use Rattle.model.specs.declared.Limits.{Limits}
 use Rattle.model.specs.declared.Status.the-variants.{Normal}
@@ -132,13 +132,14 @@ pub record CodeTraffic (chain : Chain) (n : ℕ) (l : Limits) : Type 0 where
 -- ── 02, T-10: full peal only by a majority ──
 
 -- T-10 of the tables that the code returned: each field is that of `PealsByMajority` (model/specs/Claims), of them. Not claimed, as there: that no two coordinators start a
--- full peal; two that both counted a node may.
+-- full peal; two that both counted a node may. It is proved for n up to 16 and all l.
 pub record CodePeals (chain : Chain) (n : ℕ) (l : Limits) : Type 0 where
-  -- "A finish with such a task passes only if the coordinator and its members together are more than half of n."; and it is the coordinator's
+  -- "A finish with such a task passes only if the coordinator and its members together are more than half of n."
   pub only-if : {es : List Event} {u : Table} {i : ℕ} {x : TaskNo} {r : Outcome} → Reached chain n l es u → Stepped u (Finish i x) r → r .answer ≡ Accepted
       → FullPeal (x .number) → MoreThanHalf n (nodeAt (view u) i)
-  pub by-coordinator : {es : List Event} {u : Table} {i : ℕ} {x : TaskNo} {r : Outcome} → Reached chain n l es u → Stepped u (Finish i x) r → r .answer ≡ Accepted
-      → nodeAt (view u) i .coordinator ≡ i
+  -- and a node that collects is its own coordinator
+  pub by-coordinator : {es : List Event} {t : Table} → Reached chain n l es t → (i : ℕ) → 1 ≤ i → i ≤ n → isDown (nodeAt (view t) i .status) ≡ false
+      → isCollecting (nodeAt (view t) i .activity) ≡ true → nodeAt (view t) i .coordinator ≡ i
   -- a Normal node whose task is a full peal has it from such a finish in the list, for its group
   pub normal : {es : List Event} {t : Table} → Reached chain n l es t → (i : ℕ) → 1 ≤ i → i ≤ n → nodeAt (view t) i .status ≡ Normal → FullPeal (nodeAt (view t) i .task .number)
       → PealStarted TwoPairs n l es (nodeAt (view t) i .group .number) (nodeAt (view t) i .task .number)
@@ -146,7 +147,7 @@ pub record CodePeals (chain : Chain) (n : ℕ) (l : Limits) : Type 0 where
   pub share : {es fs : List Event} {t u : Table} {i j : ℕ} {x y : TaskNo} {r q : Outcome} → Reached chain n l es t → Reached chain n l fs u
       → Stepped t (Finish i x) r → r .answer ≡ Accepted → FullPeal (x .number) → Stepped u (Finish j y) q → q .answer ≡ Accepted → FullPeal (y .number)
       → CountedByBoth n (view t) i (view u) j
-  -- "The count is of acceptances": a node's member set is that of the nodes whose Accept it took since it formed its group
+  -- "The count is of acceptances": a node's member set is that of the nodes whose Accept it took since it last formed a group
   pub of-acceptances : {es : List Event} {t : Table} → Reached chain n l es t → (i : ℕ) → 1 ≤ i → i ≤ n → nodeAt (view t) i .members ≡ acceptances TwoPairs n l es i
 
 -- ── 02, T-08: for which tables this is claimed ──

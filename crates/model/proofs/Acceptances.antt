@@ -1,4 +1,4 @@
--- A node's member set is that of the nodes whose acceptances it has counted since it formed its group (02, T-10). One lemma a procedure.
+-- A node's member set is that of the nodes whose acceptances it has counted since it last formed a group (02, T-10). One lemma a procedure.
 use Prim.Native.Nat.{ℕ, _+_, _-_, _≤_}
 use native.Mathlib.Omega.{arith}
 use mathlib.Core.Bool.{Bool, true, false, _&&_}

@@ -1,7 +1,7 @@
 -- No event among the first seven of a run meets 18 (02, T-06), and none among the first six meets 19 (T-10): what nodes and messages can be after k events, for k up to 6.
 -- One lemma a procedure.
 -- A message takes a recovery and a check; a reply takes a second recovery and a delivery more; an invitation, or a node that has found another, the delivery of a reply more; and
--- a node that acts on an invitation its delivery more, which makes six, and so does a node that collects, as it has invited another. Up to there, of the nodes that are not Down only those that are Normal and
+-- a node that acts on an invitation its delivery more, which makes six. A node that collects takes six too, as it has invited another. Up to there, of the nodes that are not Down only those that are Normal and
 -- their own coordinators are idle.
 use Prim.Native.Nat.{ℕ, _+_, _-_, _≤_}
 use native.Mathlib.Omega.{arith}
@@ -149,7 +149,7 @@ module _ (k i : ℕ) where
   recovered-after : (c : Node) → 1 ≤ k → P (recovers i c)
   recovered-after c h = record { node = inr (eq-eqb i i refl, h); outgoing = tt }
 
-  -- the first of f is invited, or, in one event more, nobody
+  -- where f is empty, one event more has gone by, so that it may collect
   invite-after : (c : Node) (mk : Mark) (f o : ℕ) → c .coordinator ≡ i → 5 ≤ k → (f ≡ 0 → 6 ≤ k) → P (inviteNext i c mk f o)
   unfolding inviteNext
   invite-after c mk f o e h g =

@@ -1,10 +1,10 @@
 -- Full peal only by a majority (02, T-10): the claims `MajorityRules`.
-use Prim.Native.Nat.{ℕ, zero, suc, _+_, _-_, _*_, _≤_, _<_}
+use Prim.Native.Nat.{ℕ, zero, suc, _+_, _*_, _≤_, _<_}
 use native.Mathlib.Nat.{lt-of-not-le}
 use native.Mathlib.Omega.{arith}
 use mathlib.Core.Bool.{Bool, true, false, not, _&&_, true≢false}
 use mathlib.Core.Logic.{_⊎_, inl, inr}
-use mathlib.Core.Path.{_≡_, refl, sym, _∙_, subst}
+use mathlib.Core.Path.{_≡_, refl, sym, _∙_, ap, subst}
 use mathlib.Core.List.{List, [], _∷_, append-nil}
 use lib.Dec.{eqb, leb}
 use lib.ListN.{length}
@@ -128,32 +128,31 @@ passes s i t x f h = finish s i t ∙ rw (x .in-range, x .number, x .given, x .n
 
 -- ── 19 ──
 module _ (s : State) where
-  -- what it asks is asked of a finish
-  only-finish : (e : Event) → step s e ≡ refused 19 → noMajority (s .n) (nodeAt s (actor e)) e ≡ true → MeetsNineteen s e
+  nineteen-finish : (i : ℕ) (t : TaskNo) → step s (Finish i t) ≡ refused 19 → WithoutMajority s i t
   unfolding grounds pick
+  nineteen-finish i t q =
+      let a = met s (Finish i t) 19 refl q in
+      record {
+        reaches = record {
+          in-range = not-false _ (passed s (Finish i t) 1 19 refl q);
+          number = not-false _ (passed s (Finish i t) 7 19 refl q);
+          given = not-false _ (passed s (Finish i t) 8 19 refl q);
+          not-down = passed s (Finish i t) 9 19 refl q;
+          collects = not-false _ (passed s (Finish i t) 10 19 refl q);
+        };
+        full-peal = full-peal-is (t .number) (both-left (isFullPeal (t .number)) _ a);
+        no-majority = at-most (s .n) (nodeAt s i) (leb-true _ (s .n) (both-right (isFullPeal (t .number)) _ a));
+      }
+
+  -- no other event asks for a majority
+  only-finish : (e : Event) → step s e ≡ refused 19 → noMajority (s .n) (nodeAt s (actor e)) e ≡ true → MeetsNineteen s e
   only-finish (Crash i) q a = absurd (true≢false (sym a))
   only-finish (Recover i) q a = absurd (true≢false (sym a))
   only-finish (Check i) q a = absurd (true≢false (sym a))
   only-finish (Timeout i) q a = absurd (true≢false (sym a))
   only-finish (Tick i) q a = absurd (true≢false (sym a))
   only-finish (Expire i) q a = absurd (true≢false (sym a))
-  only-finish (Finish i t) q a =
-      record {
-        node = i;
-        task = t;
-        event = refl;
-        is = record {
-          reaches = record {
-            in-range = not-false _ (passed s (Finish i t) 1 19 refl q);
-            number = not-false _ (passed s (Finish i t) 7 19 refl q);
-            given = not-false _ (passed s (Finish i t) 8 19 refl q);
-            not-down = passed s (Finish i t) 9 19 refl q;
-            collects = not-false _ (passed s (Finish i t) 10 19 refl q);
-          };
-          full-peal = full-peal-is (t .number) (both-left (isFullPeal (t .number)) _ a);
-          no-majority = at-most (s .n) (nodeAt s i) (leb-true _ (s .n) (both-right (isFullPeal (t .number)) _ a));
-        };
-      }
+  only-finish (Finish i t) q a = record { node = i; task = t; event = refl; is = nineteen-finish i t q }
   only-finish (Deliver a b) q x = absurd (true≢false (sym x))
   only-finish (Lose a b) q x = absurd (true≢false (sym x))
 
@@ -161,23 +160,16 @@ module _ (s : State) where
   unfolding grounds pick
   nineteen e q = only-finish e q (met s e 19 refl q)
 
+  -- and such a finish does meet it
+  pub met-nineteen : (e : Event) → MeetsNineteen s e → step s e ≡ refused 19
+  met-nineteen e x = ap (step s) (x .event) ∙ turned-away s (x .node) (x .task) (x .is)
+
   as-before : (e : Event) → (MeetsNineteen s e → ⊥) → step s e ≡ stepWithoutNineteen s e
   unfolding step
   as-before e f = judged-without refused (λ a b. refused-same) _ (λ x. accepted-apart) 19 (grounds s e) (λ q. f (nineteen e q))
 
   other-tasks : (i : ℕ) (t : TaskNo) → (FullPeal (t .number) → ⊥) → step s (Finish i t) ≡ stepWithoutNineteen s (Finish i t)
-  other-tasks i t f = as-before (Finish i t) (λ x. f (subst (λ (e : Event). FullPeal (taskOf e .number)) (sym (x .event)) (x .is .full-peal)))
-    where
-      taskOf : Event → TaskNo
-      taskOf (Crash i) = t
-      taskOf (Recover i) = t
-      taskOf (Check i) = t
-      taskOf (Timeout i) = t
-      taskOf (Tick i) = t
-      taskOf (Expire i) = t
-      taskOf (Finish i v) = v
-      taskOf (Deliver a b) = t
-      taskOf (Lose a b) = t
+  other-tasks i t f = as-before (Finish i t) (λ x. f (nineteen-finish i t (met-nineteen (Finish i t) x) .full-peal))
 
   one : (e : Event) → s .n ≡ 1 → step s e ≡ refused 19 → ⊥
   one e h q = nineteen e q .is .no-majority (omega arith)
@@ -268,4 +260,4 @@ not-early n lim es e few q =
     early-collects n lim es few (x .node) (p .low) (p .high) (x .is .reaches .not-down) (x .is .reaches .collects)
 
 pub majority-rules : MajorityRules
-majority-rules = record { finishes = finish; leaves = leaves; only-if = only-if; turned-away = turned-away; nineteen = nineteen; at-most = at-most; else-more = else-more; passes = passes; as-before = as-before; other-tasks = other-tasks; one = one; not-early = not-early; share = share }
+majority-rules = record { finishes = finish; leaves = leaves; only-if = only-if; turned-away = turned-away; nineteen = nineteen; nineteen-finish = nineteen-finish; at-most = at-most; else-more = else-more; passes = passes; as-before = as-before; other-tasks = other-tasks; one = one; not-early = not-early; share = share }

@@ -1,20 +1,19 @@
 -- Full peals in a run (02, T-10): the claims `PealsByMajority`.
 use Prim.Native.Nat.{ℕ, _≤_}
 use native.Mathlib.Omega.{arith}
+use mathlib.Core.Bool.{true, false}
 use mathlib.Core.Logic.{_⊎_, inl, inr}
 use mathlib.Core.Path.{_≡_, sym, _∙_, ap, subst}
 use mathlib.Core.List.{List, _∷_, _++_}
 use borrow.Author.Tests.{not-false}
 use Rattle.model.specs.Range.{PairRule}
-use Rattle.model.specs.Node.{ownerOf}
+use Rattle.model.specs.Node.{isDown, isCollecting}
 use Rattle.model.specs.State.{State, startBy, nodeAt}
 use Rattle.model.specs.Step.{step, runBy, accepted}
-use Rattle.model.specs.History.{historyBy}
 use Rattle.model.specs.Claims.{Recovering, Finishing, Fixes, FullPeal, MoreThanHalf, CountedByBoth, PealStarted, PealsByMajority}
 use Rattle.model.proofs.Judged.{accepted-is}
-use Rattle.model.proofs.Invariant.{owner-of}
-use Rattle.model.proofs.Whole.{run-fixes}
-use Rattle.model.proofs.Fields.{node-is, node-facts, in-range-node}
+use Rattle.model.proofs.Whole.{run-collects}
+use Rattle.model.proofs.Fields.{node-is}
 use Rattle.model.proofs.Acceptances.{of-acceptances}
 use Rattle.model.proofs.InRange.{event-in}
 use Rattle.model.proofs.Fixed.{task-from-list}
@@ -28,13 +27,16 @@ use Rattle.model.specs.declared.Event.{Event}
 use Rattle.model.specs.declared.Event.the-variants.{Finish}
 
 module _ (rule : PairRule) (n : ℕ) (lim : Limits) (small : n ≤ 16) where
-  -- a node that is told to finish, and does, is its own coordinator: the group that it has is the one that it formed last
-  own : (es : List Event) (i : ℕ) (t : TaskNo) (u : State) (k : Mark) → step (runBy rule n lim es) (Finish i t) ≡ accepted u k → nodeAt (runBy rule n lim es) i .coordinator ≡ i
-  own es i t u k q =
+  own : (es : List Event) (i : ℕ) → 1 ≤ i → i ≤ n → isDown (nodeAt (runBy rule n lim es) i .status) ≡ false → isCollecting (nodeAt (runBy rule n lim es) i .activity) ≡ true
+      → nodeAt (runBy rule n lim es) i .coordinator ≡ i
+  own es i low high up q = run-collects rule n lim small es i low (omega (arith, high, run-n (startBy rule n lim) es)) up q
+
+  -- so is one whose finish is accepted
+  finishing : (es : List Event) (i : ℕ) (t : TaskNo) (u : State) (k : Mark) → step (runBy rule n lim es) (Finish i t) ≡ accepted u k → nodeAt (runBy rule n lim es) i .coordinator ≡ i
+  finishing es i t u k q =
       let c = accepted-is (runBy rule n lim es) (Finish i t) u k q .clear in
       let p = node-is (runBy rule n lim es .n) i (not-false _ (c .number)) in
-      let f = node-facts _ i (nodeAt (runBy rule n lim es) i) (in-range-node (runBy rule n lim es) i (c .in-range) (p .low) (p .high)) in
-      sym (f .led (c .status)) ∙ ap ownerOf (run-fixes rule n lim small .own-group es i t u k q) ∙ owner-of (historyBy rule n lim es .count i) i (record { low = p .low; high = omega (arith, p .high, run-n (startBy rule n lim) es, small) })
+      run-collects rule n lim small es i (p .low) (p .high) (c .status) (not-false _ (c .activity))
 
   only-if : (es : List Event) (i : ℕ) (t : TaskNo) (u : State) (k : Mark) → step (runBy rule n lim es) (Finish i t) ≡ accepted u k → FullPeal (t .number)
       → MoreThanHalf n (nodeAt (runBy rule n lim es) i)
@@ -61,7 +63,7 @@ module _ (rule : PairRule) (n : ℕ) (lim : Limits) (small : n ≤ 16) where
             number = x .number;
             finishes = q;
             group = x .group;
-            coordinator = own (f .before) (x .node) (x .task) (x .table) Plain q;
+            coordinator = finishing (f .before) (x .node) (x .task) (x .table) Plain q;
             majority = only-if (f .before) (x .node) (x .task) (x .table) Plain q (subst FullPeal (sym (x .number)) p);
           }
 

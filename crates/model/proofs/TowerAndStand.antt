@@ -1,4 +1,4 @@
--- T-08: demand 3, the traffic and the range for any limits not above the tower's, with the rule of the two pairs left out; and for the tower and the stand.
+-- T-08: demand 3, the traffic, T-10 and the range for any limits not above the tower's, with the rule of the two pairs left out; and for the tower and the stand.
 use Prim.Native.Nat.{ℕ}
 use mathlib.Core.Bool.{Bool, true, false, not}
 use mathlib.Core.Path.{_≡_, refl, sym, _∙_, ap, subst}

@@ -11,7 +11,7 @@ use lib.ListN.{length, getD, set, length-set, length-replicate, getD-replicate}
 use lib.Seq.{getD-set-same, getD-set-other}
 use borrow.Author.Tests.{eqb-true, eqb-false, not-false}
 use Rattle.model.specs.Pick.{by-test}
-use Rattle.model.specs.Node.{ownerOf, counterOf, isActive}
+use Rattle.model.specs.Node.{ownerOf, counterOf, isDown, isActive, isCollecting}
 use Rattle.model.specs.React.{react}
 use Rattle.model.specs.Range.{PairRule, carriesGroup}
 use Rattle.model.specs.State.{State, startingNode, startBy, nodeAt, noMessage, oldest, withoutOldest}
@@ -20,7 +20,7 @@ use Rattle.model.specs.History.{Task, History, blank, coming, marked, gi
 use Rattle.model.specs.Claims.{Unsent, Lacks, EachGroup, RunFixes}
 use Rattle.model.proofs.Judged.{Clear, by-step, Accepted, accepted-is}
 use Rattle.model.proofs.Invariant.{NodeNumber, Led, Gathering, NodeOk, MessageOk, HistoryOk, OutgoingOk, MarkOk, ReactionOk, Extends, extends-refl, extends-trans, owner-of, counter-of, message-extends, node-extends, task-is, coming-not-formed, marked-extends, marked-ok, tasked-extends, tasked-ok}
-use Rattle.model.proofs.Local.{stays-ok, react-ok, collecting-gathers, finish-ok}
+use Rattle.model.proofs.Local.{led-up, stays-ok, react-ok, collecting-gathers, finish-ok}
 use Rattle.model.proofs.Numbers.{actor-in}
 use Rattle.model.proofs.Origin.{finish-mark, Source, group-source, oldest-held, Carries, group-sent}
 use Rattle.model.specs.declared.Limits.{Limits}
@@ -408,3 +408,12 @@ run-fixes rule n lim small =
 
     growth : (es fs : List Event) → Grows (historyBy rule n lim es) (historyBy rule n lim (es ++ fs))
     growth es fs = rw (history-append blank (startBy rule n lim) es fs) (run-grows (historyBy rule n lim es) (runBy rule n lim es) fs (good es))
+
+-- in a run a node that collects, and is not Down, is its own coordinator: the group that it has is the one that it formed last
+pub run-collects : (rule : PairRule) (n : ℕ) (lim : Limits) → n ≤ 16 → (es : List Event) (i : ℕ) → 1 ≤ i → i ≤ runBy rule n lim es .n → isDown (nodeAt (runBy rule n lim es) i .status) ≡ false
+    → isCollecting (nodeAt (runBy rule n lim es) i .activity) ≡ true → nodeAt (runBy rule n lim es) i .coordinator ≡ i
+run-collects rule n lim small es i low high up q =
+    let ok = good-run blank (startBy rule n lim) es (start-good rule n lim small) .state in
+    let c = ok .nodes i low high in
+    let own = collecting-gathers (nodeAt (runBy rule n lim es) i .task .number) (nodeAt (runBy rule n lim es) i .activity) q (c .busy) .own in
+    led-up (nodeAt (runBy rule n lim es) i .status) _ _ up (c .led) ∙ ap ownerOf own ∙ owner-of (historyBy rule n lim es .count i) i (record { low = low; high = omega (arith, high, ok .size) })

@@ -430,7 +430,7 @@ node s k g o t m l a = record {
 abbrev pub filled : Status → ℕ → ℕ → ℕ → ℕ → ℕ → Activity → Node
 filled s g o t m l a = node s 1 g o t m l a
 
--- T-10: n nodes in a table with the limits l: node 1 collects for its group 16, with the members m and the last call number k, and the others are as at the start
+-- T-10: n nodes in a table with the limits l: node 1 collects for its group 16, with the members m and the last call number k, the others are as at the start, and the messages q wait
 abbrev pub gatheredIn : Limits → ℕ → ℕ → ℕ → List Message → State
 gatheredIn l n m k q = allWaiting n l (filled Election 16 1 1 m k Collecting ∷ replicate (n - 1) startingNode) q
 
@@ -1042,14 +1042,14 @@ abbrev pub countedTwice : List Event
 countedTwice = firstTwo ++ (lastTwo ++ (Finish 2 (taskNo 100) ∷ Finish 3 (taskNo 199) ∷ Deliver 2 1 ∷ Deliver 1 2 ∷ Deliver 3 1 ∷ Deliver 1 3 ∷ []))
 
 pub record MajorityCases : Type 0 where
-  -- one of two: 100 and 199 are refused with 19; 99 with 8; 200 passes, and so does the last task
+  -- one of two: 100, 150 and 199 are refused with 19; 99 with 8; 200 passes, and so does the last task
   pub one-of-two : step (gathered 2 []) (Finish 1 (taskNo 100)) ≡ refused 19
   pub one-of-two-between : step (gathered 2 []) (Finish 1 (taskNo 150)) ≡ refused 19
   pub one-of-two-end : step (gathered 2 []) (Finish 1 (taskNo 199)) ≡ refused 19
   pub one-of-two-below : step (gathered 2 []) (Finish 1 (taskNo 99)) ≡ refused 8
   pub one-of-two-above : printedFields (after (gathered 2 []) (Finish 1 (taskNo 200))) 1 ≡ finished 3 200 0
   pub one-of-two-last : printedFields (after (gathered 2 []) (Finish 1 (taskNo 65535))) 1 ≡ finished 3 65535 0
-  -- two of two, and two of three: 100 and 199 pass, and 200 as before
+  -- two of two, and two of three: 100 and 199 pass, and 200 as before (of two of two: NamedCases.k6-passes)
   pub two-of-two : printedFields (after (gathered 2 (2 ∷ [])) (Finish 1 (taskNo 100))) 1 ≡ finished 2 100 1
   pub two-of-two-end : printedFields (after (gathered 2 (2 ∷ [])) (Finish 1 (taskNo 199))) 1 ≡ finished 2 199 1
   pub two-of-three : printedFields (after (gathered 3 (3 ∷ [])) (Finish 1 (taskNo 100))) 1 ≡ finished 2 100 1

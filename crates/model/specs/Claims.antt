@@ -176,7 +176,7 @@ abbrev pub FullPeal : ℕ → Type 0
 FullPeal t = (100 ≤ t) × (t ≤ 199)
 
 -- "the coordinator and its members together are more than half of n", by the record of the node that is told to finish: it counts itself and each node of its member set. In a
--- run that node is its own coordinator (PealsByMajority.by-coordinator).
+-- run a node that collects is its own coordinator (PealsByMajority.by-coordinator).
 abbrev pub MoreThanHalf : ℕ → Node → Type 0
 MoreThanHalf n c = n < 2 * (1 + count (c .members))
 
@@ -198,7 +198,8 @@ withAcceptance s (Finish i t) m = m
 withAcceptance s (Deliver a b) m = pick (isAcceptance s a b) (with m a) m
 withAcceptance s (Lose a b) m = m
 
--- the nodes whose acceptances node i has counted, m before the event e: none where i forms a group in it, and else one more where it is an acceptance by i
+-- the nodes whose acceptances node i has counted, m before the event e: none where i forms a group in it, and else its sender too where it is an
+-- acceptance that i takes
 abbrev pub countedNext : ℕ → State → ℕ → Event → Result → ℕ
 countedNext i s m e (refused r) = m
 countedNext i s m e (accepted u k) = pick (eqb (actor e) i) (pick (forms k) 0 (withAcceptance s e m)) m
@@ -211,7 +212,7 @@ acceptancesFrom i s m (e ∷ es) = acceptancesFrom i (after s e) (countedNext i 
 abbrev pub acceptances : PairRule → ℕ → Limits → List Event → ℕ → ℕ
 acceptances r n l es i = acceptancesFrom i (startBy r n l) 0 es
 
--- after a beginning of the list es, a finish with the full peal t by the coordinator of the group g is accepted; just before it, that node counts more than half of n
+-- after a beginning of the list es, a finish with the task t by the coordinator of the group g is accepted; just before it, that node counts more than half of n
 pub record PealStarted (r : PairRule) (n : ℕ) (l : Limits) (es : List Event) (g t : ℕ) : Type 0 where
   pub before : List Event
   pub node : ℕ
@@ -240,11 +241,14 @@ pub record CountedByBoth (n : ℕ) (s : State) (i : ℕ) (u : State) (j : ℕ) :
 -- Of every list of events from the starting table of n nodes with the limits l. "the smaller part of a split tower should not start one": what is claimed is that whoever
 -- starts one counts more than half of n, and so that two coordinators which start one count a common node. Not claimed is that no two start one: "The count is of
 -- acceptances: a member that has left since still counts, so nothing is said about two coordinators that both counted it." (`countedTwice` of Cases is a run in which two do.)
+-- It is proved for n up to 16 and all l.
 pub record PealsByMajority (r : PairRule) (n : ℕ) (l : Limits) : Type 0 where
-  -- "A finish with such a task passes only if the coordinator and its members together are more than half of n.": at each event of the list; and it is the coordinator's
+  -- "A finish with such a task passes only if the coordinator and its members together are more than half of n.": at each event of the list
   pub only-if : (es : List Event) (i : ℕ) (t : TaskNo) (u : State) (k : Mark) → step (runBy r n l es) (Finish i t) ≡ accepted u k → FullPeal (t .number)
       → MoreThanHalf n (nodeAt (runBy r n l es) i)
-  pub by-coordinator : (es : List Event) (i : ℕ) (t : TaskNo) (u : State) (k : Mark) → step (runBy r n l es) (Finish i t) ≡ accepted u k → nodeAt (runBy r n l es) i .coordinator ≡ i
+  -- and a node that can be told to finish, as it collects, is its own coordinator: so is one that is refused with 19
+  pub by-coordinator : (es : List Event) (i : ℕ) → 1 ≤ i → i ≤ n → isDown (nodeAt (runBy r n l es) i .status) ≡ false → isCollecting (nodeAt (runBy r n l es) i .activity) ≡ true
+      → nodeAt (runBy r n l es) i .coordinator ≡ i
   -- a Normal node whose task is a full peal has it from such a finish in the list, for its group
   pub normal : (es : List Event) (i : ℕ) → 1 ≤ i → i ≤ n → nodeAt (runBy r n l es) i .status ≡ Normal → FullPeal (nodeAt (runBy r n l es) i .task .number)
       → PealStarted r n l es (nodeAt (runBy r n l es) i .group .number) (nodeAt (runBy r n l es) i .task .number)
@@ -253,7 +257,8 @@ pub record PealsByMajority (r : PairRule) (n : ℕ) (l : Limits) : Type 0 where
   -- two full peals that are accepted, in whatever places of lists, have a node that is counted for both
   pub share : (es fs : List Event) (i j : ℕ) (t v : TaskNo) (x y : State) (k m : Mark) → step (runBy r n l es) (Finish i t) ≡ accepted x k → FullPeal (t .number)
       → step (runBy r n l fs) (Finish j v) ≡ accepted y m → FullPeal (v .number) → CountedByBoth n (runBy r n l es) i (runBy r n l fs) j
-  -- "The count is of acceptances": a node's member set is that of the nodes whose Accept it took since it formed its group, whatever they did later
+  -- "The count is of acceptances": a node's member set is that of the nodes whose Accept it took since it last formed a group, whatever they did
+  -- later
   pub of-acceptances : (es : List Event) (i : ℕ) → 1 ≤ i → i ≤ n → nodeAt (runBy r n l es) i .members ≡ acceptances r n l es i
 
 -- ── T-08: for which tables this is claimed ──
@@ -905,6 +910,7 @@ pub record MajorityRules : Type 0 where
   pub turned-away : (s : State) (i : ℕ) (t : TaskNo) → WithoutMajority s i t → step s (Finish i t) ≡ refused 19
   -- "Checks: 19, finish with task 100 to 199 when ..": no other event meets it, and no other finish
   pub nineteen : (s : State) (e : Event) → step s e ≡ refused 19 → MeetsNineteen s e
+  pub nineteen-finish : (s : State) (i : ℕ) (t : TaskNo) → step s (Finish i t) ≡ refused 19 → WithoutMajority s i t
   -- "twice the members plus two is at most n" says the same as that the coordinator and its members are not more than half of n
   pub at-most : (n : ℕ) (c : Node) → 2 * count (c .members) + 2 ≤ n → MoreThanHalf n c → ⊥
   pub else-more : (n : ℕ) (c : Node) → (2 * count (c .members) + 2 ≤ n → ⊥) → MoreThanHalf n c

@@ -173,8 +173,8 @@ notCoordinator c (Finish i t) = false
 notCoordinator c (Deliver a b) = false
 notCoordinator c (Lose a b) = false
 
--- 19: "finish with task 100 to 199 when twice the members plus two is at most n", by n and the record of the event's node. Its members are those whose
--- acceptance it has received since its merge: "The count is of acceptances: a member that has left since still counts" (PealsByMajority.of-acceptances)
+-- 19: "finish with task 100 to 199 when twice the members plus two is at most n", by n and the record of the event's node. In a run its members
+-- are those whose acceptance it has received since its merge: "The count is of acceptances: a member that has left since still counts" (PealsByMajority.of-acceptances)
 abbrev pub noMajority : ℕ → Node → Event → Bool
 noMajority n c (Crash i) = false
 noMajority n c (Recover i) = false

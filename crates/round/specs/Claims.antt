@@ -154,7 +154,7 @@ pub record RoundOfTheCable : Type 0 where
   pub stays : (s : State) (p : Place) (ms : List Move) → AtPair s p → AtPair (driven (drive s p) ms .table) (driven (drive s p) ms .place)
   pub places : (s : State) (p : Place) (ms : List Move) → AtPair s p → driven (drive s p) ms .place ≡ later (s .n) (turns ms) p
 
--- ── demand 3 and the range of the driver's runs ──
+-- ── demand 3 and all else that holds of runs, of the driver's runs ──
 
 -- the table after a schedule from the starting table of n nodes with the limits l, first at the place p, and the events of that schedule
 abbrev pub tableBy : PairRule → ℕ → Limits → Place → List Move → State
@@ -167,7 +167,7 @@ eventsBy r n l p ms = eventsOf (drive (startBy r n l) p) ms
 pub record DriverHolds (r : PairRule) (n : ℕ) (l : Limits) : Type 0 where
   -- its turns are events of a run: the table after it is that of the run of its events (and those before it, of beginnings of them: `ScheduleIsRun.beginning`)
   pub is-run : (p : Place) (ms : List Move) → tableBy r n l p ms ≡ runBy r n l (eventsBy r n l p ms)
-  -- of which, as of every list of events, all this holds: demand 3, where in the list each task comes from, the traffic, and the range
+  -- of which, as of every list of events, all this holds: demand 3, where in the list each task comes from, the traffic, full peals (T-10), and the range
   pub holds : RunHolds r n l
   -- So its tables are in range, no turn on them meets 1, and no event 17, which leaves 12 and 13 for a delivery that becomes a loss;
   pub in-range : (p : Place) (ms : List Move) → inRange (tableBy r n l p ms) ≡ true

@@ -1,4 +1,4 @@
--- "The rig keeps one table for a whole session and applies each event to it": calls of `apply` on one lent table, and demand 3 and T-05 of them.
+-- "The rig keeps one table for a whole session and applies each event to it": calls of `apply` on one lent table, and demand 3, T-05 and T-10 of them.
 use Prim.Native.Nat.{ℕ, _≤_}
 use mathlib.Core.List.{List, [], _∷_}
 use Rattle.model.specs.Limits.{nodeLimit}
@@ -25,5 +25,5 @@ pub record SessionFixes : Type 0 where
   pub runs : CodeRuns Applied
   -- demand 3, whole, holds of it, with any limits
   pub fixes : (n : ℕ) (l : Limits) → n ≤ nodeLimit → CodeFixes Applied n l
-  -- and so does T-05, in the tower and on the stand
+  -- and so do T-05 and T-10, in the tower and on the stand
   pub both : CodeTowerAndStand Applied

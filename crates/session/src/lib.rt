@@ -6,8 +6,8 @@ use model::Outcome;
 use model::Table;
 
 // One event on a lent table, any event on any table: the by-value step, and a store of its result. The answer, and what the table holds
-// at exit, are what `machine::step` promises of what it held at entry. Calls on one table, one after another, are `Applied` in specs/Applied, and demand 3 and
-// T-05 hold of them.
+// at exit, are what `machine::step` promises of what it held at entry. Calls on one table, one after another, are `Applied` in specs/Applied, and demand 3,
+// T-05 and T-10 hold of them.
 pub fn apply(table: &mut Table, event: Event) -> Answer
     ensures { λ r. ⌜ Stepped (now (table .entry)) event (record { answer = r; table = now (table .exit) }) ⌝ }
 {

@@ -5,7 +5,7 @@ use mathlib.Core.Bool.{Bool, true, false}
 use mathlib.Core.Path.{_≡_, refl, sym, _∙_, ap}
 use mathlib.Core.List.{List, [], _∷_, _++_, map}
 use lib.Dec.{eqb}
-use borrow.Author.Tests.{eqb-true, eqb-false, le-leb}
+use borrow.Author.Tests.{eqb-true, eqb-false}
 use Rattle.model.specs.Limits.{tower}
 use Rattle.model.specs.Pick.{pick, pick-true}
 use Rattle.model.specs.State.{State, start}
@@ -13,19 +13,19 @@ use Rattle.model.specs.Step.{Result, refused, accepted, step, kept, run}
 use Rattle.model.specs.Answers.{resultNumber}
 use Rattle.model.specs.Claims.{stepWithoutNineteen}
 use Rattle.model.proofs.Judged.{accepted-apart, refused-same}
-use Rattle.model.proofs.Majority.{majority-rules}
+use Rattle.model.proofs.Majority.{met-nineteen, majority-rules}
 use Rattle.model.proofs.Traffic.{run-n}
 use Rattle.model.specs.declared.Event.{Event}
 use Rattle.listing.specs.Printing.{joined}
 use Rattle.short_lists_text.specs.Rows.{concatMap}
 use Rattle.short_lists_text.specs.Lists.{alphabet, continued, listsFrom}
-use Rattle.short_lists_text.specs.Text.{linesOf, fits, textOf}
+use Rattle.short_lists_text.specs.Text.{linesOf, textOf}
 use Rattle.short_lists_text.specs.Claims.{listsBy, answersBy, isOneOf, withoutNineteen, ListsFewer}
-use Rattle.short_lists_text.proofs.Stay.{same-rows, from-start}
+use Rattle.short_lists_text.proofs.Stay.{same-rows, from-start, text-of}
 
 -- where 19 is not met, the machine's step is the one without it
 not-met : (s : State) (e : Event) → (step s e ≡ refused 19 → ⊥) → step s e ≡ stepWithoutNineteen s e
-not-met s e f = majority-rules .as-before s e (λ z. f (ap (step s) (z .event) ∙ majority-rules .turned-away s (z .node) (z .task) (z .is)))
+not-met s e f = majority-rules .as-before s e (λ z. f (met-nineteen s e z))
 
 -- ── leaving lists out ──
 module _ (s : State) where
@@ -107,8 +107,7 @@ same-lists n m h =
     sym (from-start stepWithoutNineteen n 6 (λ es e l. sym (not-met (run n tower es) e (majority-rules .not-early n tower es e (omega (arith, l))))) m h)
 
 texts : (n m : ℕ) → 1 ≤ n → n ≤ 3 → m ≤ 7 → textOf (n ∷ m ∷ []) ≡ joined (linesOf (withoutNineteen (start n tower) (listsBy stepWithoutNineteen m (start n tower))))
-unfolding textOf fits pick
-texts n m l h k = rw (le-leb 1 n l, le-leb n 3 h, le-leb m 7 k, lists m (start n tower))
+texts n m l h k = text-of n m l h k ∙ ap (λ (ls : List (List Event)). joined (linesOf ls)) (lists m (start n tower))
 
 -- with one node
 alone : (m : ℕ) → listsFrom m (start 1 tower) ≡ listsBy stepWithoutNineteen m (start 1 tower)

@@ -1,7 +1,7 @@
--- Lists that a step makes which does the same at the first events of a run; T-01's lists are what they were before T-06, as none of their events meets 18.
+-- Lists that a step makes which does the same at the first events of a run; T-06 takes none of T-01's lists away, as none of their events meets 18.
 use Prim.Native.Nat.{ℕ, zero, suc, _+_, _≤_, _<_}
 use native.Mathlib.Omega.{arith}
-use mathlib.Core.Path.{_≡_, refl, _∙_, ap, ap₂, subst}
+use mathlib.Core.Path.{_≡_, refl, sym, _∙_, ap, ap₂, subst}
 use mathlib.Core.List.{List, [], _∷_, _++_, map}
 use lib.ListN.{length, length-append}
 use borrow.Author.Tests.{eqb-true, le-leb}
@@ -44,6 +44,11 @@ module _ (f : State → Event → Result) (n k : ℕ) (same : (es : List Event) 
   unfolding runFrom
   from-start m h = from-run m [] (omega (arith, h))
 
+-- the text of an input that is allowed
+pub text-of : (n m : ℕ) → 1 ≤ n → n ≤ 3 → m ≤ 7 → textOf (n ∷ m ∷ []) ≡ joined (linesOf (listsFrom m (start n tower)))
+unfolding textOf fits pick
+text-of n m l h k = rw (le-leb 1 n l, le-leb n 3 h, le-leb m 7 k)
+
 -- ── T-06 ──
 unchecked : (n : ℕ) (es : List Event) (e : Event) → length es < 7 → stepWithoutEighteen (run n tower es) e ≡ step (run n tower es) e
 unchecked n es e h = by (step (run n tower es) e) refl
@@ -57,8 +62,7 @@ lists : (n m : ℕ) → m ≤ 7 → listsBy stepWithoutEighteen m (start n tower
 lists n m h = from-start stepWithoutEighteen n 7 (unchecked n) m h
 
 texts : (n m : ℕ) → 1 ≤ n → n ≤ 3 → m ≤ 7 → textOf (n ∷ m ∷ []) ≡ joined (linesOf (listsBy stepWithoutEighteen m (start n tower)))
-unfolding textOf fits pick
-texts n m l h k = rw (le-leb 1 n l, le-leb n 3 h, le-leb m 7 k, lists n m k)
+texts n m l h k = text-of n m l h k ∙ ap (λ (ls : List (List Event)). joined (linesOf ls)) (sym (lists n m k))
 
 pub lists-stay : ListsStay
 lists-stay = record { lists = lists; texts = texts }
