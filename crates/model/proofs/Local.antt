@@ -30,13 +30,13 @@ pub both-left : (x y : Bool) → (x && y) ≡ true → x ≡ true
 both-left true y e = refl
 both-left false y e = e
 
-pub right-fails : (x : Bool) {y : Bool} → y ≡ false → x && y ≡ false
-right-fails true e = e
-right-fails false e = refl
-
 pub both-right : (x y : Bool) → (x && y) ≡ true → y ≡ true
 both-right true y e = e
 both-right false y e = absurd (true≢false (sym e))
+
+pub right-fails : (x : Bool) {y : Bool} → y ≡ false → x && y ≡ false
+right-fails true e = e
+right-fails false e = refl
 
 -- who is not Down has its group's owner for its coordinator
 pub led-up : (s : Status) (o g : ℕ) → isDown s ≡ false → Led o g s → o ≡ ownerOf g
