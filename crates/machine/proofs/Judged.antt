@@ -2,7 +2,7 @@
 use Prim.Native.Nat.{ℕ, zero, suc, _+_, _-_, _%_, _≤_, _<_}
 use native.Mathlib.Omega.{arith}
 use mathlib.Core.Path.{_≡_, refl, sym, _∙_}
-use mathlib.Core.List.{List, _++_}
+use mathlib.Core.List.{List, [], _∷_, _++_}
 use mathlib.Core.Bool.{Bool, true, false, not, _&&_, true≢false}
 use borrow.Author.Tests.{not-true, not-false, ne-eqb}
 use lib.Dec.{eqb, ltb}
@@ -10,14 +10,15 @@ use lib.ListN.{length, getD}
 use Rattle.model.specs.State.{nodeAt, inRange, view}
 use Rattle.model.specs.Limits.{trafficEnd}
 use Rattle.model.specs.Pick.{pick, pick-true, pick-false}
-use Rattle.model.specs.Grounds.{Ground, first}
+use Rattle.model.specs.Grounds.{Ground, ground, first}
 use Rattle.model.specs.Step.{actor, reactionTo, isSending, pairAtEnd, effect, accepted, step}
 use Rattle.model.proofs.Judged.{Clear}
 use Rattle.model.proofs.Range.{OutgoingIn}
 use Rattle.model.proofs.InRange.{event-in}
 use Rattle.model.specs.React.{react}
 use Rattle.model.specs.Procedures.{stays}
-use Rattle.model.specs.Answers.{answerNumber}
+use Rattle.model.specs.Answers.{answerNumber, isAccepted}
+use Rattle.model.proofs.Answers.{accepted-zero, refused-some}
 use Rattle.model.specs.declared.Node.{Node}
 use Rattle.model.specs.declared.Message.{Message}
 use Rattle.model.specs.declared.Reaction.{Reaction}
@@ -27,12 +28,13 @@ use Rattle.model.specs.declared.Table.{Table}
 use Rattle.model.specs.declared.Event.{Event}
 use Rattle.model.specs.declared.Event.the-variants.{Crash, Recover, Check, Timeout, Tick, Expire, Finish, Deliver, Lose}
 use Rattle.node_step.specs.Fits.{FitsInput}
+use Rattle.node_step.specs.Grounds.{numberGrounds}
 use Rattle.machine.specs.declared.Verdict.{Verdict}
-use Rattle.machine.specs.Parts.{placeFor, sentPlace, withLast, stored, Room, numberGrounds, stateGrounds, endGrounds, isAccepted, reactsTo, inputOf, loses, FitsMessage, leftOf, judgedGrounds, Judging, Judged}
+use Rattle.machine.specs.Parts.{placeFor, sentPlace, withLast, stored, Room, stateGrounds, endGrounds, reactsTo, inputOf, loses, FitsMessage, leftOf, judgedGrounds, Judging, Judged}
 use Rattle.machine.specs.Stepped.{Stepped}
 use Rattle.machine.proofs.Laws.{Sized}
 use Rattle.model.proofs.Grounds.{Numbered, first-clear, first-met}
-use Rattle.machine.proofs.Parts.{accepted-zero, refused-some, numbers-refuse, state-refuses, ends-refuse, last-refuses, step-accepts, all-clear}
+use Rattle.machine.proofs.Parts.{numbers-refuse, state-refuses, ends-refuse, last-refuses, step-accepts, all-clear}
 use Rattle.machine.proofs.Places.{small, actor-is, node-read, node-fits, found-is, reaction-is, message-ok, left-counts, room-is, last-is, clear-is, effect-is}
 
 -- ── the reaction by what the node is told ──
@@ -77,6 +79,22 @@ passed a h i l = sym h ∙ accepted-zero a (sym i ∙ not-false _ l)
 
 pub halted : (a : Answer) {b : Bool} → b ≡ isAccepted a → not b ≡ true → isAccepted a ≡ false
 halted a i l = sym i ∙ not-true _ l
+
+-- a by the grounds xs in front of others, where they refuse
+pub in-front : (a : Answer) {b : Bool} (xs ys : List Ground) → answerNumber a ≡ first xs → b ≡ isAccepted a → not b ≡ true → answerNumber a ≡ first (xs ++ ys)
+in-front a xs ys h i l = h ∙ sym (first-met xs ys (omega (arith, refused-some a (halted a i l), h)))
+
+-- where they are clear, and one ground is behind them
+module _ (a : Answer) {b : Bool} (xs : List Ground) (n : Numbered xs) (h : answerNumber a ≡ first xs) (i : b ≡ isAccepted a) (l : not b ≡ false) (r : ℕ) (t : Bool) where
+  behind : first (xs ++ (ground r t ∷ [])) ≡ pick t r 0
+  unfolding first
+  behind = first-clear xs _ n (passed a h i l)
+
+  pub behind-met : t ≡ true → r ≡ first (xs ++ (ground r t ∷ []))
+  behind-met q = sym (behind ∙ rw (q, pick-true))
+
+  pub behind-clear : t ≡ false → 0 ≡ first (xs ++ (ground r t ∷ []))
+  behind-clear q = sym (behind ∙ rw (q, pick-false))
 
 some-not-none : (x : ℕ) → 1 ≤ x → x ≡ 0 → ⊥
 some-not-none x p q = omega arith

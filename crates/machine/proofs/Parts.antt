@@ -6,7 +6,7 @@ use native.Mathlib.Nat.{le-refl}
 use mathlib.Core.Path.{_≡_, refl, sym, _∙_, ap}
 use mathlib.Core.List.{List, [], _∷_, _++_}
 use mathlib.Core.Bool.{Bool, true, false, not, _&&_, _||_, true≢false}
-use lib.Dec.{eqb, ltb, leb·suc-suc}
+use lib.Dec.{ltb, leb·suc-suc}
 use lib.ListN.{length, getD}
 use borrow.Author.Tests.{lt-ltb}
 use Rattle.model.specs.Pick.{pick, pick-true, pick-false}
@@ -14,7 +14,8 @@ use Rattle.model.specs.State.{State, nodeAt, noMessage, goes, waits, oldest, wi
 use Rattle.model.specs.Grounds.{Ground, ground, first}
 use Rattle.model.specs.Step.{actor, reactionTo, remaining, noneWaits, pairAtEnd, effect, grounds, refused, accepted, step, kept}
 use Rattle.model.specs.React.{react}
-use Rattle.model.specs.Answers.{answerNumber, resultNumber}
+use Rattle.model.specs.Answers.{answerNumber, resultNumber, isAccepted}
+use Rattle.model.proofs.Answers.{refused-some}
 use Rattle.model.proofs.Grounds.{first-clear, first-met, judged-clear, judged-first}
 use Rattle.model.specs.declared.Input.the-variants.{Receive}
 use Rattle.model.specs.declared.Node.{Node}
@@ -22,10 +23,11 @@ use Rattle.model.specs.declared.Message.{Message}
 use Rattle.model.specs.declared.Reaction.{Reaction}
 use Rattle.model.specs.declared.Table.{Table}
 use Rattle.model.specs.declared.Answer.{Answer}
-use Rattle.model.specs.declared.Answer.the-variants.{Accepted, NotInRange, WrongNumber, WrongTask, WrongStatus, WrongActivity, NotCoordinator, NoMajority, NoMessage, CounterAtEnd, CallsAtEnd, QueueFull, SentAtEnd}
+use Rattle.model.specs.declared.Answer.the-variants.{Accepted, NotInRange}
 use Rattle.model.specs.declared.Event.{Event}
 use Rattle.model.specs.declared.Event.the-variants.{Crash, Recover, Check, Timeout, Tick, Expire, Finish, Deliver, Lose}
-use Rattle.machine.specs.Parts.{place, without, takes, sender, placeFor, numberGrounds, stateGrounds, endGrounds, lastGrounds, isAccepted, reactsTo}
+use Rattle.node_step.specs.Grounds.{numberGrounds}
+use Rattle.machine.specs.Parts.{place, without, takes, sender, placeFor, stateGrounds, endGrounds, lastGrounds, reactsTo}
 use Rattle.machine.specs.Stepped.{Stepped}
 use Rattle.machine.proofs.Laws.{without-none}
 
@@ -118,53 +120,6 @@ reaction-place s (Expire i) m h = refl
 reaction-place s (Finish i x) m h = refl
 reaction-place s (Deliver a b) m h = ap (λ (x : Message). react (s .n) b (nodeAt s b) (Receive x)) (oldest-place a b (s .queue) ∙ sym (h refl))
 reaction-place s (Lose a b) m h = refl
-
--- ── answers ──
-pub accepted-zero : (a : Answer) → isAccepted a ≡ true → answerNumber a ≡ 0
-accepted-zero Accepted q = refl
-accepted-zero NotInRange q = absurd (true≢false (sym q))
-accepted-zero WrongNumber q = absurd (true≢false (sym q))
-accepted-zero WrongTask q = absurd (true≢false (sym q))
-accepted-zero WrongStatus q = absurd (true≢false (sym q))
-accepted-zero WrongActivity q = absurd (true≢false (sym q))
-accepted-zero NotCoordinator q = absurd (true≢false (sym q))
-accepted-zero NoMajority q = absurd (true≢false (sym q))
-accepted-zero NoMessage q = absurd (true≢false (sym q))
-accepted-zero CounterAtEnd q = absurd (true≢false (sym q))
-accepted-zero CallsAtEnd q = absurd (true≢false (sym q))
-accepted-zero QueueFull q = absurd (true≢false (sym q))
-accepted-zero SentAtEnd q = absurd (true≢false (sym q))
-
--- Accepted is the answer of number 0
-pub zero-accepted : (a : Answer) → eqb (answerNumber a) 0 ≡ isAccepted a
-zero-accepted Accepted = refl
-zero-accepted NotInRange = refl
-zero-accepted WrongNumber = refl
-zero-accepted WrongTask = refl
-zero-accepted WrongStatus = refl
-zero-accepted WrongActivity = refl
-zero-accepted NotCoordinator = refl
-zero-accepted NoMajority = refl
-zero-accepted NoMessage = refl
-zero-accepted CounterAtEnd = refl
-zero-accepted CallsAtEnd = refl
-zero-accepted QueueFull = refl
-zero-accepted SentAtEnd = refl
-
-pub refused-some : (a : Answer) → isAccepted a ≡ false → 1 ≤ answerNumber a
-refused-some Accepted q = absurd (true≢false q)
-refused-some NotInRange q = omega arith
-refused-some WrongNumber q = omega arith
-refused-some WrongTask q = omega arith
-refused-some WrongStatus q = omega arith
-refused-some WrongActivity q = omega arith
-refused-some NotCoordinator q = omega arith
-refused-some NoMajority q = omega arith
-refused-some NoMessage q = omega arith
-refused-some CounterAtEnd q = omega arith
-refused-some CallsAtEnd q = omega arith
-refused-some QueueFull q = omega arith
-refused-some SentAtEnd q = omega arith
 
 -- ── what a step comes to ──
 

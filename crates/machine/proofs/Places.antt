@@ -34,7 +34,8 @@ use Rattle.model.specs.declared.Reaction.{Reaction}
 use Rattle.model.specs.declared.Table.{Table}
 use Rattle.model.specs.declared.Event.{Event}
 use Rattle.model.specs.declared.Event.the-variants.{Crash, Recover, Check, Timeout, Tick, Expire, Finish, Deliver, Lose}
-use Rattle.machine.specs.Parts.{place, without, takes, placeFor, placeOf, sentPlace, sentBy, movedPlace, deliveredBy, lostBy, raised, Small, stored, Left, Room, numberGrounds, stateGrounds, endGrounds, FitsMessage, reactsTo}
+use Rattle.node_step.specs.Grounds.{numberGrounds}
+use Rattle.machine.specs.Parts.{place, without, takes, placeFor, placeOf, sentPlace, sentBy, movedPlace, deliveredBy, lostBy, raised, Small, stored, Left, Room, stateGrounds, endGrounds, FitsMessage, reactsTo}
 use Rattle.model.proofs.Lists.{first-take, first-length}
 use Rattle.machine.proofs.Laws.{Sized, without-none, left-few}
 use Rattle.model.proofs.Grounds.{not-met}

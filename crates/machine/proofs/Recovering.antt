@@ -11,7 +11,8 @@ use Rattle.model.specs.Limits.{counterEnd}
 use Rattle.model.specs.Recovery.{recoveryRecords}
 use Rattle.model.specs.State.{State, startingNode, nodeAt, view}
 use Rattle.model.specs.Step.{Result, refused, accepted, step, kept}
-use Rattle.model.specs.Answers.{answerNumber, resultNumber}
+use Rattle.model.specs.Answers.{answerNumber, resultNumber, isAccepted}
+use Rattle.model.proofs.Answers.{accepted-zero, refused-some}
 use Rattle.model.specs.Claims.{Accepts, recordAfter}
 use Rattle.model.proofs.Judged.{Clear, accepted-is}
 use Rattle.model.proofs.Refusals.{refuses-by-ground}
@@ -24,11 +25,10 @@ use Rattle.model.specs.declared.Outcome.{Outcome}
 use Rattle.model.specs.declared.Answer.the-variants.{Accepted}
 use Rattle.machine.specs.declared.RecoveryAnswer.{RecoveryAnswer}
 use Rattle.model.specs.Grounds.{first}
-use Rattle.machine.specs.Parts.{numberGrounds, isAccepted}
+use Rattle.node_step.specs.Grounds.{numberGrounds}
 use Rattle.machine.specs.Stepped.{Stepped, recordsBeside, RecoveryAnswered}
 use Rattle.machine.specs.Claims.{RecoveryAlike}
 use Rattle.machine.proofs.Laws.{Sized}
-use Rattle.machine.proofs.Parts.{accepted-zero, refused-some}
 use Rattle.machine.proofs.Places.{small, actor-is, node-read, node-fits}
 use Rattle.machine.proofs.Judged.{seat-is}
 use Rattle.machine.proofs.Runs.{answer-known}

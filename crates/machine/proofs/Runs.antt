@@ -30,7 +30,7 @@ use Rattle.model.specs.declared.Event.{Event}
 use Rattle.model.specs.declared.Mark.{Mark}
 use Rattle.model.specs.declared.Outcome.{Outcome}
 use Rattle.model.specs.declared.Answer.{Answer}
-use Rattle.model.specs.declared.Answer.the-variants.{Accepted, NotInRange, WrongNumber, WrongTask, WrongStatus, WrongActivity, NotCoordinator, NoMajority, NoMessage, CounterAtEnd, CallsAtEnd, QueueFull, SentAtEnd}
+use Rattle.model.specs.declared.Answer.the-variants.{Accepted, NotInRange, WrongNumber, WrongTask, WrongMessage, OtherNode, WrongStatus, WrongActivity, NotCoordinator, NoMajority, NoMessage, CounterAtEnd, CallsAtEnd, QueueFull, SentAtEnd}
 use Rattle.machine.specs.Stepped.{Stepped}
 use Rattle.machine.specs.Folded.{Folded, none, more}
 use Rattle.machine.specs.Claims.{AcceptedAlike, SteppedAlike, isForming, Chain, Reached, CodeRuns, CodeFixes, CodeTraffic, CodePeals, CodeHolds, CodeTowerAndStand}
@@ -66,6 +66,8 @@ answerOf r =
     pick (eqb r 1) NotInRange
     (pick (eqb r 7) WrongNumber
     (pick (eqb r 8) WrongTask
+    (pick (eqb r 20) WrongMessage
+    (pick (eqb r 21) OtherNode
     (pick (eqb r 9) WrongStatus
     (pick (eqb r 10) WrongActivity
     (pick (eqb r 18) NotCoordinator
@@ -75,7 +77,7 @@ answerOf r =
     (pick (eqb r 13) CallsAtEnd
     (pick (eqb r 14) QueueFull
     (pick (eqb r 17) SentAtEnd
-    Accepted)))))))))))
+    Accepted)))))))))))))
 
 answer-back : (a : Answer) → answerOf (answerNumber a) ≡ a
 unfolding answerOf pick
@@ -83,6 +85,8 @@ answer-back Accepted = refl
 answer-back NotInRange = refl
 answer-back WrongNumber = refl
 answer-back WrongTask = refl
+answer-back WrongMessage = refl
+answer-back OtherNode = refl
 answer-back WrongStatus = refl
 answer-back WrongActivity = refl
 answer-back NotCoordinator = refl

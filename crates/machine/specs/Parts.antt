@@ -7,25 +7,24 @@ use mathlib.Core.List.{List, [], _∷_, _++_}
 use lib.Dec.{eqb, leb, ltb}
 use lib.ListN.{length, take, drop, set, getD}
 use Rattle.model.specs.Pick.{pick}
-use Rattle.model.specs.Limits.{nodeLimit, counterEnd, callEnd, trafficEnd}
+use Rattle.model.specs.Limits.{nodeLimit, trafficEnd}
 use Rattle.model.specs.Procedures.{stays}
 use Rattle.model.specs.React.{react}
 use Rattle.model.specs.Range.{isTowerOrStand}
 use Rattle.model.specs.State.{State, wrongCount, goes}
 use Rattle.model.specs.Answers.{answerNumber}
 use Rattle.model.specs.Grounds.{Ground, ground, first}
-use Rattle.model.specs.Step.{actor, wrongNumber, wrongTask, wrongStatus, wrongActivity, notCoordinator, noMajority, forms, isCalling, isSending, pairAtEnd, sent}
+use Rattle.model.specs.Step.{actor, isSending, pairAtEnd, sent}
 use Rattle.model.specs.declared.Limits.{Limits}
 use Rattle.model.specs.declared.Node.{Node}
 use Rattle.model.specs.declared.Message.{Message}
 use Rattle.model.specs.declared.Outgoing.{Outgoing}
 use Rattle.model.specs.declared.Outgoing.the-variants.{Nothing, Send}
 use Rattle.model.specs.declared.Reaction.{Reaction}
-use Rattle.model.specs.declared.Answer.{Answer}
-use Rattle.model.specs.declared.Answer.the-variants.{Accepted, NotInRange, WrongNumber, WrongTask, WrongStatus, WrongActivity, NotCoordinator, NoMajority, NoMessage, CounterAtEnd, CallsAtEnd, QueueFull, SentAtEnd}
 use Rattle.model.specs.declared.Input.{Input}
 use Rattle.model.specs.declared.Input.the-variants as Input
 use Rattle.node_step.specs.Fits.{Fits}
+use Rattle.node_step.specs.Grounds.{numberGrounds, nodeGrounds, ownEndGrounds}
 use Rattle.machine.specs.declared.Verdict.{Verdict}
 use Rattle.model.specs.declared.Event.{Event}
 use Rattle.model.specs.declared.Event.the-variants.{Crash, Recover, Check, Timeout, Tick, Expire, Finish, Deliver, Lose}
@@ -153,29 +152,15 @@ Room (Send m) left = left < 64
 abbrev pub withinLimits : Limits → ℕ → ℕ → Bool
 withinLimits l n waiting = isTowerOrStand l && not (wrongCount (l .nodes) n) && leb waiting (l .messages)
 
--- ── the grounds but 1, in four groups ──
-
--- by the event's numbers
-abbrev pub numberGrounds : ℕ → Event → List Ground
-numberGrounds n e = ground 7 (wrongNumber n e) ∷ ground 8 (wrongTask e) ∷ []
+-- ── the grounds but 1, in four groups: `numberGrounds` of node_step, and three ──
 
 -- by the state; found: a message for the event waits
 abbrev pub stateGrounds : ℕ → Node → Event → Bool → List Ground
-stateGrounds n c e found =
-    ground 9 (wrongStatus (c .status) e)
-    ∷ ground 10 (wrongActivity (c .activity) e)
-    ∷ ground 18 (notCoordinator c e)
-    ∷ ground 19 (noMajority n c e)
-    ∷ ground 11 (takes e && not found)
-    ∷ []
+stateGrounds n c e found = nodeGrounds n c e ++ (ground 11 (takes e && not found) ∷ [])
 
 -- by the ends of the ranges, 17 apart; left: how many messages wait once the event's own is out, and limit: how many may
 abbrev pub endGrounds : Node → Reaction → ℕ → ℕ → List Ground
-endGrounds c r left limit =
-    ground 12 (forms (r .mark) && eqb (c .counter) counterEnd)
-    ∷ ground 13 (isCalling (r .outgoing) && eqb (c .last .number) callEnd)
-    ∷ ground 14 (isSending (r .outgoing) && eqb left limit)
-    ∷ []
+endGrounds c r left limit = ownEndGrounds c r ++ (ground 14 (isSending (r .outgoing) && eqb left limit) ∷ [])
 
 -- 17, behind all others, by the counts of what was sent
 abbrev pub lastGrounds : List ℕ → Outgoing → List Ground
@@ -184,21 +169,6 @@ lastGrounds l o = ground 17 (pairAtEnd l o) ∷ []
 -- the same from the number r that the others gave and the count x of the pair
 abbrev pub withLast : ℕ → Outgoing → ℕ → ℕ
 withLast r o x = pick (eqb r 0 && isSending o && eqb x trafficEnd) 17 r
-
-abbrev pub isAccepted : Answer → Bool
-isAccepted Accepted = true
-isAccepted NotInRange = false
-isAccepted WrongNumber = false
-isAccepted WrongTask = false
-isAccepted WrongStatus = false
-isAccepted WrongActivity = false
-isAccepted NotCoordinator = false
-isAccepted NoMajority = false
-isAccepted NoMessage = false
-isAccepted CounterAtEnd = false
-isAccepted CallsAtEnd = false
-isAccepted QueueFull = false
-isAccepted SentAtEnd = false
 
 -- ── the reaction to an event, of the node's record c and the message m ──
 abbrev pub reactsTo : ℕ → Node → Message → Event → Reaction

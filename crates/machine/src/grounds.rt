@@ -1,16 +1,15 @@
-// The grounds of an event, and what its node does: functions over one node, one message and numbers.
+// The judgement of an event by its grounds, and what its node does: functions over one node, one message and numbers. The grounds that n, the event's numbers and the node's record decide are
+// node_step's.
 ghost use mathlib.Core.Path.{_≡_};
-ghost use mathlib.Core.Bool.{Bool, true, not, _&&_};
+ghost use mathlib.Core.Bool.{true};
 ghost use Prim.Native.Nat.{ℕ, _-_, _≤_, _<_};
 ghost use Rattle.model.specs.Pick.{pick};
-ghost use Rattle.model.specs.Range.{isNode, isOther};
 ghost use Rattle.model.specs.Answers.{answerNumber};
 ghost use Rattle.model.specs.Grounds.{first};
 ghost use Rattle.model.specs.Step as spec;
 ghost use Rattle.machine.specs.Parts as parts;
 ghost use Rattle.node_step.specs.Fits.{Fits};
 use crate::Verdict;
-use model::Activity;
 use model::Answer;
 use model::Event;
 use model::Input;
@@ -18,7 +17,6 @@ use model::Message;
 use model::Node;
 use model::Outgoing;
 use model::Reaction;
-use model::Status;
 
 pub fn actor(e: Event) -> u8
     ensures { λ r. ⌜ r ≡ spec.actor e ⌝ }
@@ -68,140 +66,13 @@ pub fn sender(e: Event) -> u8
     }
 }
 
-pub fn is_pair(n: u8, a: u8, b: u8) -> bool
-    ensures { λ r. ⌜ r ≡ isNode n a && isOther n a b ⌝ }
-{
-    predicates::is_node(n, a) & predicates::is_other(n, a, b)
-}
-
-pub fn wrong_number(n: u8, e: Event) -> bool
-    ensures { λ r. ⌜ r ≡ spec.wrongNumber n e ⌝ }
-{
-    match e {
-        Event::Crash(i) => !predicates::is_node(n, i),
-        Event::Recover(i) => !predicates::is_node(n, i),
-        Event::Check(i) => !predicates::is_node(n, i),
-        Event::Timeout(i) => !predicates::is_node(n, i),
-        Event::Tick(i) => !predicates::is_node(n, i),
-        Event::Expire(i) => !predicates::is_node(n, i),
-        Event::Finish(i, _) => !predicates::is_node(n, i),
-        Event::Deliver(a, b) => !is_pair(n, a, b),
-        Event::Lose(a, b) => !is_pair(n, a, b),
-    }
-}
-
-pub fn wrong_task(e: Event) -> bool
-    ensures { λ r. ⌜ r ≡ spec.wrongTask e ⌝ }
-{
-    match e {
-        Event::Crash(_) => false,
-        Event::Recover(_) => false,
-        Event::Check(_) => false,
-        Event::Timeout(_) => false,
-        Event::Tick(_) => false,
-        Event::Expire(_) => false,
-        Event::Finish(_, t) => !predicates::is_given_task(t),
-        Event::Deliver(_, _) => false,
-        Event::Lose(_, _) => false,
-    }
-}
-
-pub fn wrong_status(s: Status, e: Event) -> bool
-    ensures { λ r. ⌜ r ≡ spec.wrongStatus s e ⌝ }
-{
-    let down = predicates::is_down(s);
-    match e {
-        Event::Crash(_) => down,
-        Event::Recover(_) => !down,
-        Event::Check(_) => down,
-        Event::Timeout(_) => down,
-        Event::Tick(_) => down,
-        Event::Expire(_) => down,
-        Event::Finish(_, _) => down,
-        Event::Deliver(_, _) => down,
-        Event::Lose(_, _) => false,
-    }
-}
-
-pub fn wrong_activity(a: Activity, e: Event) -> bool
-    ensures { λ r. ⌜ r ≡ spec.wrongActivity a e ⌝ }
-{
-    match e {
-        Event::Crash(_) => false,
-        Event::Recover(_) => false,
-        Event::Check(_) => !node_step::is_idle(a),
-        Event::Timeout(_) => !node_step::is_idle(a),
-        Event::Tick(_) => !node_step::is_waiting(a),
-        Event::Expire(_) => !node_step::has_open_call(a),
-        Event::Finish(_, _) => !node_step::is_collecting(a),
-        Event::Deliver(_, _) => false,
-        Event::Lose(_, _) => false,
-    }
-}
-
-pub fn not_coordinator(c: Node, e: Event) -> bool
-    ensures { λ r. ⌜ r ≡ spec.notCoordinator c e ⌝ }
-{
-    match e {
-        Event::Crash(_) => false,
-        Event::Recover(_) => false,
-        Event::Check(i) => !node_step::leads(i, c),
-        Event::Timeout(_) => false,
-        Event::Tick(_) => false,
-        Event::Expire(_) => false,
-        Event::Finish(_, _) => false,
-        Event::Deliver(_, _) => false,
-        Event::Lose(_, _) => false,
-    }
-}
-
-pub fn no_majority(n: u8, c: Node, e: Event) -> bool
-    ensures { λ r. ⌜ r ≡ spec.noMajority n c e ⌝ }
-{
-    match e {
-        Event::Crash(_) => false,
-        Event::Recover(_) => false,
-        Event::Check(_) => false,
-        Event::Timeout(_) => false,
-        Event::Tick(_) => false,
-        Event::Expire(_) => false,
-        Event::Finish(_, t) => predicates::is_full_peal(t)
-            & predicates::is_at_most_half(n, c.members),
-        Event::Deliver(_, _) => false,
-        Event::Lose(_, _) => false,
-    }
-}
-
-// Grounds 7 and 8.
-pub fn number_answer(n: u8, e: Event) -> Answer
-    ensures { λ r. ⌜ answerNumber r ≡ first (parts.numberGrounds n e) ⌝ }
-{
-    if wrong_number(n, e) {
-        return Answer::WrongNumber;
-    }
-    if wrong_task(e) {
-        return Answer::WrongTask;
-    }
-    Answer::Accepted
-}
-
 // Grounds 9, 10, 18, 19 and 11; found: a message for the event waits.
 pub fn state_answer(n: u8, c: Node, e: Event, found: bool) -> Answer
     ensures { λ r. ⌜ answerNumber r ≡ first (parts.stateGrounds n c e found) ⌝ }
 {
-    let status = c.status;
-    let activity = c.activity;
-    if wrong_status(status, e) {
-        return Answer::WrongStatus;
-    }
-    if wrong_activity(activity, e) {
-        return Answer::WrongActivity;
-    }
-    if not_coordinator(c, e) {
-        return Answer::NotCoordinator;
-    }
-    if no_majority(n, c, e) {
-        return Answer::NoMajority;
+    let own = node_step::node_answer(n, c, e);
+    if !predicates::is_accepted(own) {
+        return own;
     }
     if takes(e) & !found {
         return Answer::NoMessage;
@@ -213,14 +84,11 @@ pub fn state_answer(n: u8, c: Node, e: Event, found: bool) -> Answer
 pub fn end_answer(c: Node, r: Reaction, left: u8, limit: u8) -> Answer
     ensures { λ a. ⌜ answerNumber a ≡ first (parts.endGrounds c r left limit) ⌝ }
 {
-    let mark = r.mark;
+    let own = node_step::own_end_answer(c, r);
+    if !predicates::is_accepted(own) {
+        return own;
+    }
     let outgoing = r.outgoing;
-    if node_step::forms(mark) & (c.counter == 1048575) {
-        return Answer::CounterAtEnd;
-    }
-    if node_step::is_calling(outgoing) & (c.last.number == 16777215) {
-        return Answer::CallsAtEnd;
-    }
     if node_step::is_sending(outgoing) & (left == limit) {
         return Answer::QueueFull;
     }
@@ -231,51 +99,10 @@ pub fn end_answer(c: Node, r: Reaction, left: u8, limit: u8) -> Answer
 pub fn with_last(answer: Answer, outgoing: Outgoing, count: u32) -> Answer
     ensures { λ r. ⌜ answerNumber r ≡ parts.withLast (answerNumber answer) outgoing count ⌝ }
 {
-    if is_accepted(answer) & node_step::is_sending(outgoing) & (count == 33554430) {
+    if predicates::is_accepted(answer) & node_step::is_sending(outgoing) & (count == 33554430) {
         return Answer::SentAtEnd;
     }
     answer
-}
-
-pub fn is_accepted(a: Answer) -> bool
-    ensures { λ r. ⌜ r ≡ parts.isAccepted a ⌝ }
-{
-    match a {
-        Answer::Accepted => true,
-        Answer::NotInRange => false,
-        Answer::WrongNumber => false,
-        Answer::WrongTask => false,
-        Answer::WrongStatus => false,
-        Answer::WrongActivity => false,
-        Answer::NotCoordinator => false,
-        Answer::NoMajority => false,
-        Answer::NoMessage => false,
-        Answer::CounterAtEnd => false,
-        Answer::CallsAtEnd => false,
-        Answer::QueueFull => false,
-        Answer::SentAtEnd => false,
-    }
-}
-
-// The number of an answer; 0 where the event is accepted.
-pub fn answer_number(a: Answer) -> u8
-    ensures { λ r. ⌜ r ≡ answerNumber a ⌝ }
-{
-    match a {
-        Answer::Accepted => 0,
-        Answer::NotInRange => 1,
-        Answer::WrongNumber => 7,
-        Answer::WrongTask => 8,
-        Answer::WrongStatus => 9,
-        Answer::WrongActivity => 10,
-        Answer::NotCoordinator => 18,
-        Answer::NoMajority => 19,
-        Answer::NoMessage => 11,
-        Answer::CounterAtEnd => 12,
-        Answer::CallsAtEnd => 13,
-        Answer::QueueFull => 14,
-        Answer::SentAtEnd => 17,
-    }
 }
 
 // What the event's node is told; m is the message that a delivery acts on. A lose tells it nothing: `reacts_to` does not ask.
@@ -404,15 +231,15 @@ pub fn judge(n: u8, limit: u8, waiting: u8, k: usize, c: Node, m: Message, e: Ev
     ensures { λ v. ⌜ parts.Judged n limit waiting k c m e v ⌝ }
 {
     let found = k < waiting as usize;
-    let numbers = number_answer(n, e);
-    if !is_accepted(numbers) {
+    let numbers = node_step::number_answer(n, e);
+    if !predicates::is_accepted(numbers) {
         return Verdict {
             answer: numbers,
             reaction: node_step::stays(c),
         };
     }
     let state = state_answer(n, c, e, found);
-    if !is_accepted(state) {
+    if !predicates::is_accepted(state) {
         return Verdict {
             answer: state,
             reaction: node_step::stays(c),

@@ -10,11 +10,8 @@ ghost use Rattle.model.specs.State.{startingNode, view, inRange};
 ghost use Rattle.model.specs.Answers.{startNumber};
 ghost use Rattle.machine.specs.Stepped.{Stepped, startingTable, begunNumber, Begun, RecoveryAnswered};
 pub use grounds::actor;
-pub use grounds::answer_number;
 pub use grounds::count_place;
 pub use grounds::delivered_by;
-pub use grounds::is_accepted;
-pub use grounds::is_pair;
 pub use grounds::judge;
 pub use grounds::lost_by;
 pub use grounds::moved_place;
@@ -138,7 +135,7 @@ pub fn advance(t: Table, e: Event) -> Outcome
     let p = grounds::sent_place(outgoing);
     let count = t.sent[p];
     let answer = grounds::with_last(first, outgoing, count);
-    if !grounds::is_accepted(answer) {
+    if !predicates::is_accepted(answer) {
         return Outcome {
             answer: answer,
             table: t,
@@ -178,7 +175,7 @@ pub fn recovery(t: Table, i: u8) -> RecoveryAnswer
 {
     let o = step(t, Event::Recover(i));
     let answer = o.answer;
-    if !grounds::is_accepted(answer) {
+    if !predicates::is_accepted(answer) {
         let none = starting_node();
         return RecoveryAnswer {
             answer: answer,

@@ -1,5 +1,6 @@
 pub mod Lists
 pub mod Grounds
+pub mod Answers
 pub mod Judged
 pub mod Invariant
 pub mod Local

@@ -159,12 +159,15 @@ pub enum StartAnswer {
     WrongCount,
 }
 
-// What a step answers: accepted, or the ground of its refusal. The numbers of 01 and 02 are in specs/Answers.
+// What a step of the machine or of a controller (T-11) answers: accepted, or the ground of its refusal; WrongMessage and OtherNode (20 and 21) are the controller's alone. The numbers of 01 and
+// 02 are in specs/Answers.
 pub enum Answer {
     Accepted,
     NotInRange,
     WrongNumber,
     WrongTask,
+    WrongMessage,
+    OtherNode,
     WrongStatus,
     WrongActivity,
     NotCoordinator,

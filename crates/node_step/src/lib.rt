@@ -1,5 +1,6 @@
 // The local step of one node: the definitions of model's specs/React as functions.
-// Each other file has those of the file of model's specs that it is named after.
+// Each other file has those of the file of model's specs that it is named after; but grounds goes by this crate's own specs/Grounds.
+mod grounds;
 mod node;
 mod procedures;
 mod range;
@@ -16,6 +17,9 @@ ghost use Rattle.model.specs.Procedures.{stays, recovers};
 ghost use Rattle.model.specs.React as spec;
 ghost use Rattle.node_set.specs.NodeSet.{with};
 ghost use Rattle.node_step.specs.Fits.{Fits, FitsActivity, FitsInput, FitsSender};
+pub use grounds::node_answer;
+pub use grounds::number_answer;
+pub use grounds::own_end_answer;
 use model::Activity;
 use model::GroupNo;
 use model::Input;

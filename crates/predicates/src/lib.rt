@@ -1,5 +1,5 @@
-// Definitions of model's specs as functions that several crates use: tests of a status, a node's number, a set of nodes, a task, a majority and a table's limits, and the answer to a number
-// of nodes. The two pairs of limits (T-08) are named here, and nowhere else in the code.
+// Definitions of model's specs as functions that several crates use: tests of a status, a node's number, a pair of nodes, a set of nodes, a task, a majority, a table's limits and
+// an answer, the answer to a number of nodes, and the number of an answer. The two pairs of limits (T-08) are named here, and nowhere else in the code.
 ghost use mathlib.Core.Path.{_≡_};
 ghost use Prim.Native.Nat.{_≤_};
 ghost use Rattle.model.specs.Limits as limits;
@@ -7,8 +7,9 @@ ghost use Rattle.model.specs.Limits.{nodeLimit};
 ghost use Rattle.model.specs.Node.{isDown, isElection, isReorganization, isNormal, isActive};
 ghost use Rattle.model.specs.Pick.{pick};
 ghost use Rattle.model.specs.State.{wrongCount};
-ghost use Rattle.model.specs.Answers.{startNumber};
-ghost use Rattle.model.specs.Range.{sameLimits, isTowerOrStand, isNode, isOther, isSetOfOthers, isGivenTask, isFullPeal, isAtMostHalf};
+ghost use Rattle.model.specs.Answers.{startNumber, answerNumber, isAccepted};
+ghost use Rattle.model.specs.Range.{sameLimits, isTowerOrStand, isNode, isOther, isPair, isSetOfOthers, isGivenTask, isFullPeal, isAtMostHalf};
+use model::Answer;
 use model::Limits;
 use model::StartAnswer;
 use model::Status;
@@ -91,6 +92,13 @@ pub fn is_other(n: u8, i: u8, j: u8) -> bool
     is_node(n, j) & !(j == i)
 }
 
+// An ordered pair of the nodes.
+pub fn is_pair(n: u8, a: u8, b: u8) -> bool
+    ensures { λ r. ⌜ r ≡ isPair n a b ⌝ }
+{
+    is_node(n, a) & is_other(n, a, b)
+}
+
 pub fn is_set_of_others(n: u8, i: u8, s: u16) -> bool
     requires { ⌜ (1 ≤ i) × (i ≤ nodeLimit) × (n ≤ nodeLimit) ⌝ }
     ensures { λ r. ⌜ r ≡ isSetOfOthers n i s ⌝ }
@@ -166,4 +174,49 @@ pub fn start_answer(limit: u8, n: u8) -> StartAnswer
         return StartAnswer::WrongCount;
     }
     StartAnswer::Started
+}
+
+pub fn is_accepted(a: Answer) -> bool
+    ensures { λ r. ⌜ r ≡ isAccepted a ⌝ }
+{
+    match a {
+        Answer::Accepted => true,
+        Answer::NotInRange => false,
+        Answer::WrongNumber => false,
+        Answer::WrongTask => false,
+        Answer::WrongMessage => false,
+        Answer::OtherNode => false,
+        Answer::WrongStatus => false,
+        Answer::WrongActivity => false,
+        Answer::NotCoordinator => false,
+        Answer::NoMajority => false,
+        Answer::NoMessage => false,
+        Answer::CounterAtEnd => false,
+        Answer::CallsAtEnd => false,
+        Answer::QueueFull => false,
+        Answer::SentAtEnd => false,
+    }
+}
+
+// The number of an answer; 0 where the event is accepted.
+pub fn answer_number(a: Answer) -> u8
+    ensures { λ r. ⌜ r ≡ answerNumber a ⌝ }
+{
+    match a {
+        Answer::Accepted => 0,
+        Answer::NotInRange => 1,
+        Answer::WrongNumber => 7,
+        Answer::WrongTask => 8,
+        Answer::WrongMessage => 20,
+        Answer::OtherNode => 21,
+        Answer::WrongStatus => 9,
+        Answer::WrongActivity => 10,
+        Answer::NotCoordinator => 18,
+        Answer::NoMajority => 19,
+        Answer::NoMessage => 11,
+        Answer::CounterAtEnd => 12,
+        Answer::CallsAtEnd => 13,
+        Answer::QueueFull => 14,
+        Answer::SentAtEnd => 17,
+    }
 }

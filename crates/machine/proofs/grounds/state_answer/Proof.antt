@@ -1,23 +1,33 @@
--- `state_answer` meets its contract: the first test that holds.
+-- `state_answer` meets its contract: the grounds of the node's record, and 11 behind them.
 use borrow.Author.Needs.{needs}
-use Rattle.model.specs.Pick.{pick}
-use Rattle.model.specs.Grounds.{first}
+use mathlib.Core.Path.{refl}
+use Rattle.node_step.specs.Grounds.{nodeGrounds}
+use Rattle.machine.proofs.Judged.{in-front, behind-met, behind-clear}
 use Rattle.machine.proofs.grounds.state_answer.Statement.{statement}
 use Rattle.machine.proofs.grounds.state_answer.Tie as tie
 
+returns : tie.Need-returns
+returns c =
+    let i = c .before in
+    let a = i .before .node-answer in
+    let s = i .before .before .args in
+    in-front (a .result) (nodeGrounds (s .n) (s .c) (s .e)) _ (a .ensures) (i .is-accepted .ensures) (c .if1 .taken)
+
+returns-2 : tie.Need-returns-2
+returns-2 c =
+    let l = c .before .before in
+    let i = l .before in
+    let a = i .before .node-answer in
+    let s = i .before .before .args in
+    behind-met (a .result) (nodeGrounds (s .n) (s .c) (s .e)) refl (a .ensures) (i .is-accepted .ensures) (l .if1 .left) 11 _ (rw (← c .before .takes .ensures) (c .if2 .taken))
+
+returns-3 : tie.Need-returns-3
+returns-3 c =
+    let l = c .before .before in
+    let i = l .before in
+    let a = i .before .node-answer in
+    let s = i .before .before .args in
+    behind-clear (a .result) (nodeGrounds (s .n) (s .c) (s .e)) refl (a .ensures) (i .is-accepted .ensures) (l .if1 .left) 11 _ (rw (← c .before .takes .ensures) (c .if2 .left))
+
 pub state-answer-spec : {M : Type 1} → statement M
-unfolding first pick
-state-answer-spec =
-    tie.close
-    (tie.spec
-    (λ c κs. search needs)
-    (λ c. simp (← c .before .wrong-status .ensures, c .if1 .taken))
-    (λ c κs. search needs)
-    (λ c. simp (← c .before .before .before .wrong-status .ensures, c .before .before .if1 .left, ← c .before .wrong-activity .ensures, c .if2 .taken))
-    (λ c κs. search needs)
-    (λ c. simp (← c .before .before .before .before .before .wrong-status .ensures, c .before .before .before .before .if1 .left, ← c .before .before .before .wrong-activity .ensures, c .before .before .if2 .left, ← c .before .not-coordinator .ensures, c .if3 .taken))
-    (λ c κs. search needs)
-    (λ c. simp (← c .before .before .before .before .before .before .before .wrong-status .ensures, c .before .before .before .before .before .before .if1 .left, ← c .before .before .before .before .before .wrong-activity .ensures, c .before .before .before .before .if2 .left, ← c .before .before .before .not-coordinator .ensures, c .before .before .if3 .left, ← c .before .no-majority .ensures, c .if4 .taken))
-    (λ c κs. search needs)
-    (λ c. simp (← c .before .before .before .before .before .before .before .before .before .wrong-status .ensures, c .before .before .before .before .before .before .before .before .if1 .left, ← c .before .before .before .before .before .before .before .wrong-activity .ensures, c .before .before .before .before .before .before .if2 .left, ← c .before .before .before .before .before .not-coordinator .ensures, c .before .before .before .before .if3 .left, ← c .before .before .before .no-majority .ensures, c .before .before .if4 .left, ← c .before .takes .ensures, c .if5 .taken))
-    (λ c. simp (← c .before .before .before .before .before .before .before .before .before .wrong-status .ensures, c .before .before .before .before .before .before .before .before .if1 .left, ← c .before .before .before .before .before .before .before .wrong-activity .ensures, c .before .before .before .before .before .before .if2 .left, ← c .before .before .before .before .before .not-coordinator .ensures, c .before .before .before .before .if3 .left, ← c .before .before .before .no-majority .ensures, c .before .before .if4 .left, ← c .before .takes .ensures, c .if5 .left)))
+state-answer-spec = tie.close (tie.spec (λ c κs. search needs) (λ c κs. search needs) returns (λ c κs. search needs) returns-2 returns-3)

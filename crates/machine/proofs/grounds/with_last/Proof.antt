@@ -1,7 +1,7 @@
 -- `with_last` meets its contract: Accepted is the answer of number 0.
 use borrow.Author.Needs.{needs}
 use Rattle.model.specs.Pick.{pick-true, pick-false}
-use Rattle.machine.proofs.Parts.{zero-accepted}
+use Rattle.model.proofs.Answers.{zero-accepted}
 use Rattle.machine.proofs.grounds.with_last.Statement.{statement}
 use Rattle.machine.proofs.grounds.with_last.Tie as tie
 

@@ -1,12 +1,16 @@
--- `not_coordinator` meets its contract: only a check asks for a coordinator.
+-- `wrong_task` meets its contract: only a finish has a task.
 use borrow.Author.Needs.{needs}
-use Rattle.machine.proofs.grounds.not_coordinator.Statement.{statement}
-use Rattle.machine.proofs.grounds.not_coordinator.Tie as tie
+use Rattle.node_step.proofs.grounds.wrong_task.Statement.{statement}
+use Rattle.node_step.proofs.grounds.wrong_task.Tie as tie
 
-pub not-coordinator-spec : {M : Type 1} → statement M
-not-coordinator-spec =
+pub wrong-task-spec : {M : Type 1} → statement M
+wrong-task-spec =
     tie.close
     (tie.spec
+    (λ c. search needs)
+    (λ c. search needs)
+    (λ c. search needs)
+    (λ c. search needs)
     (λ c. search needs)
     (λ c. search needs)
     (λ c. search needs)
@@ -19,10 +23,6 @@ not-coordinator-spec =
     (λ c. search needs)
     (λ c. search needs)
     (λ c. search needs)
-    (λ c. rw (c .leads .ensures, c .before .before .e .given .1))
-    (λ c. search needs)
-    (λ c. search needs)
-    (λ c. search needs)
-    (λ c. search needs)
+    (λ c. rw (c .is-given-task .ensures, c .before .before .e .given .1))
     (λ c. search needs)
     (λ c. search needs))

@@ -2,8 +2,8 @@
 use borrow.Author.Needs.{needs}
 use Rattle.model.specs.Pick.{pick}
 use Rattle.model.specs.Grounds.{first}
-use Rattle.machine.proofs.grounds.number_answer.Statement.{statement}
-use Rattle.machine.proofs.grounds.number_answer.Tie as tie
+use Rattle.node_step.proofs.grounds.number_answer.Statement.{statement}
+use Rattle.node_step.proofs.grounds.number_answer.Tie as tie
 
 pub number-answer-spec : {M : Type 1} → statement M
 unfolding first pick

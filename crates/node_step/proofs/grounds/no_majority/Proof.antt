@@ -1,10 +1,10 @@
--- `wrong_task` meets its contract: only a finish has a task.
+-- `no_majority` meets its contract: only a finish asks for a majority.
 use borrow.Author.Needs.{needs}
-use Rattle.machine.proofs.grounds.wrong_task.Statement.{statement}
-use Rattle.machine.proofs.grounds.wrong_task.Tie as tie
+use Rattle.node_step.proofs.grounds.no_majority.Statement.{statement}
+use Rattle.node_step.proofs.grounds.no_majority.Tie as tie
 
-pub wrong-task-spec : {M : Type 1} → statement M
-wrong-task-spec =
+pub no-majority-spec : {M : Type 1} → statement M
+no-majority-spec =
     tie.close
     (tie.spec
     (λ c. search needs)
@@ -15,6 +15,7 @@ wrong-task-spec =
     (λ c. search needs)
     (λ c. search needs)
     (λ c κs. search needs)
+    (λ c κs. search needs)
     (λ c. search needs)
     (λ c. search needs)
     (λ c. search needs)
@@ -23,6 +24,6 @@ wrong-task-spec =
     (λ c. search needs)
     (λ c. search needs)
     (λ c. search needs)
-    (λ c. rw (c .is-given-task .ensures, c .before .before .e .given .1))
+    (λ c. rw (c .is-at-most-half .ensures, c .before .is-full-peal .ensures, c .before .before .before .e .given .1))
     (λ c. search needs)
     (λ c. search needs))

@@ -1,7 +1,7 @@
 -- `is_pair` meets its contract: both parts, as the callees ensure them.
 use borrow.Author.Needs.{needs}
-use Rattle.machine.proofs.grounds.is_pair.Statement.{statement}
-use Rattle.machine.proofs.grounds.is_pair.Tie as tie
+use Rattle.predicates.proofs.is_pair.Statement.{statement}
+use Rattle.predicates.proofs.is_pair.Tie as tie
 
 pub is-pair-spec : {M : Type 1} → statement M
 is-pair-spec =

@@ -1,7 +1,7 @@
 -- `wrong_number` meets its contract: by the event, what the callee ensures of its numbers.
 use borrow.Author.Needs.{needs}
-use Rattle.machine.proofs.grounds.wrong_number.Statement.{statement}
-use Rattle.machine.proofs.grounds.wrong_number.Tie as tie
+use Rattle.node_step.proofs.grounds.wrong_number.Statement.{statement}
+use Rattle.node_step.proofs.grounds.wrong_number.Tie as tie
 
 pub wrong-number-spec : {M : Type 1} → statement M
 wrong-number-spec =

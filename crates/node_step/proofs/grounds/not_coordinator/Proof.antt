@@ -1,20 +1,15 @@
--- `no_majority` meets its contract: only a finish asks for a majority.
+-- `not_coordinator` meets its contract: only a check asks for a coordinator.
 use borrow.Author.Needs.{needs}
-use Rattle.machine.proofs.grounds.no_majority.Statement.{statement}
-use Rattle.machine.proofs.grounds.no_majority.Tie as tie
+use Rattle.node_step.proofs.grounds.not_coordinator.Statement.{statement}
+use Rattle.node_step.proofs.grounds.not_coordinator.Tie as tie
 
-pub no-majority-spec : {M : Type 1} → statement M
-no-majority-spec =
+pub not-coordinator-spec : {M : Type 1} → statement M
+not-coordinator-spec =
     tie.close
     (tie.spec
     (λ c. search needs)
     (λ c. search needs)
     (λ c. search needs)
-    (λ c. search needs)
-    (λ c. search needs)
-    (λ c. search needs)
-    (λ c. search needs)
-    (λ c κs. search needs)
     (λ c κs. search needs)
     (λ c. search needs)
     (λ c. search needs)
@@ -24,6 +19,10 @@ no-majority-spec =
     (λ c. search needs)
     (λ c. search needs)
     (λ c. search needs)
-    (λ c. rw (c .is-at-most-half .ensures, c .before .is-full-peal .ensures, c .before .before .before .e .given .1))
+    (λ c. rw (c .leads .ensures, c .before .before .e .given .1))
+    (λ c. search needs)
+    (λ c. search needs)
+    (λ c. search needs)
+    (λ c. search needs)
     (λ c. search needs)
     (λ c. search needs))

@@ -1,0 +1,61 @@
+-- Laws of the answers' numbers: 0 is that of Accepted, and of no other.
+use Prim.Native.Nat.{_≤_}
+use native.Mathlib.Omega.{arith}
+use mathlib.Core.Path.{_≡_, refl, sym}
+use mathlib.Core.Bool.{true, false, true≢false}
+use lib.Dec.{eqb}
+use Rattle.model.specs.Answers.{answerNumber, isAccepted}
+use Rattle.model.specs.declared.Answer.{Answer}
+use Rattle.model.specs.declared.Answer.the-variants.{Accepted, NotInRange, WrongNumber, WrongTask, WrongMessage, OtherNode, WrongStatus, WrongActivity, NotCoordinator, NoMajority, NoMessage, CounterAtEnd, CallsAtEnd, QueueFull, SentAtEnd}
+
+pub accepted-zero : (a : Answer) → isAccepted a ≡ true → answerNumber a ≡ 0
+accepted-zero Accepted q = refl
+accepted-zero NotInRange q = absurd (true≢false (sym q))
+accepted-zero WrongNumber q = absurd (true≢false (sym q))
+accepted-zero WrongTask q = absurd (true≢false (sym q))
+accepted-zero WrongMessage q = absurd (true≢false (sym q))
+accepted-zero OtherNode q = absurd (true≢false (sym q))
+accepted-zero WrongStatus q = absurd (true≢false (sym q))
+accepted-zero WrongActivity q = absurd (true≢false (sym q))
+accepted-zero NotCoordinator q = absurd (true≢false (sym q))
+accepted-zero NoMajority q = absurd (true≢false (sym q))
+accepted-zero NoMessage q = absurd (true≢false (sym q))
+accepted-zero CounterAtEnd q = absurd (true≢false (sym q))
+accepted-zero CallsAtEnd q = absurd (true≢false (sym q))
+accepted-zero QueueFull q = absurd (true≢false (sym q))
+accepted-zero SentAtEnd q = absurd (true≢false (sym q))
+
+-- Accepted is the answer of number 0
+pub zero-accepted : (a : Answer) → eqb (answerNumber a) 0 ≡ isAccepted a
+zero-accepted Accepted = refl
+zero-accepted NotInRange = refl
+zero-accepted WrongNumber = refl
+zero-accepted WrongTask = refl
+zero-accepted WrongMessage = refl
+zero-accepted OtherNode = refl
+zero-accepted WrongStatus = refl
+zero-accepted WrongActivity = refl
+zero-accepted NotCoordinator = refl
+zero-accepted NoMajority = refl
+zero-accepted NoMessage = refl
+zero-accepted CounterAtEnd = refl
+zero-accepted CallsAtEnd = refl
+zero-accepted QueueFull = refl
+zero-accepted SentAtEnd = refl
+
+pub refused-some : (a : Answer) → isAccepted a ≡ false → 1 ≤ answerNumber a
+refused-some Accepted q = absurd (true≢false q)
+refused-some NotInRange q = omega arith
+refused-some WrongNumber q = omega arith
+refused-some WrongTask q = omega arith
+refused-some WrongMessage q = omega arith
+refused-some OtherNode q = omega arith
+refused-some WrongStatus q = omega arith
+refused-some WrongActivity q = omega arith
+refused-some NotCoordinator q = omega arith
+refused-some NoMajority q = omega arith
+refused-some NoMessage q = omega arith
+refused-some CounterAtEnd q = omega arith
+refused-some CallsAtEnd q = omega arith
+refused-some QueueFull q = omega arith
+refused-some SentAtEnd q = omega arith
