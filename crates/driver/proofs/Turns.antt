@@ -11,7 +11,8 @@ use Rattle.model.specs.Counts.{countAt}
 use Rattle.model.specs.Node.{isDown}
 use Rattle.model.specs.State.{State, nodeAt, waits, waiting, view}
 use Rattle.model.specs.Step.{Result, refused, accepted, step, kept}
-use Rattle.model.specs.Answers.{answerNumber}
+use Rattle.model.specs.Answers.{answerNumber, isAccepted}
+use Rattle.model.proofs.Answers.{zero-accepted}
 use Rattle.model.proofs.Fields.{in-range-size, in-range-sum}
 use Rattle.model.proofs.Traffic.{traffic-rules}
 use Rattle.model.specs.declared.Table.{Table}
@@ -19,11 +20,10 @@ use Rattle.model.specs.declared.Outcome.{Outcome}
 use Rattle.model.specs.declared.Answer.{Answer}
 use Rattle.model.specs.declared.Answer.the-variants.{Accepted}
 use Rattle.model.specs.declared.Event.the-variants.{Deliver, Lose}
-use Rattle.machine.specs.Parts.{placeOf, isAccepted}
+use Rattle.machine.specs.Parts.{placeOf}
 use Rattle.machine.specs.Stepped.{Stepped}
 use Rattle.machine.proofs.Places.{place-pair}
 use Rattle.machine.proofs.Runs.{answer-known, accepted-alike}
-use Rattle.machine.proofs.Parts.{zero-accepted}
 use Rattle.round.specs.Order.{nextPair}
 use Rattle.round.specs.Turn.{turnRefused, turnAccepted, turnAt, turnNumber, tableAfter, placeAfter, doneIn}
 use Rattle.round.specs.Claims.{AtPair, withLoss}

@@ -94,7 +94,7 @@ fn look(t: Table, p: Place) -> TurnOutcome
     }
     let o = machine::advance(t, Event::Deliver(a, b));
     let answer = o.answer;
-    if !machine::is_accepted(answer) {
+    if !predicates::is_accepted(answer) {
         return lose(t, p, next);
     }
     let u = o.table;
@@ -111,7 +111,7 @@ pub fn turn(t: Table, p: Place) -> TurnOutcome
     if t.n == 1 {
         return outcome_of(t, p, Done::Nothing, Answer::Accepted);
     }
-    if !machine::is_pair(t.n, p.sender, p.receiver) {
+    if !predicates::is_pair(t.n, p.sender, p.receiver) {
         return outcome_of(t, p, Done::Nothing, Answer::WrongNumber);
     }
     look(t, p)

@@ -88,7 +88,7 @@ fn answered(answer: Answer, t: Table, out: &mut [u8]) -> u8
     requires { ⌜ size ≤ length (now out) ⌝ }
     ensures { λ r. ⌜ Answered answer t (now (out .entry)) (now (out .exit)) r ⌝ }
 {
-    let r = machine::answer_number(answer);
+    let r = predicates::answer_number(answer);
     if r != 0 {
         return r;
     }
@@ -144,7 +144,7 @@ pub extern "C" fn nevraspu_recovery(table: &[u8], node: u8, out: &mut [u8]) -> u
     let q = machine::recovery(table_bytes::decode(table), node);
     let answer = q.answer;
     let records = q.records;
-    let r = machine::answer_number(answer);
+    let r = predicates::answer_number(answer);
     if r != 0 {
         return r;
     }
@@ -177,7 +177,7 @@ fn fold_from(list: &[u8], start: Table) -> u32
             Next::Got(event, next) => {
                 let o = machine::step(t, event);
                 let answer = o.answer;
-                count = counted(count, machine::answer_number(answer));
+                count = counted(count, predicates::answer_number(answer));
                 let after = o.table;
                 t = after;
                 at = next;

@@ -50,7 +50,7 @@ pub extern "C" fn nevraspu_turn(table: &[u8], a: u8, b: u8, out: &mut [u8]) -> u
     let place = o.place;
     let done = o.done;
     let answer = o.answer;
-    let r = machine::answer_number(answer);
+    let r = predicates::answer_number(answer);
     if r != 0 {
         return r;
     }

@@ -14,7 +14,7 @@ use Rattle.model.specs.Limits.{tower}
 use Rattle.model.specs.Pick.{pick-true, pick-false}
 use Rattle.model.specs.Counts.{noCounts}
 use Rattle.model.specs.State.{State, countsOf, countsAside}
-use Rattle.model.specs.Answers.{answerNumber}
+use Rattle.model.specs.Answers.{answerNumber, isAccepted}
 use Rattle.model.specs.Step.{Result, refused, accepted, step, actor, sent, pairAtEnd, effect, reactionTo}
 use Rattle.model.specs.declared.Mark.{Mark}
 use Rattle.model.specs.declared.Node.{Node}
@@ -27,7 +27,7 @@ use Rattle.listing.specs.Decimal.{decimal}
 use Rattle.listing.specs.Lines.{row}
 use Rattle.listing.specs.Printing.{Appended}
 use Rattle.packed.specs.Seen.{seenWaiting}
-use Rattle.machine.specs.Parts.{isAccepted, without, Room, leftOf}
+use Rattle.machine.specs.Parts.{without, Room, leftOf}
 use Rattle.packed.specs.declared.Ruling.{Ruling}
 use Rattle.packed.specs.Packed.{queue, Ruled}
 use Rattle.packed.proofs.Turns.{Ready, refused-step, has-room, end-below, step-accepts, next-is, ready-again}

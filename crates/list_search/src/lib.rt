@@ -108,7 +108,7 @@ fn lines_on(s: Search, out: &mut [u8]) -> Piece
         let ruling = rule_in_tower(&words, n, waiting, c, e);
         let verdict = ruling.verdict;
         let answer = verdict.answer;
-        if !machine::is_accepted(answer) {
+        if !predicates::is_accepted(answer) {
             continue;
         }
         if height + 1 == length {

@@ -9,7 +9,8 @@ use lib.ListN.{length, getD, set, length-set}
 use Rattle.model.specs.Claims.{BelowEnd}
 use Rattle.model.specs.State.{State, start, noMessage, inRange, firstOf, view}
 use Rattle.model.specs.Step.{actor, reactionTo, sent, pairAtEnd, effect, refused, accepted, step, kept, after}
-use Rattle.model.specs.Answers.{answerNumber, resultNumber}
+use Rattle.model.specs.Answers.{answerNumber, resultNumber, isAccepted}
+use Rattle.model.proofs.Answers.{refused-some}
 use Rattle.model.specs.declared.Limits.{Limits}
 use Rattle.model.specs.declared.Node.{Node}
 use Rattle.model.specs.declared.Table.{Table}
@@ -19,10 +20,9 @@ use Rattle.model.proofs.Fields.{in-range-places}
 use Rattle.model.proofs.InRange.{stays-in-range}
 use Rattle.model.proofs.Traffic.{SentWithin, pair-below}
 use Rattle.model.proofs.Aside.{below}
-use Rattle.machine.specs.Parts.{without, sentPlace, sentBy, movedPlace, deliveredBy, lostBy, raised, Small, Room, isAccepted, leftOf}
+use Rattle.machine.specs.Parts.{without, sentPlace, sentBy, movedPlace, deliveredBy, lostBy, raised, Small, Room, leftOf}
 use Rattle.model.proofs.Lists.{first-length, first-set}
 use Rattle.machine.proofs.Laws.{Sized, state-is}
-use Rattle.machine.proofs.Parts.{refused-some}
 use Rattle.machine.proofs.Places.{small, counts-small}
 use Rattle.machine.proofs.Judged.{judging, refuses, seated, room, reacts, is-clear, stores, model-accepts}
 use Rattle.machine.proofs.Runs.{by-number}

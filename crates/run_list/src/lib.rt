@@ -49,7 +49,7 @@ pub fn put_heading(list: &[u8], out: &mut [u8]) -> Heading
 pub fn note(out: &mut [u8], at: usize, e: u32, answer: Answer) -> Put
     ensures { λ a. ⌜ shown a (now (out .exit)) ≡ printed (now (out .entry)) at (noteLines e (answerNumber answer)) ⌝ }
 {
-    let r = machine::answer_number(answer);
+    let r = predicates::answer_number(answer);
     if r == 0 {
         return Put::Next(at);
     }
@@ -88,7 +88,7 @@ fn run(list: &[u8], out: &mut [u8], from: usize, start: Table) -> Put
                 let ruling = packed::rule(&q, t.n, t.limits.messages, waiting, c, event);
                 let verdict = ruling.verdict;
                 let answer = verdict.answer;
-                if machine::is_accepted(answer) {
+                if predicates::is_accepted(answer) {
                     let reaction = verdict.reaction;
                     let node = reaction.node;
                     let outgoing = reaction.outgoing;
