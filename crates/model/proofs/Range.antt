@@ -101,7 +101,7 @@ is-node n i c x =
     led : isLed n (isDown (c .status)) (c .group .number) (c .coordinator) ≡ true
     led = unless (isDown (c .status)) _ (λ u. simp (is-group n _ (x .grouped u), eq-eqb _ _ (x .led u)))
 
-is-message : (n : ℕ) (m : Message) → MessageFacts n m → messageInRange n m ≡ true
+pub is-message : (n : ℕ) (m : Message) → MessageFacts n m → messageInRange n m ≡ true
 unfolding messageInRange
 is-message n m x =
     rw (

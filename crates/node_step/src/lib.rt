@@ -34,6 +34,7 @@ pub use node::is_collecting;
 pub use node::is_idle;
 pub use node::is_waiting;
 pub use procedures::stays;
+pub use range::carries_group;
 pub use range::message_in_range;
 pub use range::node_in_range;
 pub use recovery::recovery_records;

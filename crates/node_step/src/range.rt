@@ -101,7 +101,7 @@ pub fn node_in_range(n: u8, i: u8, c: Node) -> bool
         & activity_in_range(n, i, group, task, activity)
 }
 
-fn carries_group(kind: u8) -> bool
+pub fn carries_group(kind: u8) -> bool
     ensures { λ r. ⌜ r ≡ spec.carriesGroup kind ⌝ }
 {
     (2 <= kind) & (kind <= 5)

@@ -1,0 +1,3 @@
+pub mod Forms
+pub mod RoundTrip
+pub mod Cases
