@@ -128,11 +128,11 @@ pub reading-wrong : (n : ℕ) (l : List ℕ) → isMessage n l ≡ false → rea
 unfolding reading
 reading-wrong n l h = rw (h, pick-false)
 
-got-is : (n : ℕ) (l : List ℕ) (m : Message) → reading n l ≡ Got m → (isMessage n l ≡ true) × (messageIn l ≡ m)
+pub got-is : (n : ℕ) (l : List ℕ) (m : Message) → reading n l ≡ Got m → (isMessage n l ≡ true) × (messageIn l ≡ m)
 unfolding reading
 got-is n l m = by-test (λ (x : MessageRead). x ≡ Got m → (isMessage n l ≡ true) × (messageIn l ≡ m)) (λ h q. (h, got-same q)) (λ h q. absurd (apart q))
 
-wrong-is : (n : ℕ) (l : List ℕ) → reading n l ≡ Wrong → isMessage n l ≡ false
+pub wrong-is : (n : ℕ) (l : List ℕ) → reading n l ≡ Wrong → isMessage n l ≡ false
 unfolding reading
 wrong-is n l = by-test (λ (x : MessageRead). x ≡ Wrong → isMessage n l ≡ false) (λ h q. absurd (apart (sym q))) (λ h q. h)
 

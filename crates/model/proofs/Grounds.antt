@@ -157,6 +157,12 @@ module _ {R : Type 0} (refuse : ℕ → R) (x : R) where
   judged-clear [] n h = refl
   judged-clear (g ∷ gs) n h = let y = not-first g gs n h in rw (y .0, pick-false) (judged-clear gs (others-numbered g gs n) (y .1))
 
+  -- none applies in front
+  pub judged-past : (xs ys : List Ground) → Numbered xs → first xs ≡ 0 → judged refuse x (xs ++ ys) ≡ judged refuse x ys
+  unfolding judged
+  judged-past [] ys n h = refl
+  judged-past (g ∷ gs) ys n h = let y = not-first g gs n h in rw (y .0, pick-false) (judged-past gs ys (others-numbered g gs n) (y .1))
+
   pub judged-first : (gs : List Ground) → 1 ≤ first gs → judged refuse x gs ≡ refuse (first gs)
   unfolding judged first
   judged-first [] h = absurd (none h)

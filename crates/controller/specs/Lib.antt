@@ -1,0 +1,4 @@
+-- One node's share of the machine, and n of them over one queue.
+pub mod Controller
+pub mod Told
+pub mod Parts
