@@ -2,3 +2,5 @@
 pub mod Controller
 pub mod Told
 pub mod Parts
+pub mod Network
+pub mod Claims

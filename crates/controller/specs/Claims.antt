@@ -1,0 +1,198 @@
+-- What is claimed of controllers: that n of them over one queue answer as the whole table does, and so that demand 3 holds of every run of them (02, T-11). The proofs are in proofs/Alike,
+-- proofs/Runs, proofs/Holds and proofs/Grounds.
+use Prim.Native.Nat.{ℕ, _≤_}
+use mathlib.Core.Bool.{Bool, true, false, not}
+use mathlib.Core.Path.{_≡_}
+use mathlib.Core.Logic.{_⊎_}
+use mathlib.Core.List.{List, [], _∷_, _++_, map}
+use lib.ListN.{take}
+use Rattle.model.specs.Pick.{pick}
+use Rattle.model.specs.Node.{isActive}
+use Rattle.model.specs.Range.{PairRule, LeftOut, isNode, carriesGroup, nodeInRange}
+use Rattle.model.specs.State.{State, nodeAt, waits, oldest, inRange}
+use Rattle.model.specs.Step as table
+use Rattle.model.specs.Step.{actor, reactionTo, forms, step}
+use Rattle.model.specs.History.{History, NotFormed, NoTask, Task, newest, coming, historyBy}
+use Rattle.model.specs.Answers.{answerNumber, isAccepted}
+use Rattle.model.specs.Claims.{MayStart, FullPeal, MoreThanHalf}
+use Rattle.model.specs.declared.Limits.{Limits}
+use Rattle.model.specs.declared.Status.the-variants.{Normal}
+use Rattle.model.specs.declared.TaskNo.{TaskNo}
+use Rattle.model.specs.declared.Node.{Node}
+use Rattle.model.specs.declared.Event.{Event}
+use Rattle.model.specs.declared.Event.the-variants.{Crash, Recover, Check, Timeout, Tick, Expire, Finish, Deliver, Lose}
+use Rattle.message_fields.specs.Fields.{fields, messageIn, isMessage}
+use Rattle.controller.specs.declared.LocalEvent.{LocalEvent}
+use Rattle.controller.specs.declared.LocalEvent.the-variants as LocalEvent
+use Rattle.controller.specs.declared.ControllerOutcome.{ControllerOutcome}
+use Rattle.controller.specs.Controller as controller
+use Rattle.controller.specs.Controller.{Incoming, event, message, asEvent, reactionIn, sentBytes, controllerStep}
+use Rattle.controller.specs.Told.{Told}
+use Rattle.controller.specs.Network.{Network, recordAt, startNetwork, networkOf, waitsIn, oldestIn, Result, refused, accepted, Controllers, stepBy, left, runBy, networkStep, networkRun}
+
+-- ── the theorem: "From any table in range, running n of these over one message queue answers as the whole table does, event by event" ──
+
+-- a result of the whole table, as one of the network: the same number, or the same records and messages
+abbrev pub resultOf : table.Result → Result
+resultOf (table.refused r) = refused r
+resultOf (table.accepted u k) = accepted (networkOf u)
+
+-- "apart from lose, deliver with nothing waiting": these events are the queue's alone
+abbrev pub isQueues : State → Event → Bool
+isQueues s (Crash i) = false
+isQueues s (Recover i) = false
+isQueues s (Check i) = false
+isQueues s (Timeout i) = false
+isQueues s (Tick i) = false
+isQueues s (Expire i) = false
+isQueues s (Finish i t) = false
+isQueues s (Deliver a b) = not (waits a b (s .queue))
+isQueues s (Lose a b) = true
+
+-- what the controller that is told of the event answers, from the table s: of deliver, controller b, handed the oldest message's bytes; of lose none is asked
+abbrev pub answerAt : State → Event → controller.Result
+answerAt s (Crash i) = controllerStep (s .n) i (nodeAt s i) (event (LocalEvent.Crash i))
+answerAt s (Recover i) = controllerStep (s .n) i (nodeAt s i) (event (LocalEvent.Recover i))
+answerAt s (Check i) = controllerStep (s .n) i (nodeAt s i) (event (LocalEvent.Check i))
+answerAt s (Timeout i) = controllerStep (s .n) i (nodeAt s i) (event (LocalEvent.Timeout i))
+answerAt s (Tick i) = controllerStep (s .n) i (nodeAt s i) (event (LocalEvent.Tick i))
+answerAt s (Expire i) = controllerStep (s .n) i (nodeAt s i) (event (LocalEvent.Expire i))
+answerAt s (Finish i t) = controllerStep (s .n) i (nodeAt s i) (event (LocalEvent.Finish i t))
+answerAt s (Deliver a b) = controllerStep (s .n) b (nodeAt s b) (message (fields (oldest a b (s .queue))))
+answerAt s (Lose a b) = controller.accepted (nodeAt s b) []
+
+pub record AnswersAsTable : Type 0 where
+  -- The answer is the table's, and so are the records and messages after it. 14 is the queue's, and the network's queue answers it where the table does. 17 is by the table's counts, which a network
+  -- has not; no run of the table meets it (TrafficAgrees.never-seventeen of crate model).
+  pub same : (s : State) (e : Event) → inRange s ≡ true → isQueues s e ≡ false → (step s e ≡ table.refused 17 → ⊥) → networkStep (networkOf s) e ≡ resultOf (step s e)
+  -- "grounds 14 and 17, which belong to the queue": the controller itself accepts there, and gives what the node does
+  pub queue-full : (s : State) (e : Event) → inRange s ≡ true → isQueues s e ≡ false → (step s e ≡ table.refused 14) ⊎ (step s e ≡ table.refused 17)
+      → answerAt s e ≡ controller.accepted (reactionTo s e .node) (sentBytes (reactionTo s e .outgoing))
+  -- lose takes the oldest message out of the queue, as out of the table
+  pub lose : (s : State) (a b : ℕ) → inRange s ≡ true → waits a b (s .queue) ≡ true → networkStep (networkOf s) (Lose a b) ≡ resultOf (step s (Lose a b))
+  -- deliver and lose with nothing waiting are refused by both: by the queue with 11, by the table with 7, 9 or 11
+  pub none-waits : (s : State) (a b : ℕ) → inRange s ≡ true → waits a b (s .queue) ≡ false
+      → (networkStep (networkOf s) (Deliver a b) ≡ refused 11) × (networkStep (networkOf s) (Lose a b) ≡ refused 11)
+  pub none-waits-deliver : (s : State) (a b : ℕ) → inRange s ≡ true → waits a b (s .queue) ≡ false → (step s (Deliver a b) ≡ table.refused 7) ⊎ ((step s (Deliver a b) ≡ table.refused 9) ⊎ (step s (Deliver a b) ≡ table.refused 11))
+  pub none-waits-lose : (s : State) (a b : ℕ) → inRange s ≡ true → waits a b (s .queue) ≡ false → (step s (Lose a b) ≡ table.refused 7) ⊎ (step s (Lose a b) ≡ table.refused 11)
+  -- an event of a node that is none of the n is refused with 7 by each of the n controllers, whichever is told of it
+  pub no-node : (s : State) (e : LocalEvent) (j : ℕ) → inRange s ≡ true → isNode (s .n) (actor (asEvent e)) ≡ false → 1 ≤ j → j ≤ s .n → controllerStep (s .n) j (nodeAt s j) (event e) ≡ controller.refused 7
+
+-- every list of events leads to the same records and messages: "with power cuts and losses anywhere", as crash and lose may stand anywhere in it, and events that are refused too
+pub record RunsAsTable : Type 0 where
+  pub runs : (r : PairRule) (n : ℕ) (l : Limits) → MayStart r n l → (es : List Event) → networkRun n (l .messages) es ≡ networkOf (table.runBy r n l es)
+
+-- ── demand 3 of every run of n controllers over such a queue ──
+
+-- whether the node that the event is about forms a group in it, by its controller's record and what it is told
+abbrev pub formsAt : Network → Event → Bool
+formsAt w (Crash i) = forms (reactionIn (w .n) i (recordAt w i) (event (LocalEvent.Crash i)) .mark)
+formsAt w (Recover i) = forms (reactionIn (w .n) i (recordAt w i) (event (LocalEvent.Recover i)) .mark)
+formsAt w (Check i) = forms (reactionIn (w .n) i (recordAt w i) (event (LocalEvent.Check i)) .mark)
+formsAt w (Timeout i) = forms (reactionIn (w .n) i (recordAt w i) (event (LocalEvent.Timeout i)) .mark)
+formsAt w (Tick i) = forms (reactionIn (w .n) i (recordAt w i) (event (LocalEvent.Tick i)) .mark)
+formsAt w (Expire i) = forms (reactionIn (w .n) i (recordAt w i) (event (LocalEvent.Expire i)) .mark)
+formsAt w (Finish i t) = forms (reactionIn (w .n) i (recordAt w i) (event (LocalEvent.Finish i t)) .mark)
+formsAt w (Deliver a b) = forms (reactionIn (w .n) b (recordAt w b) (message (oldestIn a b (w .queue))) .mark)
+formsAt w (Lose a b) = false
+
+-- P holds of the group of each message that carries one
+abbrev pub EachGroupIn : (ℕ → Type 0) → List (List ℕ) → Type 0
+EachGroupIn P [] = Unit {0}
+EachGroupIn P (l ∷ q) = (carriesGroup (messageIn l .kind) ≡ true → P (messageIn l .group .number)) × EachGroupIn P q
+
+-- the network does not hold g as a group number, in a record (of a Down node too) or a waiting message
+pub record LacksIn (w : Network) (g : ℕ) : Type 0 where
+  pub in-records : (j : ℕ) → 1 ≤ j → j ≤ w .n → recordAt w j .group .number ≡ g → ⊥
+  pub in-messages : EachGroupIn (λ h. h ≡ g → ⊥) (w .queue)
+
+-- a queue of `limit` messages, and up to 16 nodes
+abbrev pub limitsOf : ℕ → Limits
+limitsOf limit = record { nodes = 16; messages = limit }
+
+-- the history (01: book) of a list, "fed n and the events alone": it is that of the definitions of 01, and has no network in it
+abbrev pub historyOf : ℕ → ℕ → List Event → History
+historyOf n limit es = historyBy LeftOut n (limitsOf limit) es
+
+-- Demand 3 of every run of n controllers that answer as f does, over a queue of `limit` messages. Each field is that of `RunFixes` (model/specs/Claims), of the records that the controllers keep and the bytes
+-- that wait. es is a beginning of the list, fs what comes next, and e an event after them that is accepted and leaves the network u.
+pub record NetworkFixes (f : Controllers) (n limit : ℕ) : Type 0 where
+  -- two nodes in Reorganization or Normal with the same group have the same coordinator
+  pub same-coordinator : (es : List Event) (i j : ℕ) → 1 ≤ i → i ≤ n → 1 ≤ j → j ≤ n
+      → isActive (recordAt (runBy f (startNetwork n limit) es) i .status) ≡ true → isActive (recordAt (runBy f (startNetwork n limit) es) j .status) ≡ true
+      → recordAt (runBy f (startNetwork n limit) es) i .group .number ≡ recordAt (runBy f (startNetwork n limit) es) j .group .number
+      → recordAt (runBy f (startNetwork n limit) es) i .coordinator ≡ recordAt (runBy f (startNetwork n limit) es) j .coordinator
+  -- and two Normal ones the same task: what the customer lost a recording for
+  pub same-task : (es : List Event) (i j : ℕ) → 1 ≤ i → i ≤ n → 1 ≤ j → j ≤ n
+      → recordAt (runBy f (startNetwork n limit) es) i .status ≡ Normal → recordAt (runBy f (startNetwork n limit) es) j .status ≡ Normal
+      → recordAt (runBy f (startNetwork n limit) es) i .group .number ≡ recordAt (runBy f (startNetwork n limit) es) j .group .number
+      → recordAt (runBy f (startNetwork n limit) es) i .task .number ≡ recordAt (runBy f (startNetwork n limit) es) j .task .number
+  -- "The book's task is the one the list fixed"
+  pub fixed-task : (es fs : List Event) (i : ℕ) → 1 ≤ i → i ≤ n → recordAt (runBy f (startNetwork n limit) es) i .status ≡ Normal
+      → historyOf n limit (es ++ fs) .entry (recordAt (runBy f (startNetwork n limit) es) i .group .number) ≡ Task (recordAt (runBy f (startNetwork n limit) es) i .task .number)
+  -- "A new group gets the book's number"
+  pub numbered : (es : List Event) (e : Event) (u : Network) → stepBy f (runBy f (startNetwork n limit) es) e ≡ accepted u → formsAt (runBy f (startNetwork n limit) es) e ≡ true
+      → recordAt u (actor e) .group .number ≡ coming (historyOf n limit es) (actor e)
+  -- "and no table from the starting one to the one just before that event holds it as a group number, in a cabinet (Down ones too) or a waiting message": no record and no bytes on the cable
+  pub fresh : (es fs : List Event) (e : Event) (u : Network) → stepBy f (runBy f (startNetwork n limit) (es ++ fs)) e ≡ accepted u → formsAt (runBy f (startNetwork n limit) (es ++ fs)) e ≡ true
+      → LacksIn (runBy f (startNetwork n limit) es) (coming (historyOf n limit (es ++ fs)) (actor e))
+  -- and no other group is new, in a record
+  pub borrowed : (es : List Event) (e : Event) (u : Network) → stepBy f (runBy f (startNetwork n limit) es) e ≡ accepted u → formsAt (runBy f (startNetwork n limit) es) e ≡ false
+      → (j : ℕ) → 1 ≤ j → j ≤ n → LacksIn (runBy f (startNetwork n limit) es) (recordAt u j .group .number) → ⊥
+  -- or in a message
+  pub borrowed-messages : (es : List Event) (e : Event) (u : Network) → stepBy f (runBy f (startNetwork n limit) es) e ≡ accepted u
+      → EachGroupIn (λ g. LacksIn (runBy f (startNetwork n limit) es) g → (formsAt (runBy f (startNetwork n limit) es) e ≡ true) × (g ≡ coming (historyOf n limit es) (actor e))) (u .queue)
+  -- "no group ever gets a second task"
+  pub formed-once : (es : List Event) (e : Event) (u : Network) → stepBy f (runBy f (startNetwork n limit) es) e ≡ accepted u → formsAt (runBy f (startNetwork n limit) es) e ≡ true
+      → historyOf n limit es .entry (coming (historyOf n limit es) (actor e)) ≡ NotFormed
+  pub given-once : (es : List Event) (i : ℕ) (t : TaskNo) (u : Network) → stepBy f (runBy f (startNetwork n limit) es) (Finish i t) ≡ accepted u
+      → historyOf n limit es .entry (newest (historyOf n limit es) i) ≡ NoTask
+  -- "the group that i formed last" is the one that controller i has
+  pub own-group : (es : List Event) (i : ℕ) (t : TaskNo) (u : Network) → stepBy f (runBy f (startNetwork n limit) es) (Finish i t) ≡ accepted u
+      → recordAt (runBy f (startNetwork n limit) es) i .group .number ≡ newest (historyOf n limit es) i
+  -- and a task once given stays
+  pub lasts : (es fs : List Event) (g t : ℕ) → historyOf n limit es .entry g ≡ Task t → historyOf n limit (es ++ fs) .entry g ≡ Task t
+  -- T-10: a full peal is started only by a node that, with its members, is more than half of n
+  pub by-majority : (es : List Event) (i : ℕ) (t : TaskNo) (u : Network) → stepBy f (runBy f (startNetwork n limit) es) (Finish i t) ≡ accepted u → FullPeal (t .number)
+      → MoreThanHalf n (recordAt (runBy f (startNetwork n limit) es) i)
+
+-- what a run never leaves: its records are in range, its bytes are messages, and so no event meets 1, 20 or 21
+abbrev pub EachMessage : ℕ → List (List ℕ) → Type 0
+EachMessage n [] = Unit {0}
+EachMessage n (l ∷ q) = (isMessage n l ≡ true) × EachMessage n q
+
+pub record NetworkKeeps (f : Controllers) (n limit : ℕ) : Type 0 where
+  pub records : (es : List Event) (i : ℕ) → 1 ≤ i → i ≤ n → nodeInRange n i (recordAt (runBy f (startNetwork n limit) es) i) ≡ true
+  pub messages : (es : List Event) → EachMessage n (runBy f (startNetwork n limit) es .queue)
+  pub never : (es : List Event) (e : Event) (r : ℕ) → stepBy f (runBy f (startNetwork n limit) es) e ≡ refused r → (r ≡ 1 → ⊥) × ((r ≡ 20 → ⊥) × (r ≡ 21 → ⊥))
+
+-- ── of the code ──
+
+-- what an outcome of the code is as a result
+unfoldable pub resultBy : ControllerOutcome → controller.Result
+resultBy r = pick (isAccepted (r .answer)) (controller.accepted (r .node) (take (r .packet .length) (r .packet .bytes))) (controller.refused (answerNumber (r .answer)))
+
+-- what controllers give out: the code's told_event and told_message are such, for the numbers and bytes that fit their words
+abbrev pub Outcomes : Type 0
+Outcomes = ℕ → ℕ → Node → Incoming → ControllerOutcome
+
+-- each meets the promise
+abbrev pub Kept : Outcomes → Type 0
+Kept g = (n i : ℕ) (c : Node) (x : Incoming) → Told n i c x (g n i c x)
+
+abbrev pub answersOf : Outcomes → Controllers
+answersOf g n i c x = resultBy (g n i c x)
+
+-- The corollary: "It is what the firm buys". For n from 1 to 16 and a queue of up to 64 messages, demand 3 holds of every run of n controllers over it.
+pub record ControllersHold : Type 0 where
+  -- of the definitions
+  pub fixes : (n limit : ℕ) → 1 ≤ n → n ≤ 16 → limit ≤ 64 → NetworkFixes controllerStep n limit
+  pub keeps : (n limit : ℕ) → 1 ≤ n → n ≤ 16 → limit ≤ 64 → NetworkKeeps controllerStep n limit
+  -- and of any controllers that meet the promise of the code, so of the code's
+  pub code-fixes : (g : Outcomes) → Kept g → (n limit : ℕ) → 1 ≤ n → n ≤ 16 → limit ≤ 64 → NetworkFixes (answersOf g) n limit
+  pub code-keeps : (g : Outcomes) → Kept g → (n limit : ℕ) → 1 ≤ n → n ≤ 16 → limit ≤ 64 → NetworkKeeps (answersOf g) n limit
+  -- an outcome that meets the promise is the definition's result: nothing of it is free
+  pub told : (n i : ℕ) (c : Node) (x : Incoming) (r : ControllerOutcome) → Told n i c x r → resultBy r ≡ controllerStep n i c x
+  -- and there are such
+  pub some : Outcomes
+  pub some-kept : Kept some
