@@ -16,7 +16,7 @@ use Rattle.model.proofs.Range.{is-message, both}
 use Rattle.model.proofs.Local.{both-left, both-right}
 use Rattle.model.specs.declared.Message.{Message}
 use Rattle.number_bytes.specs.Bytes.{number, bytes, yesOf, yesNumber}
-use Rattle.number_bytes.proofs.Numbers.{read}
+use Rattle.number_bytes.proofs.Numbers.{read, one-is}
 use Rattle.number_bytes.proofs.Records.{yes-back, yes-small}
 use Rattle.message_fields.specs.declared.MessageRead.{MessageRead}
 use Rattle.message_fields.specs.declared.MessageRead.the-variants.{Wrong, Got}
@@ -168,7 +168,22 @@ fields-message n m h e =
 pub fields-read : (n : ℕ) (m : Message) → n ≤ 16 → messageInRange n m ≡ true → reading n (fields m) ≡ Got (carried m)
 fields-read n m h e = reading-got n (fields m) (fields-message n m h e) ∙ ap Got (message-back m (widths n m h e))
 
+-- from whom and to whom
+pub sender-at : (n : ℕ) (m : Message) → n ≤ 16 → messageInRange n m ≡ true → getD (fields m) 3 0 ≡ m .sender
+unfolding messageIn carried
+sender-at n m h r = sym (one-is (fields m) 3) ∙ ap (λ (x : Message). x .sender) (message-back m (widths n m h r))
+
+pub receiver-at : (n : ℕ) (m : Message) → n ≤ 16 → messageInRange n m ≡ true → getD (fields m) 4 0 ≡ m .receiver
+unfolding messageIn carried
+receiver-at n m h r = sym (one-is (fields m) 4) ∙ ap (λ (x : Message). x .receiver) (message-back m (widths n m h r))
+
 -- ── how many bytes ──
+
+-- what holds of any bytes holds of a message's, which are some
+pub has-bytes : (m : Message) (P : List ℕ → Type 0) → ((x : ℕ) (l : List ℕ) → P (x ∷ l)) → P (fields m)
+unfolding bytes fields
+has-bytes m P f = f _ _
+
 same-kind : (a b : Message) → a .kind ≡ b .kind → length (fields a) ≡ length (fields b)
 same-kind a b e = by (kind-of (b .kind))
   where

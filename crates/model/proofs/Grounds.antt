@@ -174,3 +174,26 @@ module _ {R : Type 0} (refuse : ℕ → R) (x : R) where
       by-applies : (t : Bool) → g .applies ≡ t → (1 ≤ first gs → judged refuse x gs ≡ refuse (first gs)) → pick (g .applies) (refuse (g .number)) (judged refuse x gs) ≡ refuse (pick (g .applies) (g .number) (first gs))
       by-applies true a k = rw (a, pick-true, pick-true)
       by-applies false a k = rw (a, pick-false, pick-false) (k (rw (a, pick-false) at h))
+
+-- ── two tables of grounds, or two kinds of results ──
+
+-- what is judged, and then taken to another kind of result
+pub judged-map : {R S : Type 0} (h : R → S) (refuse : ℕ → R) (x : R) (gs : List Ground) → h (judged refuse x gs) ≡ judged (λ r. h (refuse r)) (h x) gs
+unfolding judged pick
+judged-map h refuse x [] = refl
+judged-map {R} {S} h refuse x (g ∷ gs) = by (g .applies) (judged-map h refuse x gs)
+  where
+    by : (t : Bool) → h (judged refuse x gs) ≡ judged (λ r. h (refuse r)) (h x) gs → h (pick t (refuse (g .number)) (judged refuse x gs)) ≡ pick t (h (refuse (g .number))) (judged (λ r. h (refuse r)) (h x) gs)
+    by true f = refl
+    by false f = f
+
+module _ {R : Type 0} (refuse : ℕ → R) where
+  -- the result where none applies matters only there
+  pub judged-same : (x y : R) (gs : List Ground) → (NoneApplies gs → x ≡ y) → judged refuse x gs ≡ judged refuse y gs
+  unfolding judged pick
+  judged-same x y [] f = f tt
+  judged-same x y (g ∷ gs) f = by (g .applies) refl (λ q. judged-same x y gs (λ c. f (q, c)))
+    where
+      by : (t : Bool) → g .applies ≡ t → (g .applies ≡ false → judged refuse x gs ≡ judged refuse y gs) → pick t (refuse (g .number)) (judged refuse x gs) ≡ pick t (refuse (g .number)) (judged refuse y gs)
+      by true q k = refl
+      by false q k = k q
