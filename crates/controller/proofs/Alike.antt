@@ -3,7 +3,7 @@ use Prim.Native.Nat.{ℕ, _-_, _≤_}
 use native.Mathlib.Omega.{arith}
 use mathlib.Core.Bool.{Bool, true, false, not, _&&_, true≢false}
 use mathlib.Core.Path.{_≡_, refl, sym, _∙_, ap}
-use mathlib.Core.Logic.{_⊎_, inl, inr}
+use mathlib.Core.Logic.{_⊎_, inl, inr, ⊎-elim}
 use mathlib.Core.List.{List, [], _∷_, _++_, map, append-nil}
 use lib.Dec.{eqb, leb}
 use lib.ListN.{length, set}
@@ -19,11 +19,14 @@ use Rattle.model.specs.State.{State, startingNode, nodeAt, goes, waits, oldest,
 use Rattle.model.specs.Step as table
 use Rattle.model.specs.Step.{actor, reactionTo, remaining, sent, effect, wrongNumber, wrongTask, wrongStatus, wrongActivity, notCoordinator, noMajority, noneWaits, forms, isCalling, isSending, pairAtEnd, grounds, step}
 use Rattle.model.proofs.Grounds.{judged-map, judged-none, judged-same}
+use Rattle.model.proofs.Judged.{met, passed, ended-clear}
 use Rattle.model.proofs.Local.{both-left, both-right}
 use Rattle.model.proofs.Range.{is-other}
 use Rattle.model.proofs.Fields.{message-facts, in-range-node, in-range-size, in-range-queue, in-range-oldest, oldest-goes}
 use Rattle.model.specs.declared.Node.{Node}
 use Rattle.model.specs.declared.Message.{Message}
+use Rattle.model.specs.declared.Outgoing.{Outgoing}
+use Rattle.model.specs.declared.Outgoing.the-variants.{Nothing, Send}
 use Rattle.model.specs.declared.Input.the-variants.{Receive}
 use Rattle.model.specs.declared.Event.{Event}
 use Rattle.model.specs.declared.Event.the-variants as Event
@@ -33,9 +36,9 @@ use Rattle.controller.specs.declared.LocalEvent.{LocalEvent}
 use Rattle.controller.specs.declared.LocalEvent.the-variants.{Crash, Recover, Check, Timeout, Tick, Expire, Finish}
 use Rattle.controller.specs.Controller as controller
 use Rattle.controller.specs.Controller.{Incoming, event, message, asEvent, eventOf, inputOf, inputIn, reactionIn, sentBytes, inRangeFor, wrongNumberIn, wrongTaskIn, wrongMessage, isForOther, controllerGrounds, controllerStep}
-use Rattle.controller.specs.Network.{Controllers, at, Network, recordAt, networkOf, waitsIn, oldestIn, withoutIn, put, Result, refused, accepted, kept, isFull, taken, whose, stepBy, networkStep}
-use Rattle.controller.specs.Claims.{resultOf, isQueues, answerAt, AnswersAsTable}
-use Rattle.controller.proofs.Queue.{waits-bytes, oldest-bytes, without-bytes, put-sent, map-append, full-is}
+use Rattle.controller.specs.Network.{Controllers, atController, Network, recordAt, networkOf, waitsIn, oldestIn, withoutIn, asQueued, Result, refused, accepted, stored, isFull, answeredBy, controllerFor, stepBy, networkStep}
+use Rattle.controller.specs.Claims.{resultOf, belongsToQueue, incomingAt, answerAt, AnswersAsTable}
+use Rattle.controller.proofs.Queue.{waits-bytes, oldest-bytes, without-bytes, queued-sent, map-append, full-is}
 use Rattle.controller.proofs.Carried.{react-carried}
 
 -- the record of a node of a table in range is in range for its controller
@@ -95,27 +98,27 @@ module _ (s : State) (e : Event) where
     table-is = rw (ok, h .found)
 
     -- the network with the controller's record and message is that of the table after the event
-    kept-is : kept (networkOf s) (actor e) (map fields (remaining s e)) (reactionTo s e .node) (sentBytes (reactionTo s e .outgoing)) ≡ networkOf (effect s e)
+    stored-is : stored (networkOf s) (actor e) (map fields (remaining s e)) (reactionTo s e .node) (sentBytes (reactionTo s e .outgoing)) ≡ networkOf (effect s e)
     unfolding effect
-    kept-is = rw (map-append (remaining s e) (sent (reactionTo s e .outgoing)), put-sent (reactionTo s e .outgoing))
+    stored-is = rw (map-append (remaining s e) (sent (reactionTo s e .outgoing)), queued-sent (reactionTo s e .outgoing))
 
     module _ (free : step s e ≡ table.refused 17 → ⊥) where
-      behind : NoneApplies shared → taken (networkOf s) (actor e) (map fields (remaining s e)) acts ≡ resultOf queued
+      behind : NoneApplies shared → answeredBy (networkOf s) (actor e) (map fields (remaining s e)) acts ≡ resultOf queued
       behind none = rw (full-is (s .limits .messages) (remaining s e) (reactionTo s e .outgoing)) (by full refl (pairAtEnd (s .sent) (reactionTo s e .outgoing)) refl)
         where
           reached : step s e ≡ queued
           reached = table-is ∙ judged-none table.refused queued shared none
 
           by : (t : Bool) → full ≡ t → (z : Bool) → pairAtEnd (s .sent) (reactionTo s e .outgoing) ≡ z
-              → pick t (refused 14) (accepted (kept (networkOf s) (actor e) (map fields (remaining s e)) (reactionTo s e .node) (sentBytes (reactionTo s e .outgoing))))
+              → pick t (refused 14) (accepted (stored (networkOf s) (actor e) (map fields (remaining s e)) (reactionTo s e .node) (sentBytes (reactionTo s e .outgoing))))
               ≡ resultOf (pick t (table.refused 14) (pick z (table.refused 17) (table.accepted (effect s e) (reactionTo s e .mark))))
           by true f z p = rw (pick-true, pick-true)
           by false f true p = absurd (free (reached ∙ rw (f, p, pick-false, pick-true)))
-          by false f false p = rw (pick-false, pick-false, pick-false) (ap accepted kept-is)
+          by false f false p = rw (pick-false, pick-false, pick-false) (ap accepted stored-is)
 
-      pub alike : taken (networkOf s) (actor e) (map fields (remaining s e)) (controllerStep (s .n) (actor e) (nodeAt s (actor e)) x) ≡ resultOf (step s e)
+      pub alike : answeredBy (networkOf s) (actor e) (map fields (remaining s e)) (controllerStep (s .n) (actor e) (nodeAt s (actor e)) x) ≡ resultOf (step s e)
       alike =
-          rw (controller-is, table-is, judged-map (taken (networkOf s) (actor e) (map fields (remaining s e))) controller.refused acts shared, judged-map resultOf table.refused queued shared)
+          rw (controller-is, table-is, judged-map (answeredBy (networkOf s) (actor e) (map fields (remaining s e))) controller.refused acts shared, judged-map resultOf table.refused queued shared)
           (judged-same refused _ _ shared behind)
 
     -- 14 and 17 are behind all grounds of a controller
@@ -161,7 +164,7 @@ local-reacts s (Tick i) = refl
 local-reacts s (Expire i) = refl
 local-reacts s (Finish i t) = refl
 
-pub local-step : (f : Controllers) (w : Network) (e : LocalEvent) → stepBy f w (asEvent e) ≡ at f w (actor (asEvent e)) e
+pub local-step : (f : Controllers) (w : Network) (e : LocalEvent) → stepBy f w (asEvent e) ≡ atController f w (actor (asEvent e)) e
 unfolding stepBy
 local-step f w (Crash i) = refl
 local-step f w (Recover i) = refl
@@ -171,14 +174,14 @@ local-step f w (Tick i) = refl
 local-step f w (Expire i) = refl
 local-step f w (Finish i t) = refl
 
-local-answer : (s : State) (e : LocalEvent) → answerAt s (asEvent e) ≡ controllerStep (s .n) (actor (asEvent e)) (nodeAt s (actor (asEvent e))) (event e)
-local-answer s (Crash i) = refl
-local-answer s (Recover i) = refl
-local-answer s (Check i) = refl
-local-answer s (Timeout i) = refl
-local-answer s (Tick i) = refl
-local-answer s (Expire i) = refl
-local-answer s (Finish i t) = refl
+local-incoming : (s : State) (e : LocalEvent) → incomingAt s (asEvent e) ≡ event e
+local-incoming s (Crash i) = refl
+local-incoming s (Recover i) = refl
+local-incoming s (Check i) = refl
+local-incoming s (Timeout i) = refl
+local-incoming s (Tick i) = refl
+local-incoming s (Expire i) = refl
+local-incoming s (Finish i t) = refl
 
 module _ (s : State) (e : LocalEvent) (ok : inRange s ≡ true) where
   local-same : isNode (s .n) (actor (asEvent e)) ≡ true → SameEvent s (asEvent e) (event e)
@@ -208,15 +211,19 @@ module _ (s : State) (e : LocalEvent) (ok : inRange s ≡ true) where
   unfolding controllerStep controllerGrounds judged pick
   controller-seven h j l u = rw (node-range s j ok l u, number-is (s .n) e, h)
 
+  local-network : isNode (s .n) (actor (asEvent e)) ≡ true
+      → networkStep (networkOf s) (asEvent e) ≡ answeredBy (networkOf s) (actor (asEvent e)) (map fields (remaining s (asEvent e))) (controllerStep (s .n) (actor (asEvent e)) (nodeAt s (actor (asEvent e))) (event e))
+  local-network h =
+      local-step controllerStep (networkOf s) e
+      ∙ rw (h, pick-true)
+      (ap (λ (q : List Message). answeredBy (networkOf s) (actor (asEvent e)) (map fields q) (controllerStep (s .n) (actor (asEvent e)) (nodeAt s (actor (asEvent e))) (event e))) (sym (local-remaining s e)))
+
   local-alike : (step s (asEvent e) ≡ table.refused 17 → ⊥) → networkStep (networkOf s) (asEvent e) ≡ resultOf (step s (asEvent e))
-  local-alike free = local-step controllerStep (networkOf s) e ∙ by (isNode (s .n) (actor (asEvent e))) refl
+  local-alike free = by (isNode (s .n) (actor (asEvent e))) refl
     where
-      by : (t : Bool) → isNode (s .n) (actor (asEvent e)) ≡ t → at controllerStep (networkOf s) (actor (asEvent e)) e ≡ resultOf (step s (asEvent e))
-      by true h =
-          rw (h, pick-true)
-          (ap (λ (q : List Message). taken (networkOf s) (actor (asEvent e)) (map fields q) (controllerStep (s .n) (actor (asEvent e)) (nodeAt s (actor (asEvent e))) (event e))) (sym (local-remaining s e))
-          ∙ alike s (asEvent e) (event e) ok (local-same h) free)
-      by false h = rw (h, pick-false, table-seven h, controller-seven h 1 (omega arith) (in-range-size s ok .0))
+      by : (t : Bool) → isNode (s .n) (actor (asEvent e)) ≡ t → networkStep (networkOf s) (asEvent e) ≡ resultOf (step s (asEvent e))
+      by true h = local-network h ∙ alike s (asEvent e) (event e) ok (local-same h) free
+      by false h = local-step controllerStep (networkOf s) e ∙ rw (h, pick-false, table-seven h, controller-seven h 1 (omega arith) (in-range-size s ok .0))
 
 -- ── deliver and lose with a message waiting ──
 pair-of : (n : ℕ) (m : Message) → messageInRange n m ≡ true → {a b : ℕ} → m .sender ≡ a → m .receiver ≡ b → isPair n a b ≡ true
@@ -283,12 +290,14 @@ module _ (s : State) (a b : ℕ) (ok : inRange s ≡ true) (w : waits a b (s .qu
   unfolding remaining
   deliver-remaining = refl
 
-  deliver-alike : (step s (Event.Deliver a b) ≡ table.refused 17 → ⊥) → networkStep (networkOf s) (Event.Deliver a b) ≡ resultOf (step s (Event.Deliver a b))
+  deliver-network : networkStep (networkOf s) (Event.Deliver a b) ≡ answeredBy (networkOf s) b (map fields (remaining s (Event.Deliver a b))) (controllerStep (s .n) b (nodeAt s b) (message (fields first)))
   unfolding stepBy
-  deliver-alike free =
+  deliver-network =
       rw (waiting-bytes, pick-true, without, oldest-bytes (s .n) small a b 1 (s .queue) (in-range-queue s ok) w)
-      (ap (λ (q : List Message). taken (networkOf s) b (map fields q) (controllerStep (s .n) b (nodeAt s b) (message (fields first)))) (sym deliver-remaining)
-      ∙ alike s (Event.Deliver a b) (message (fields first)) ok deliver-same free)
+      (ap (λ (q : List Message). answeredBy (networkOf s) b (map fields q) (controllerStep (s .n) b (nodeAt s b) (message (fields first)))) (sym deliver-remaining))
+
+  deliver-alike : (step s (Event.Deliver a b) ≡ table.refused 17 → ⊥) → networkStep (networkOf s) (Event.Deliver a b) ≡ resultOf (step s (Event.Deliver a b))
+  deliver-alike free = deliver-network ∙ alike s (Event.Deliver a b) (message (fields first)) ok deliver-same free
 
   lose-is : step s (Event.Lose a b) ≡ table.accepted (effect s (Event.Lose a b)) (reactionTo s (Event.Lose a b) .mark)
   unfolding step grounds reactionTo judged pick
@@ -331,7 +340,7 @@ module _ (s : State) (a b : ℕ) (ok : inRange s ≡ true) (w : waits a b (s .qu
 
 -- ── all events ──
 module _ (s : State) (ok : inRange s ≡ true) where
-  pub same : (e : Event) → isQueues s e ≡ false → (step s e ≡ table.refused 17 → ⊥) → networkStep (networkOf s) e ≡ resultOf (step s e)
+  pub same : (e : Event) → belongsToQueue s e ≡ false → (step s e ≡ table.refused 17 → ⊥) → networkStep (networkOf s) e ≡ resultOf (step s e)
   same (Event.Crash i) q = local-alike s (Crash i) ok
   same (Event.Recover i) q = local-alike s (Recover i) ok
   same (Event.Check i) q = local-alike s (Check i) ok
@@ -341,3 +350,92 @@ module _ (s : State) (ok : inRange s ≡ true) where
   same (Event.Finish i t) q = local-alike s (Finish i t) ok
   same (Event.Deliver a b) q = deliver-alike s a b ok (not-false (waits a b (s .queue)) q)
   same (Event.Lose a b) q = absurd (true≢false q)
+
+  -- what the controller of the event's node is told
+  same-local : (e : LocalEvent) → wrongNumber (s .n) (asEvent e) ≡ false → SameEvent s (asEvent e) (incomingAt s (asEvent e))
+  same-local e h = rw (local-incoming s e) (local-same s e ok (not-false (isNode (s .n) (actor (asEvent e))) (sym (number-is (s .n) e) ∙ h)))
+
+  -- where its numbers are right and a message waits for it
+  same-event : (e : Event) → wrongNumber (s .n) e ≡ false → noneWaits (s .queue) e ≡ false → isSending (reactionTo s e .outgoing) ≡ true → SameEvent s e (incomingAt s e)
+  unfolding reactionTo
+  same-event (Event.Crash i) h w o = same-local (Crash i) h
+  same-event (Event.Recover i) h w o = same-local (Recover i) h
+  same-event (Event.Check i) h w o = same-local (Check i) h
+  same-event (Event.Timeout i) h w o = same-local (Timeout i) h
+  same-event (Event.Tick i) h w o = same-local (Tick i) h
+  same-event (Event.Expire i) h w o = same-local (Expire i) h
+  same-event (Event.Finish i t) h w o = same-local (Finish i t) h
+  same-event (Event.Deliver a b) h w o = deliver-same s a b ok (not-false (waits a b (s .queue)) w)
+  same-event (Event.Lose a b) h w o = absurd (true≢false (sym o))
+
+  -- 14 and 17 are met behind all others, and where a message is sent
+  record Behind (e : Event) : Type 0 where
+    none : NoneApplies (shared s e)
+    number : wrongNumber (s .n) e ≡ false
+    found : noneWaits (s .queue) e ≡ false
+    sends : isSending (reactionTo s e .outgoing) ≡ true
+
+  at-fourteen : (e : Event) → step s e ≡ table.refused 14 → Behind e
+  unfolding grounds pick
+  at-fourteen e q =
+      record {
+        none = (passed s e 7 14 refl q, (passed s e 8 14 refl q, (passed s e 9 14 refl q, (passed s e 10 14 refl q, (passed s e 18 14 refl q, (passed s e 19 14 refl q, (passed s e 12 14 refl q, (passed s e 13 14 refl q, tt))))))));
+        number = passed s e 7 14 refl q;
+        found = passed s e 11 14 refl q;
+        sends = both-left (isSending (reactionTo s e .outgoing)) _ (met s e 14 refl q);
+      }
+
+  end-sends : (l : List ℕ) (o : Outgoing) → pairAtEnd l o ≡ true → isSending o ≡ true
+  end-sends l Nothing h = h
+  end-sends l (Send m) h = refl
+
+  at-seventeen : (e : Event) → step s e ≡ table.refused 17 → Behind e
+  unfolding grounds pick
+  at-seventeen e q =
+      record {
+        none = (passed s e 7 17 refl q, (passed s e 8 17 refl q, (passed s e 9 17 refl q, (passed s e 10 17 refl q, (passed s e 18 17 refl q, (passed s e 19 17 refl q, (passed s e 12 17 refl q, (passed s e 13 17 refl q, tt))))))));
+        number = passed s e 7 17 refl q;
+        found = passed s e 11 17 refl q;
+        sends = end-sends (s .sent) (reactionTo s e .outgoing) (met s e 17 refl q);
+      }
+
+  accepts-behind : (e : Event) → Behind e → answerAt s e ≡ acts s e
+  accepts-behind e b = accepts s e (incomingAt s e) ok (same-event e (b .number) (b .found) (b .sends)) (b .none)
+
+  -- the network's step by the answer of the event's controller
+  network-local : (e : LocalEvent) → wrongNumber (s .n) (asEvent e) ≡ false → networkStep (networkOf s) (asEvent e) ≡ answeredBy (networkOf s) (actor (asEvent e)) (map fields (remaining s (asEvent e))) (answerAt s (asEvent e))
+  network-local e h = rw (local-incoming s e) (local-network s e ok (not-false (isNode (s .n) (actor (asEvent e))) (sym (number-is (s .n) e) ∙ h)))
+
+  network-is : (e : Event) → wrongNumber (s .n) e ≡ false → noneWaits (s .queue) e ≡ false → isSending (reactionTo s e .outgoing) ≡ true
+      → networkStep (networkOf s) e ≡ answeredBy (networkOf s) (actor e) (map fields (remaining s e)) (answerAt s e)
+  unfolding reactionTo
+  network-is (Event.Crash i) h w o = network-local (Crash i) h
+  network-is (Event.Recover i) h w o = network-local (Recover i) h
+  network-is (Event.Check i) h w o = network-local (Check i) h
+  network-is (Event.Timeout i) h w o = network-local (Timeout i) h
+  network-is (Event.Tick i) h w o = network-local (Tick i) h
+  network-is (Event.Expire i) h w o = network-local (Expire i) h
+  network-is (Event.Finish i t) h w o = network-local (Finish i t) h
+  network-is (Event.Deliver a b) h w o = deliver-network s a b ok (not-false (waits a b (s .queue)) w)
+  network-is (Event.Lose a b) h w o = absurd (true≢false (sym o))
+
+  -- 17 is met where 14 is not
+  goes-on : (e : Event) → step s e ≡ table.refused 17 → networkStep (networkOf s) e ≡ accepted (networkOf (effect s e))
+  goes-on e q =
+      let b = at-seventeen e q in
+      network-is e (b .number) (b .found) (b .sends)
+      ∙ rw (accepts-behind e b, full-is (s .limits .messages) (remaining s e) (reactionTo s e .outgoing), ended-clear s e q .room, pick-false)
+      (ap accepted (stored-is s e (incomingAt s e) ok (same-event e (b .number) (b .found) (b .sends))))
+
+pub answers-as-table : AnswersAsTable
+answers-as-table =
+    record {
+      same = λ s e ok. same s ok e;
+      queue-grounds = λ s e ok. ⊎-elim (λ q. accepts-behind s ok e (at-fourteen s ok e q)) (λ q. accepts-behind s ok e (at-seventeen s ok e q));
+      seventeen = λ s e ok. goes-on s ok e;
+      lose = λ s a b ok w. lose-alike s a b ok w;
+      none-waits = λ s a b ok w. (none-deliver s a b ok w, none-lose s a b ok w);
+      none-waits-deliver = λ s a b ok w. table-deliver s a b ok w;
+      none-waits-lose = λ s a b ok w. table-lose s a b ok w;
+      no-node = λ s e j ok h l u. controller-seven s e ok h j l u;
+    }

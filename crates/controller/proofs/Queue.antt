@@ -16,7 +16,7 @@ use Rattle.model.specs.declared.Outgoing.the-variants.{Nothing, Send}
 use Rattle.message_fields.specs.Fields.{fields}
 use Rattle.message_fields.proofs.RoundTrip.{sender-at, receiver-at, has-bytes}
 use Rattle.controller.specs.Controller.{sentBytes}
-use Rattle.controller.specs.Network.{goesBytes, waitsIn, oldestIn, withoutIn, put, isFull}
+use Rattle.controller.specs.Network.{goesBytes, waitsIn, oldestIn, withoutIn, asQueued, isFull}
 
 module _ (n : ℕ) (small : n ≤ 16) where
   -- ── from whom and to whom, by the bytes ──
@@ -50,9 +50,9 @@ module _ (n : ℕ) (small : n ≤ 16) where
         by false = refl
 
 -- ── what is sent ──
-pub put-sent : (o : Outgoing) → put (sentBytes o) ≡ map fields (sent o)
-put-sent Nothing = refl
-put-sent (Send m) = has-bytes m (λ (l : List ℕ). put l ≡ l ∷ []) (λ x l. refl)
+pub queued-sent : (o : Outgoing) → asQueued (sentBytes o) ≡ map fields (sent o)
+queued-sent Nothing = refl
+queued-sent (Send m) = has-bytes m (λ (l : List ℕ). asQueued l ≡ l ∷ []) (λ x l. refl)
 
 pub map-append : (p q : List Message) → map fields (p ++ q) ≡ map fields p ++ map fields q
 map-append [] q = refl
@@ -62,6 +62,6 @@ pub map-length : (q : List Message) → length (map fields q) ≡ length q
 map-length [] = refl
 map-length (m ∷ q) = ap suc (map-length q)
 
-pub full-is : (limit : ℕ) (q : List Message) (o : Outgoing) → isFull limit (map fields q) (put (sentBytes o)) ≡ isSending o && eqb (length q) limit
+pub full-is : (limit : ℕ) (q : List Message) (o : Outgoing) → isFull limit (map fields q) (asQueued (sentBytes o)) ≡ isSending o && eqb (length q) limit
 full-is limit q Nothing = refl
-full-is limit q (Send m) = has-bytes m (λ (l : List ℕ). isFull limit (map fields q) (put l) ≡ eqb (length q) limit) (λ x l. ap (λ (k : ℕ). eqb k limit) (map-length q))
+full-is limit q (Send m) = has-bytes m (λ (l : List ℕ). isFull limit (map fields q) (asQueued l) ≡ eqb (length q) limit) (λ x l. ap (λ (k : ℕ). eqb k limit) (map-length q))

@@ -1,20 +1,22 @@
--- What is claimed of controllers: that n of them over one queue answer as the whole table does, and so that demand 3 holds of every run of them (02, T-11). The proofs are in proofs/Alike,
--- proofs/Runs, proofs/Holds and proofs/Grounds.
+-- What is claimed of controllers (02, T-11): that n of them over one queue answer as the whole table does, and so that demand 3 holds of every run of them; and of one by itself. The proofs are in
+-- proofs/Alike, proofs/Runs, proofs/Holds, proofs/Outcomes and proofs/Alone.
 use Prim.Native.Nat.{ℕ, _≤_}
 use mathlib.Core.Bool.{Bool, true, false, not}
 use mathlib.Core.Path.{_≡_}
 use mathlib.Core.Logic.{_⊎_}
 use mathlib.Core.List.{List, [], _∷_, _++_, map}
-use lib.ListN.{take}
+use lib.ListN.{length, take}
 use Rattle.model.specs.Pick.{pick}
 use Rattle.model.specs.Node.{isActive}
 use Rattle.model.specs.Range.{PairRule, LeftOut, isNode, carriesGroup, nodeInRange}
 use Rattle.model.specs.State.{State, nodeAt, waits, oldest, inRange}
 use Rattle.model.specs.Step as table
-use Rattle.model.specs.Step.{actor, reactionTo, forms, step}
+use Rattle.model.specs.Step.{actor, reactionTo, effect, forms, step}
 use Rattle.model.specs.History.{History, NotFormed, NoTask, Task, newest, coming, historyBy}
 use Rattle.model.specs.Answers.{answerNumber, isAccepted}
-use Rattle.model.specs.Claims.{MayStart, FullPeal, MoreThanHalf}
+use Rattle.model.specs.Limits.{nodeLimit}
+use Rattle.model.specs.Grounds.{NoneApplies}
+use Rattle.model.specs.Claims.{MayStart, FullPeal, MoreThanHalf, FirstApplies}
 use Rattle.model.specs.declared.Limits.{Limits}
 use Rattle.model.specs.declared.Status.the-variants.{Normal}
 use Rattle.model.specs.declared.TaskNo.{TaskNo}
@@ -26,9 +28,9 @@ use Rattle.controller.specs.declared.LocalEvent.{LocalEvent}
 use Rattle.controller.specs.declared.LocalEvent.the-variants as LocalEvent
 use Rattle.controller.specs.declared.ControllerOutcome.{ControllerOutcome}
 use Rattle.controller.specs.Controller as controller
-use Rattle.controller.specs.Controller.{Incoming, event, message, asEvent, reactionIn, sentBytes, controllerStep}
+use Rattle.controller.specs.Controller.{Incoming, event, message, asEvent, reactionIn, sentBytes, inRangeFor, controllerGrounds, controllerStep}
 use Rattle.controller.specs.Told.{Told}
-use Rattle.controller.specs.Network.{Network, recordAt, startNetwork, networkOf, waitsIn, oldestIn, Result, refused, accepted, Controllers, stepBy, left, runBy, networkStep, networkRun}
+use Rattle.controller.specs.Network.{Network, recordAt, startNetwork, networkOf, oldestIn, Result, refused, accepted, Controllers, stepBy, runBy, networkStep, networkRun}
 
 -- ── the theorem: "From any table in range, running n of these over one message queue answers as the whole table does, event by event" ──
 
@@ -38,36 +40,42 @@ resultOf (table.refused r) = refused r
 resultOf (table.accepted u k) = accepted (networkOf u)
 
 -- "apart from lose, deliver with nothing waiting": these events are the queue's alone
-abbrev pub isQueues : State → Event → Bool
-isQueues s (Crash i) = false
-isQueues s (Recover i) = false
-isQueues s (Check i) = false
-isQueues s (Timeout i) = false
-isQueues s (Tick i) = false
-isQueues s (Expire i) = false
-isQueues s (Finish i t) = false
-isQueues s (Deliver a b) = not (waits a b (s .queue))
-isQueues s (Lose a b) = true
+abbrev pub belongsToQueue : State → Event → Bool
+belongsToQueue s (Crash i) = false
+belongsToQueue s (Recover i) = false
+belongsToQueue s (Check i) = false
+belongsToQueue s (Timeout i) = false
+belongsToQueue s (Tick i) = false
+belongsToQueue s (Expire i) = false
+belongsToQueue s (Finish i t) = false
+belongsToQueue s (Deliver a b) = not (waits a b (s .queue))
+belongsToQueue s (Lose a b) = true
 
--- what the controller that is told of the event answers, from the table s: of deliver, controller b, handed the oldest message's bytes; of lose none is asked
+-- what the controller of the event's node is told, from the table s: the event, or the bytes of the message that is delivered; lose tells no controller anything, and no claim asks what it is told
+abbrev pub incomingAt : State → Event → Incoming
+incomingAt s (Crash i) = event (LocalEvent.Crash i)
+incomingAt s (Recover i) = event (LocalEvent.Recover i)
+incomingAt s (Check i) = event (LocalEvent.Check i)
+incomingAt s (Timeout i) = event (LocalEvent.Timeout i)
+incomingAt s (Tick i) = event (LocalEvent.Tick i)
+incomingAt s (Expire i) = event (LocalEvent.Expire i)
+incomingAt s (Finish i t) = event (LocalEvent.Finish i t)
+incomingAt s (Deliver a b) = message (fields (oldest a b (s .queue)))
+incomingAt s (Lose a b) = message (fields (oldest a b (s .queue)))
+
+-- and what it answers
 abbrev pub answerAt : State → Event → controller.Result
-answerAt s (Crash i) = controllerStep (s .n) i (nodeAt s i) (event (LocalEvent.Crash i))
-answerAt s (Recover i) = controllerStep (s .n) i (nodeAt s i) (event (LocalEvent.Recover i))
-answerAt s (Check i) = controllerStep (s .n) i (nodeAt s i) (event (LocalEvent.Check i))
-answerAt s (Timeout i) = controllerStep (s .n) i (nodeAt s i) (event (LocalEvent.Timeout i))
-answerAt s (Tick i) = controllerStep (s .n) i (nodeAt s i) (event (LocalEvent.Tick i))
-answerAt s (Expire i) = controllerStep (s .n) i (nodeAt s i) (event (LocalEvent.Expire i))
-answerAt s (Finish i t) = controllerStep (s .n) i (nodeAt s i) (event (LocalEvent.Finish i t))
-answerAt s (Deliver a b) = controllerStep (s .n) b (nodeAt s b) (message (fields (oldest a b (s .queue))))
-answerAt s (Lose a b) = controller.accepted (nodeAt s b) []
+answerAt s e = controllerStep (s .n) (actor e) (nodeAt s (actor e)) (incomingAt s e)
 
 pub record AnswersAsTable : Type 0 where
   -- The answer is the table's, and so are the records and messages after it. 14 is the queue's, and the network's queue answers it where the table does. 17 is by the table's counts, which a network
   -- has not; no run of the table meets it (TrafficAgrees.never-seventeen of crate model).
-  pub same : (s : State) (e : Event) → inRange s ≡ true → isQueues s e ≡ false → (step s e ≡ table.refused 17 → ⊥) → networkStep (networkOf s) e ≡ resultOf (step s e)
+  pub same : (s : State) (e : Event) → inRange s ≡ true → belongsToQueue s e ≡ false → (step s e ≡ table.refused 17 → ⊥) → networkStep (networkOf s) e ≡ resultOf (step s e)
   -- "grounds 14 and 17, which belong to the queue": the controller itself accepts there, and gives what the node does
-  pub queue-full : (s : State) (e : Event) → inRange s ≡ true → isQueues s e ≡ false → (step s e ≡ table.refused 14) ⊎ (step s e ≡ table.refused 17)
+  pub queue-grounds : (s : State) (e : Event) → inRange s ≡ true → (step s e ≡ table.refused 14) ⊎ (step s e ≡ table.refused 17)
       → answerAt s e ≡ controller.accepted (reactionTo s e .node) (sentBytes (reactionTo s e .outgoing))
+  -- and so the network goes on where the table meets 17
+  pub seventeen : (s : State) (e : Event) → inRange s ≡ true → step s e ≡ table.refused 17 → networkStep (networkOf s) e ≡ accepted (networkOf (effect s e))
   -- lose takes the oldest message out of the queue, as out of the table
   pub lose : (s : State) (a b : ℕ) → inRange s ≡ true → waits a b (s .queue) ≡ true → networkStep (networkOf s) (Lose a b) ≡ resultOf (step s (Lose a b))
   -- deliver and lose with nothing waiting are refused by both: by the queue with 11, by the table with 7, 9 or 11
@@ -78,13 +86,24 @@ pub record AnswersAsTable : Type 0 where
   -- an event of a node that is none of the n is refused with 7 by each of the n controllers, whichever is told of it
   pub no-node : (s : State) (e : LocalEvent) (j : ℕ) → inRange s ≡ true → isNode (s .n) (actor (asEvent e)) ≡ false → 1 ≤ j → j ≤ s .n → controllerStep (s .n) j (nodeAt s j) (event e) ≡ controller.refused 7
 
--- every list of events leads to the same records and messages: "with power cuts and losses anywhere", as crash and lose may stand anywhere in it, and events that are refused too
+-- no event of the list meets 17, from the table s
+abbrev pub NeverSeventeen : State → List Event → Type 0
+NeverSeventeen s [] = Unit {0}
+NeverSeventeen s (e ∷ es) = (step s e ≡ table.refused 17 → ⊥) × NeverSeventeen (table.after s e) es
+
+-- Every list of events leads to the same records and messages. 01: "A power cut is a crash event and a lost message a lose event; either may stand anywhere in the list"; events that are refused too.
 pub record RunsAsTable : Type 0 where
+  -- from any table in range
+  pub from-any : (s : State) (es : List Event) → inRange s ≡ true → NeverSeventeen s es → runBy controllerStep (networkOf s) es ≡ networkOf (table.runFrom s es)
+  -- from the start, where no event meets 17
   pub runs : (r : PairRule) (n : ℕ) (l : Limits) → MayStart r n l → (es : List Event) → networkRun n (l .messages) es ≡ networkOf (table.runBy r n l es)
+  -- and the answers on the way are the table's too, but for the number of a refusal where nothing waits
+  pub answers : (r : PairRule) (n : ℕ) (l : Limits) → MayStart r n l → (es : List Event) (e : Event) → belongsToQueue (table.runBy r n l es) e ≡ false
+      → networkStep (networkRun n (l .messages) es) e ≡ resultOf (step (table.runBy r n l es) e)
 
 -- ── demand 3 of every run of n controllers over such a queue ──
 
--- whether the node that the event is about forms a group in it, by its controller's record and what it is told
+-- Whether the event's node forms a group in it: by the definition of what a node does, with the record that its controller keeps and what it is told. It stands for the mark of a step of the table (`forms`).
 abbrev pub formsAt : Network → Event → Bool
 formsAt w (Crash i) = forms (reactionIn (w .n) i (recordAt w i) (event (LocalEvent.Crash i)) .mark)
 formsAt w (Recover i) = forms (reactionIn (w .n) i (recordAt w i) (event (LocalEvent.Recover i)) .mark)
@@ -106,23 +125,20 @@ pub record LacksIn (w : Network) (g : ℕ) : Type 0 where
   pub in-records : (j : ℕ) → 1 ≤ j → j ≤ w .n → recordAt w j .group .number ≡ g → ⊥
   pub in-messages : EachGroupIn (λ h. h ≡ g → ⊥) (w .queue)
 
--- a queue of `limit` messages, and up to 16 nodes
-abbrev pub limitsOf : ℕ → Limits
-limitsOf limit = record { nodes = 16; messages = limit }
-
--- the history (01: book) of a list, "fed n and the events alone": it is that of the definitions of 01, and has no network in it
+-- The history (01: book) of a list, "fed n and the events alone", and by T-08 "the limits too": it is that of the definitions of 01 and has no network in it. The limit of nodes is 16, as a controller's: of a run
+-- it decides nothing, since it stands in ground 1 alone.
 abbrev pub historyOf : ℕ → ℕ → List Event → History
-historyOf n limit es = historyBy LeftOut n (limitsOf limit) es
+historyOf n limit es = historyBy LeftOut n (record { nodes = nodeLimit; messages = limit }) es
 
--- Demand 3 of every run of n controllers that answer as f does, over a queue of `limit` messages. Each field is that of `RunFixes` (model/specs/Claims), of the records that the controllers keep and the bytes
--- that wait. es is a beginning of the list, fs what comes next, and e an event after them that is accepted and leaves the network u.
+-- Demand 3 of every run of n controllers that answer as f does, over a queue of `limit` messages. Each field but the last is that of `RunFixes` (model/specs/Claims), of the records that the controllers keep and the
+-- bytes that wait, and the last is `PealsByMajority.only-if`. es is a beginning of the list, fs what comes next, and e an event after them that is accepted and leaves the network u.
 pub record NetworkFixes (f : Controllers) (n limit : ℕ) : Type 0 where
   -- two nodes in Reorganization or Normal with the same group have the same coordinator
   pub same-coordinator : (es : List Event) (i j : ℕ) → 1 ≤ i → i ≤ n → 1 ≤ j → j ≤ n
       → isActive (recordAt (runBy f (startNetwork n limit) es) i .status) ≡ true → isActive (recordAt (runBy f (startNetwork n limit) es) j .status) ≡ true
       → recordAt (runBy f (startNetwork n limit) es) i .group .number ≡ recordAt (runBy f (startNetwork n limit) es) j .group .number
       → recordAt (runBy f (startNetwork n limit) es) i .coordinator ≡ recordAt (runBy f (startNetwork n limit) es) j .coordinator
-  -- and two Normal ones the same task: what the customer lost a recording for
+  -- and two Normal ones the same task
   pub same-task : (es : List Event) (i j : ℕ) → 1 ≤ i → i ≤ n → 1 ≤ j → j ≤ n
       → recordAt (runBy f (startNetwork n limit) es) i .status ≡ Normal → recordAt (runBy f (startNetwork n limit) es) j .status ≡ Normal
       → recordAt (runBy f (startNetwork n limit) es) i .group .number ≡ recordAt (runBy f (startNetwork n limit) es) j .group .number
@@ -156,13 +172,18 @@ pub record NetworkFixes (f : Controllers) (n limit : ℕ) : Type 0 where
   pub by-majority : (es : List Event) (i : ℕ) (t : TaskNo) (u : Network) → stepBy f (runBy f (startNetwork n limit) es) (Finish i t) ≡ accepted u → FullPeal (t .number)
       → MoreThanHalf n (recordAt (runBy f (startNetwork n limit) es) i)
 
--- what a run never leaves: its records are in range, its bytes are messages, and so no event meets 1, 20 or 21
+-- each of them is the bytes of a message among n nodes
 abbrev pub EachMessage : ℕ → List (List ℕ) → Type 0
 EachMessage n [] = Unit {0}
 EachMessage n (l ∷ q) = (isMessage n l ≡ true) × EachMessage n q
 
-pub record NetworkKeeps (f : Controllers) (n limit : ℕ) : Type 0 where
+-- In every run there are n records, each in range; no more messages wait than may, and their bytes are messages; and no event meets 1, 20 or 21.
+pub record NetworkInRange (f : Controllers) (n limit : ℕ) : Type 0 where
+  pub same-n : (es : List Event) → runBy f (startNetwork n limit) es .n ≡ n
+  pub same-limit : (es : List Event) → runBy f (startNetwork n limit) es .limit ≡ limit
+  pub as-many : (es : List Event) → length (runBy f (startNetwork n limit) es .nodes) ≡ n
   pub records : (es : List Event) (i : ℕ) → 1 ≤ i → i ≤ n → nodeInRange n i (recordAt (runBy f (startNetwork n limit) es) i) ≡ true
+  pub room : (es : List Event) → length (runBy f (startNetwork n limit) es .queue) ≤ limit
   pub messages : (es : List Event) → EachMessage n (runBy f (startNetwork n limit) es .queue)
   pub never : (es : List Event) (e : Event) (r : ℕ) → stepBy f (runBy f (startNetwork n limit) es) e ≡ refused r → (r ≡ 1 → ⊥) × ((r ≡ 20 → ⊥) × (r ≡ 21 → ⊥))
 
@@ -172,27 +193,46 @@ pub record NetworkKeeps (f : Controllers) (n limit : ℕ) : Type 0 where
 unfoldable pub resultBy : ControllerOutcome → controller.Result
 resultBy r = pick (isAccepted (r .answer)) (controller.accepted (r .node) (take (r .packet .length) (r .packet .bytes))) (controller.refused (answerNumber (r .answer)))
 
--- what controllers give out: the code's told_event and told_message are such, for the numbers and bytes that fit their words
+-- what controllers give out, for any numbers and bytes
 abbrev pub Outcomes : Type 0
 Outcomes = ℕ → ℕ → Node → Incoming → ControllerOutcome
 
--- each meets the promise
-abbrev pub Kept : Outcomes → Type 0
-Kept g = (n i : ℕ) (c : Node) (x : Incoming) → Told n i c x (g n i c x)
+-- Each outcome meets the promise of the code's functions. These are such outcomes for arguments that fit their words; for any other argument let g be `some` of ControllersHold.
+abbrev pub MeetsPromise : Outcomes → Type 0
+MeetsPromise g = (n i : ℕ) (c : Node) (x : Incoming) → Told n i c x (g n i c x)
 
 abbrev pub answersOf : Outcomes → Controllers
 answersOf g n i c x = resultBy (g n i c x)
 
--- The corollary: "It is what the firm buys". For n from 1 to 16 and a queue of up to 64 messages, demand 3 holds of every run of n controllers over it.
+-- The corollary. For n from 1 to 16 and a queue of up to 64 messages, demand 3 holds of every run of n controllers over it.
 pub record ControllersHold : Type 0 where
   -- of the definitions
   pub fixes : (n limit : ℕ) → 1 ≤ n → n ≤ 16 → limit ≤ 64 → NetworkFixes controllerStep n limit
-  pub keeps : (n limit : ℕ) → 1 ≤ n → n ≤ 16 → limit ≤ 64 → NetworkKeeps controllerStep n limit
-  -- and of any controllers that meet the promise of the code, so of the code's
-  pub code-fixes : (g : Outcomes) → Kept g → (n limit : ℕ) → 1 ≤ n → n ≤ 16 → limit ≤ 64 → NetworkFixes (answersOf g) n limit
-  pub code-keeps : (g : Outcomes) → Kept g → (n limit : ℕ) → 1 ≤ n → n ≤ 16 → limit ≤ 64 → NetworkKeeps (answersOf g) n limit
+  pub in-range : (n limit : ℕ) → 1 ≤ n → n ≤ 16 → limit ≤ 64 → NetworkInRange controllerStep n limit
+  -- and of any controllers that meet the promise of the code
+  pub code-fixes : (g : Outcomes) → MeetsPromise g → (n limit : ℕ) → 1 ≤ n → n ≤ 16 → limit ≤ 64 → NetworkFixes (answersOf g) n limit
+  pub code-in-range : (g : Outcomes) → MeetsPromise g → (n limit : ℕ) → 1 ≤ n → n ≤ 16 → limit ≤ 64 → NetworkInRange (answersOf g) n limit
   -- an outcome that meets the promise is the definition's result: nothing of it is free
   pub told : (n i : ℕ) (c : Node) (x : Incoming) (r : ControllerOutcome) → Told n i c x r → resultBy r ≡ controllerStep n i c x
-  -- and there are such
+  -- and there are such outcomes
   pub some : Outcomes
-  pub some-kept : Kept some
+  pub some-meets : MeetsPromise some
+
+-- ── one controller by itself, for any n, own number, record, and event or bytes ──
+pub record ControllerRefuses : Type 0 where
+  -- the order of the grounds: "20 .. 21 .. both after 8 and before 9"
+  pub order : (n i : ℕ) (c : Node) (x : Incoming) → map (λ g. g .number) (controllerGrounds n i c x) ≡ 1 ∷ 7 ∷ 8 ∷ 20 ∷ 21 ∷ 9 ∷ 10 ∷ 18 ∷ 19 ∷ 12 ∷ 13 ∷ []
+  -- 01: "the first that applies is given, and none without its ground": a refusal's number is that of the first ground that applies
+  pub first : (n i : ℕ) (c : Node) (x : Incoming) (r : ℕ) → controllerStep n i c x ≡ controller.refused r → FirstApplies (controllerGrounds n i c x) r
+  pub first-given : (n i : ℕ) (c : Node) (x : Incoming) (r : ℕ) → FirstApplies (controllerGrounds n i c x) r → controllerStep n i c x ≡ controller.refused r
+  -- and what none applies to is accepted
+  pub none-accepts : (n i : ℕ) (c : Node) (x : Incoming) → NoneApplies (controllerGrounds n i c x)
+      → controllerStep n i c x ≡ controller.accepted (reactionIn n i c x .node) (sentBytes (reactionIn n i c x .outgoing))
+  -- so no controller answers 11, 14 or 17, "which belong to the queue", nor 0
+  pub never-queues : (n i : ℕ) (c : Node) (x : Incoming) (r : ℕ) → controllerStep n i c x ≡ controller.refused r → (r ≡ 11 → ⊥) × ((r ≡ 14 → ⊥) × ((r ≡ 17 → ⊥) × (r ≡ 0 → ⊥)))
+
+-- what is accepted leaves a record in range for the same n and own number, so that it can be handed in again, and sends nothing, or the bytes of a message of its own
+pub record ControllerStaysInRange : Type 0 where
+  pub record-after : (n i : ℕ) (c : Node) (x : Incoming) (d : Node) (l : List ℕ) → controllerStep n i c x ≡ controller.accepted d l → inRangeFor n i d ≡ true
+  pub message-after : (n i : ℕ) (c : Node) (x : Incoming) (d : Node) (l : List ℕ) → controllerStep n i c x ≡ controller.accepted d l
+      → (l ≡ []) ⊎ ((isMessage n l ≡ true) × (messageIn l .sender ≡ i))

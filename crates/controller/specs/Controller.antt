@@ -2,7 +2,7 @@
 -- the new record and at most one outgoing message." "The result depends on nothing but those four things": `controllerStep` is a function of them, and the code promises
 -- what it gives (Told). What n of them over one queue of messages do is in Network.
 use Prim.Native.Nat.{ℕ}
-use mathlib.Core.Bool.{Bool, true, false, not, _&&_}
+use mathlib.Core.Bool.{Bool, false, not, _&&_}
 use mathlib.Core.List.{List, [], _∷_}
 use lib.Dec.{eqb}
 use Rattle.model.specs.Limits.{nodeLimit, counterEnd, callEnd}

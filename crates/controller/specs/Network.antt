@@ -8,7 +8,6 @@ use lib.ListN.{length, getD, set, replicate}
 use Rattle.model.specs.Pick.{pick}
 use Rattle.model.specs.Range.{isNode}
 use Rattle.model.specs.State.{State, startingNode}
-use Rattle.model.specs.Step.{forms}
 use Rattle.model.specs.declared.Node.{Node}
 use Rattle.model.specs.declared.Event.{Event}
 use Rattle.model.specs.declared.Event.the-variants.{Crash, Recover, Check, Timeout, Tick, Expire, Finish, Deliver, Lose}
@@ -16,7 +15,7 @@ use Rattle.message_fields.specs.Fields.{fields}
 use Rattle.controller.specs.declared.LocalEvent.{LocalEvent}
 use Rattle.controller.specs.declared.LocalEvent.the-variants as LocalEvent
 use Rattle.controller.specs.Controller as controller
-use Rattle.controller.specs.Controller.{Incoming, event, message, reactionIn, controllerStep}
+use Rattle.controller.specs.Controller.{Incoming, event, message, controllerStep}
 
 pub record Network : Type 0 where
   pub n : ℕ
@@ -60,9 +59,9 @@ withoutIn a b [] = []
 withoutIn a b (l ∷ q) = pick (goesBytes a b l) q (l ∷ withoutIn a b q)
 
 -- what a controller sends, as the queue gets it: one message, or none where there are no bytes
-abbrev pub put : List ℕ → List (List ℕ)
-put [] = []
-put (b ∷ l) = (b ∷ l) ∷ []
+abbrev pub asQueued : List ℕ → List (List ℕ)
+asQueued [] = []
+asQueued (b ∷ l) = (b ∷ l) ∷ []
 
 -- ── one event ──
 
@@ -72,8 +71,8 @@ pub data Result : Type 0 where
   accepted : Network → Result
 
 -- controller i keeps the record c, and what it sends goes behind the messages q
-abbrev pub kept : Network → ℕ → List (List ℕ) → Node → List ℕ → Network
-kept w i q c l = record { n = w .n; limit = w .limit; nodes = set (w .nodes) (i - 1) c; queue = q ++ put l }
+abbrev pub stored : Network → ℕ → List (List ℕ) → Node → List ℕ → Network
+stored w i q c l = record { n = w .n; limit = w .limit; nodes = set (w .nodes) (i - 1) c; queue = q ++ asQueued l }
 
 -- a message is sent, and so many wait as may
 abbrev pub isFull : ℕ → List (List ℕ) → List (List ℕ) → Bool
@@ -81,35 +80,35 @@ isFull limit q [] = false
 isFull limit q (l ∷ ls) = eqb (length q) limit
 
 -- What controller i answers, with the messages q waiting: its refusal; the queue's own, 14, where there is no room for what it sends, and then it keeps the record that it had; or the network with both
-abbrev pub taken : Network → ℕ → List (List ℕ) → controller.Result → Result
-taken w i q (controller.refused r) = refused r
-taken w i q (controller.accepted c l) = pick (isFull (w .limit) q (put l)) (refused 14) (accepted (kept w i q c l))
+abbrev pub answeredBy : Network → ℕ → List (List ℕ) → controller.Result → Result
+answeredBy w i q (controller.refused r) = refused r
+answeredBy w i q (controller.accepted c l) = pick (isFull (w .limit) q (asQueued l)) (refused 14) (accepted (stored w i q c l))
 
 -- The controller that is told of an event of node i: its own; and where there is no such node, any of them, so the first, which refuses it with 7.
-abbrev pub whose : ℕ → ℕ → ℕ
-whose n i = pick (isNode n i) i 1
+abbrev pub controllerFor : ℕ → ℕ → ℕ
+controllerFor n i = pick (isNode n i) i 1
 
 -- what controllers answer
 abbrev pub Controllers : Type 0
 Controllers = ℕ → ℕ → Node → Incoming → controller.Result
 
 -- an event of node i, at its controller
-abbrev pub at : Controllers → Network → ℕ → LocalEvent → Result
-at f w i e = taken w (whose (w .n) i) (w .queue) (f (w .n) (whose (w .n) i) (recordAt w (whose (w .n) i)) (event e))
+abbrev pub atController : Controllers → Network → ℕ → LocalEvent → Result
+atController f w i e = answeredBy w (controllerFor (w .n) i) (w .queue) (f (w .n) (controllerFor (w .n) i) (recordAt w (controllerFor (w .n) i)) (event e))
 
 -- Deliver takes the oldest message from a to b out of the queue and hands its bytes to controller b; where that refuses them, they wait as before. Lose takes it out. Where none waits, the queue
 -- refuses both with 11. All other events go to a controller.
 unfoldable pub stepBy : Controllers → Network → Event → Result
-stepBy f w (Crash i) = at f w i (LocalEvent.Crash i)
-stepBy f w (Recover i) = at f w i (LocalEvent.Recover i)
-stepBy f w (Check i) = at f w i (LocalEvent.Check i)
-stepBy f w (Timeout i) = at f w i (LocalEvent.Timeout i)
-stepBy f w (Tick i) = at f w i (LocalEvent.Tick i)
-stepBy f w (Expire i) = at f w i (LocalEvent.Expire i)
-stepBy f w (Finish i t) = at f w i (LocalEvent.Finish i t)
+stepBy f w (Crash i) = atController f w i (LocalEvent.Crash i)
+stepBy f w (Recover i) = atController f w i (LocalEvent.Recover i)
+stepBy f w (Check i) = atController f w i (LocalEvent.Check i)
+stepBy f w (Timeout i) = atController f w i (LocalEvent.Timeout i)
+stepBy f w (Tick i) = atController f w i (LocalEvent.Tick i)
+stepBy f w (Expire i) = atController f w i (LocalEvent.Expire i)
+stepBy f w (Finish i t) = atController f w i (LocalEvent.Finish i t)
 stepBy f w (Deliver a b) =
     pick (waitsIn a b (w .queue))
-    (taken w b (withoutIn a b (w .queue)) (f (w .n) b (recordAt w b) (message (oldestIn a b (w .queue)))))
+    (answeredBy w b (withoutIn a b (w .queue)) (f (w .n) b (recordAt w b) (message (oldestIn a b (w .queue)))))
     (refused 11)
 stepBy f w (Lose a b) =
     pick (waitsIn a b (w .queue))
@@ -117,13 +116,13 @@ stepBy f w (Lose a b) =
     (refused 11)
 
 -- the network after it: a refusal leaves all as it was
-abbrev pub left : Network → Result → Network
-left w (refused r) = w
-left w (accepted u) = u
+abbrev pub networkAfter : Network → Result → Network
+networkAfter w (refused r) = w
+networkAfter w (accepted u) = u
 
 unfoldable pub runBy : Controllers → Network → List Event → Network
 runBy f w [] = w
-runBy f w (e ∷ es) = runBy f (left w (stepBy f w e)) es
+runBy f w (e ∷ es) = runBy f (networkAfter w (stepBy f w e)) es
 
 -- ── the controllers of the definitions ──
 abbrev pub networkStep : Network → Event → Result
