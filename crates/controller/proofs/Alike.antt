@@ -257,7 +257,7 @@ module _ (s : State) (a b : ℕ) (ok : inRange s ≡ true) (w : waits a b (s .qu
   unfolding carried
   read-receiver = ap (λ (m : Message). m .receiver) back ∙ to
 
-  deliver-reacts : react (s .n) b (nodeAt s b) (Receive (messageIn (fields first))) ≡ reactionTo s (Event.Deliver a b)
+  pub deliver-reacts : react (s .n) b (nodeAt s b) (Receive (messageIn (fields first))) ≡ reactionTo s (Event.Deliver a b)
   unfolding reactionTo
   deliver-reacts = rw back (react-carried (s .n) b (nodeAt s b) first)
 

@@ -120,10 +120,15 @@ abbrev pub EachGroupIn : (ℕ → Type 0) → List (List ℕ) → Type 0
 EachGroupIn P [] = Unit {0}
 EachGroupIn P (l ∷ q) = (carriesGroup (messageIn l .kind) ≡ true → P (messageIn l .group .number)) × EachGroupIn P q
 
--- the network does not hold g as a group number, in a record (of a Down node too) or a waiting message
+-- no waiting message holds group g; that of a message which carries none is read as 0, as it stands in every table of a run
+abbrev pub UnsentIn : ℕ → List (List ℕ) → Type 0
+UnsentIn g [] = Unit {0}
+UnsentIn g (l ∷ q) = (messageIn l .group .number ≡ g → ⊥) × UnsentIn g q
+
+-- the network does not hold g "as a group number, in a cabinet (Down ones too) or a waiting message": `Lacks` of crate model, of records and bytes
 pub record LacksIn (w : Network) (g : ℕ) : Type 0 where
   pub in-records : (j : ℕ) → 1 ≤ j → j ≤ w .n → recordAt w j .group .number ≡ g → ⊥
-  pub in-messages : EachGroupIn (λ h. h ≡ g → ⊥) (w .queue)
+  pub in-messages : UnsentIn g (w .queue)
 
 -- The history (01: book) of a list, "fed n and the events alone", and by T-08 "the limits too": it is that of the definitions of 01 and has no network in it. The limit of nodes is 16, as a controller's: of a run
 -- it decides nothing, since it stands in ground 1 alone.
