@@ -270,17 +270,17 @@ module _ (f : Controllers) (same-answer : (n i : ℕ) (c : Node) (x : Incoming) 
           fixed-task = λ es fs. rw (run-is es) (x .fixed-task es fs);
           numbered = λ es e u h t. let a = accepted-in es e u h in rw (a .network) (x .numbered es e (a .state) (a .mark) (a .accepts) (forms-in es e u a t));
           fresh = λ es fs e u h t.
-            let a = accepted-in (es ++ fs) e u h in
-            rw (run-is es) (lacks-in (tableOf es) (ok es) (all-carried es) _ (x .fresh es fs e (a .state) (a .mark) (a .accepts) (forms-in (es ++ fs) e u a t)));
+              let a = accepted-in (es ++ fs) e u h in
+              rw (run-is es) (lacks-in (tableOf es) (ok es) (all-carried es) _ (x .fresh es fs e (a .state) (a .mark) (a .accepts) (forms-in (es ++ fs) e u a t)));
           borrowed = λ es e u h t j l k z.
-            let a = accepted-in es e u h in
-            x .borrowed es e (a .state) (a .mark) (a .accepts) (forms-in es e u a t) j l k (in-lacks (tableOf es) (ok es) (all-carried es) _ (rw (run-is es, a .network) at z));
+              let a = accepted-in es e u h in
+              x .borrowed es e (a .state) (a .mark) (a .accepts) (forms-in es e u a t) j l k (in-lacks (tableOf es) (ok es) (all-carried es) _ (rw (run-is es, a .network) at z));
           borrowed-messages = λ es e u h.
-            let a = accepted-in es e u h in
-            rw (a .network, run-is es)
-            (each-in (tableOf es .n) (in-range-size (tableOf es) (ok es) .1) _ _
-            (λ g p z. let q = p (in-lacks (tableOf es) (ok es) (all-carried es) g z) in (forms-is (tableOf es) e (a .state) (a .mark) (a .accepts) ∙ q .0, q .1))
-            1 (a .state .queue) (queue-in es e u a) (queue-carried es e u a) (x .borrowed-messages es e (a .state) (a .mark) (a .accepts)));
+              let a = accepted-in es e u h in
+              rw (a .network, run-is es)
+              (each-in (tableOf es .n) (in-range-size (tableOf es) (ok es) .1) _ _
+              (λ g p z. let q = p (in-lacks (tableOf es) (ok es) (all-carried es) g z) in (forms-is (tableOf es) e (a .state) (a .mark) (a .accepts) ∙ q .0, q .1))
+              1 (a .state .queue) (queue-in es e u a) (queue-carried es e u a) (x .borrowed-messages es e (a .state) (a .mark) (a .accepts)));
           formed-once = λ es e u h t. let a = accepted-in es e u h in x .formed-once es e (a .state) (a .mark) (a .accepts) (forms-in es e u a t);
           given-once = λ es i t u h. let a = accepted-in es (Event.Finish i t) u h in x .given-once es i t (a .state) (a .mark) (a .accepts);
           own-group = λ es i t u h. let a = accepted-in es (Event.Finish i t) u h in rw (run-is es) (x .own-group es i t (a .state) (a .mark) (a .accepts));

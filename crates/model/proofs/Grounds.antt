@@ -8,6 +8,7 @@ use lib.Dec.{eqb, ltb}
 use borrow.Author.Tests.{eqb-true, eq-eqb, ltb-true}
 use Rattle.model.specs.Pick.{pick, pick-true, pick-false, by-test}
 use Rattle.model.specs.Grounds.{Ground, ground, judged, NoneApplies, leavingOut, first}
+use Rattle.model.specs.Claims.{FirstApplies}
 use Rattle.model.proofs.Local.{both-left, both-right}
 
 -- ── a ground by its number ──
@@ -197,3 +198,41 @@ module _ {R : Type 0} (refuse : ℕ → R) where
       by : (t : Bool) → g .applies ≡ t → (g .applies ≡ false → judged refuse x gs ≡ judged refuse y gs) → pick t (refuse (g .number)) (judged refuse x gs) ≡ pick t (refuse (g .number)) (judged refuse y gs)
       by true q k = refl
       by false q k = k q
+
+  -- what holds of a refusal by each ground's number, and of x, holds of what is judged
+  abbrev pub EachRefusal : (R → Type 0) → List Ground → Type 0
+  EachRefusal P [] = Unit {0}
+  EachRefusal P (g ∷ gs) = P (refuse (g .number)) × EachRefusal P gs
+
+  pub judged-each : (P : R → Type 0) (x : R) (gs : List Ground) → EachRefusal P gs → P x → P (judged refuse x gs)
+  unfolding judged
+  judged-each P x [] h p = p
+  judged-each P x (g ∷ gs) h p = by-test P (λ _. h .0) (λ _. judged-each P x gs (h .1) p)
+
+  -- ── the first ground that applies, in its place: it is given ──
+  in-place : (x : R) (before behind : List Ground) (r : ℕ) → NoneApplies before → judged refuse x (before ++ (ground r true ∷ behind)) ≡ refuse r
+  unfolding judged
+  in-place x [] behind r c = pick-true _ _
+  in-place x (g ∷ before) behind r c =
+      ap (λ (b : Bool). pick b (refuse (g .number)) (judged refuse x (before ++ (ground r true ∷ behind)))) (c .0) ∙ pick-false _ _ ∙ in-place x before behind r (c .1)
+
+  pub first-refuses : (x : R) (gs : List Ground) (r : ℕ) → FirstApplies gs r → judged refuse x gs ≡ refuse r
+  first-refuses x gs r f = ap (judged refuse x) (f .whole) ∙ in-place x (f .before) (f .behind) r (f .none-before)
+
+  -- and what is given is the first; a result that is no refusal is given where none applies
+  one-more : (g : Ground) (gs : List Ground) (r : ℕ) → g .applies ≡ false → FirstApplies gs r → FirstApplies (g ∷ gs) r
+  one-more g gs r q f = record { before = g ∷ f .before; behind = f .behind; whole = ap (λ (l : List Ground). g ∷ l) (f .whole); none-before = (q, f .none-before) }
+
+  module _ (same : (a b : ℕ) → refuse a ≡ refuse b → a ≡ b) (x : R) (apart : (r : ℕ) → x ≡ refuse r → ⊥) where
+    pub first-applies : (gs : List Ground) (r : ℕ) → judged refuse x gs ≡ refuse r → FirstApplies gs r
+    unfolding judged
+    first-applies [] r = λ q. absurd (apart r q)
+    first-applies (g ∷ gs) r =
+        by-test (λ (y : R). y ≡ refuse r → FirstApplies (g ∷ gs) r)
+        (λ t q. record { before = []; behind = gs; whole = ap (λ (b : Bool). ground (g .number) b ∷ gs) t ∙ ap (λ (k : ℕ). ground k true ∷ gs) (same (g .number) r q); none-before = tt })
+        (λ t q. one-more g gs r t (first-applies gs r q))
+
+  pub not-refused : (x y : R) → ((r : ℕ) → y ≡ refuse r → ⊥) → (gs : List Ground) → judged refuse x gs ≡ y → NoneApplies gs
+  unfolding judged
+  not-refused x y apart [] = λ q. tt
+  not-refused x y apart (g ∷ gs) = by-test (λ (z : R). z ≡ y → NoneApplies (g ∷ gs)) (λ _ q. absurd (apart (g .number) (sym q))) (λ t q. (t, not-refused x y apart gs q))

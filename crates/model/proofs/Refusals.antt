@@ -1,40 +1,30 @@
 -- Refusals: by the first ground that applies, with its number, and no other.
 use Prim.Native.Nat.{ℕ, _≤_}
 use native.Mathlib.Omega.{arith}
-use mathlib.Core.Bool.{Bool, true, false, _&&_, _||_}
+use mathlib.Core.Bool.{Bool, true, _&&_, _||_}
 use mathlib.Core.Logic.{_⊎_, inl, inr, ⊎-elim}
 use mathlib.Core.Path.{_≡_, refl, sym, _∙_, ap, subst}
-use mathlib.Core.List.{List, [], _∷_, _++_, map}
+use mathlib.Core.List.{[], _∷_, map}
 use lib.Dec.{eqb, leb}
 use borrow.Author.Tests.{eqb-true, leb-true}
-use Rattle.model.specs.Pick.{pick, pick-true, pick-false, by-test}
+use Rattle.model.specs.Pick.{pick}
 use Rattle.model.specs.State.{State}
-use Rattle.model.specs.Grounds.{Ground, ground, judged, NoneApplies}
+use Rattle.model.specs.Grounds.{judged, NoneApplies}
 use Rattle.model.specs.Step.{reactionTo, pairAtEnd, grounds, Result, refused, accepted, step}
 use Rattle.model.specs.Answers.{resultNumber}
 use Rattle.model.specs.Claims.{Accepts, FirstApplies, RefusesByGround}
-use Rattle.model.proofs.Judged.{Clear, none-applies}
+use Rattle.model.proofs.Grounds.{judged-each, first-refuses, first-applies, not-refused}
+use Rattle.model.proofs.Judged.{Clear, none-applies, accepted-apart, refused-same}
 use Rattle.model.proofs.Local.{both-left, both-right}
 use Rattle.model.proofs.Fields.{either}
 use Rattle.model.proofs.InRange.{delivery-never-full}
 use Rattle.model.specs.declared.Mark.{Mark}
 use Rattle.model.specs.declared.Event.{Event}
 
--- the test f holds of the number of every ground of the list
-abbrev numbered : (ℕ → Bool) → List Ground → Bool
-numbered f [] = true
-numbered f (g ∷ gs) = f (g .number) && numbered f gs
-
 -- the test f holds of the number of a refusal
 abbrev Passes : (ℕ → Bool) → Result → Type 0
 Passes f (refused r) = f r ≡ true
 Passes f (accepted u k) = Unit {0}
-
-judged-number : (f : ℕ → Bool) (u : State) (k : Mark) (gs : List Ground) → numbered f gs ≡ true → Passes f (judged refused (accepted u k) gs)
-unfolding judged
-judged-number f u k [] h = tt
-judged-number f u k (g ∷ gs) h =
-    by-test (Passes f) (λ _. both-left (f (g .number)) _ h) (λ _. judged-number f u k gs (both-right (f (g .number)) _ h))
 
 -- 1, 7 to 14 or 17 to 19
 abbrev ofEvents : ℕ → Bool
@@ -42,7 +32,7 @@ ofEvents r = eqb r 1 || ((leb 7 r && leb r 14) || (leb 17 r && leb r 19))
 
 step-number : (s : State) (e : Event) → Passes ofEvents (step s e)
 unfolding step grounds
-step-number s e = judged-number ofEvents _ _ _ refl
+step-number s e = judged-each refused (Passes ofEvents) _ (grounds s e) (refl, (refl, (refl, (refl, (refl, (refl, (refl, (refl, (refl, (refl, (refl, (refl, tt)))))))))))) tt
 
 numbers : (s : State) (e : Event) (r : ℕ) → step s e ≡ refused r → (r ≡ 1) ⊎ (((7 ≤ r) × (r ≤ 14)) ⊎ ((17 ≤ r) × (r ≤ 19)))
 numbers s e r q =
@@ -70,44 +60,17 @@ clear-ends s e c t = rw (c .in-range, c .number, c .task, c .status, c .activity
 
 -- ── the first ground that applies ──
 
--- what a result says of the grounds
-abbrev Says : List Ground → Result → Type 0
-Says gs (refused r) = FirstApplies gs r
-Says gs (accepted u k) = NoneApplies gs
-
--- one ground more before the others, which does not apply
-says-on : (g : Ground) (gs : List Ground) → g .applies ≡ false → (x : Result) → Says gs x → Says (g ∷ gs) x
-says-on g gs q (refused r) f =
-    record { before = g ∷ f .before; behind = f .behind; whole = ap (λ (l : List Ground). g ∷ l) (f .whole); none-before = (q, f .none-before) }
-says-on g gs q (accepted u k) c = (q, c)
-
-judged-says : (u : State) (k : Mark) (gs : List Ground) → Says gs (judged refused (accepted u k) gs)
-unfolding judged
-judged-says u k [] = tt
-judged-says u k (g ∷ gs) =
-    by-test (Says (g ∷ gs))
-    (λ q. record { before = []; behind = gs; whole = ap (λ (b : Bool). ground (g .number) b ∷ gs) q; none-before = tt })
-    (λ q. says-on g gs q (judged refused (accepted u k) gs) (judged-says u k gs))
-
-step-says : (s : State) (e : Event) → Says (grounds s e) (step s e)
-unfolding step
-step-says s e = judged-says _ _ (grounds s e)
-
 first : (s : State) (e : Event) (r : ℕ) → step s e ≡ refused r → FirstApplies (grounds s e) r
-first s e r q = subst (Says (grounds s e)) q (step-says s e)
+unfolding step
+first s e r q = first-applies refused (λ a b. refused-same) _ (λ x. accepted-apart) (grounds s e) r q
 
 none : (s : State) (e : Event) (u : State) (k : Mark) → step s e ≡ accepted u k → NoneApplies (grounds s e)
-none s e u k q = subst (Says (grounds s e)) q (step-says s e)
-
-judged-first : (x : Result) (before behind : List Ground) (r : ℕ) → NoneApplies before → judged refused x (before ++ (ground r true ∷ behind)) ≡ refused r
-unfolding judged
-judged-first x [] behind r c = pick-true _ _
-judged-first x (g ∷ before) behind r c =
-    ap (λ (b : Bool). pick b (refused (g .number)) (judged refused x (before ++ (ground r true ∷ behind)))) (c .0) ∙ pick-false _ _ ∙ judged-first x before behind r (c .1)
+unfolding step
+none s e u k q = not-refused refused _ (accepted u k) (λ r. accepted-apart) (grounds s e) q
 
 first-given : (s : State) (e : Event) (r : ℕ) → FirstApplies (grounds s e) r → step s e ≡ refused r
 unfolding step
-first-given s e r f = ap (judged refused _) (f .whole) ∙ judged-first _ (f .before) (f .behind) r (f .none-before)
+first-given s e r f = first-refuses refused _ (grounds s e) r f
 
 none-accepts : (s : State) (e : Event) → NoneApplies (grounds s e) → Accepts s e
 none-accepts s e c = record { state = _; mark = _; is = none-applies s e c }
