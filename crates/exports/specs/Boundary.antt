@@ -16,18 +16,8 @@ use Rattle.event_list.specs.Format.{Listed, failed, begun, reading, stopNumber,
 use Rattle.event_list.specs.declared.Stop.the-variants.{CutShort}
 use Rattle.event_list.specs.declared.Next.{Next}
 use Rattle.event_list.specs.declared.Next.the-variants.{Done, Stopped, Got}
-use Rattle.number_bytes.specs.Bytes.{many, all}
+use Rattle.number_bytes.specs.Bytes.{many, all, numberIn, bufferIn}
 use Rattle.table_bytes.specs.Bytes.{nodeOf, decoded, nodeBytes, size, encoded, recordsSize}
-
--- ── what every function with a lent buffer has: it needs `size` bytes, and b is what it holds before ──
-
--- whether there is room for them is looked at first; else r is answered
-abbrev pub numberIn : ℕ → List ℕ → ℕ → ℕ
-numberIn size b r = pick (ltb (length b) size) 255 r
-
--- What it then holds, where r is answered: where that is 0, the bytes l, and behind them what was there; "lent bytes stay as they stood" by any other answer
-abbrev pub bufferIn : ℕ → List ℕ → ℕ → List ℕ → List ℕ
-bufferIn size b r l = pick (eqb r 0) (l ++ drop size b) b
 
 -- ── nevraspu_step: one event on a table in bytes ──
 

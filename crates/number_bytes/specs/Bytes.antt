@@ -3,8 +3,8 @@
 use Prim.Native.Nat.{ℕ, zero, suc, _+_, _*_, _/_, _%_, _^_}
 use mathlib.Core.Bool.{Bool, true, false}
 use mathlib.Core.List.{List, [], _∷_, _++_}
-use lib.Dec.{eqb}
-use lib.ListN.{getD, drop, set}
+use lib.Dec.{eqb, ltb}
+use lib.ListN.{length, getD, drop, set}
 use Rattle.model.specs.Pick.{pick}
 use Rattle.model.specs.declared.Status.{Status}
 use Rattle.model.specs.declared.Status.the-variants.{Down, Election, Reorganization, Normal}
@@ -44,6 +44,16 @@ Each P (x ∷ xs) = P x × Each P xs
 unfoldable pub written : List ℕ → ℕ → List ℕ → List ℕ
 written out at [] = out
 written out at (b ∷ l) = written (set out at b) (at + 1) l
+
+-- ── what every exported function with a lent buffer has: it needs `size` bytes, and b is what it holds before ──
+
+-- whether there is room for them is looked at first; else r is answered
+abbrev pub numberIn : ℕ → List ℕ → ℕ → ℕ
+numberIn size b r = pick (ltb (length b) size) 255 r
+
+-- What it then holds, where r is answered: where that is 0, the bytes l, and behind them what was there; "lent bytes stay as they stood" by any other answer
+abbrev pub bufferIn : ℕ → List ℕ → ℕ → List ℕ → List ℕ
+bufferIn size b r l = pick (eqb r 0) (l ++ drop size b) b
 
 -- ── a status, and a yes or no ──
 

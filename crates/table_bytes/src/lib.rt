@@ -105,8 +105,8 @@ fn activity_of(p: Parts) -> Activity
     }
 }
 
-// The node whose record starts s.
-fn node_of(s: &[u8]) -> Node
+// The node whose record starts s, of any bytes: what they are too few for is 0.
+pub fn node_of(s: &[u8]) -> Node
     ensures { λ r. ⌜ r ≡ spec.nodeOf (now (s .entry)) ⌝ }
 {
     let p = parts_with(
@@ -252,7 +252,8 @@ fn put_parts(out: &mut [u8], at: usize, p: Parts)
     put_four(out, at + 7, p.call)
 }
 
-fn put_node(out: &mut [u8], at: usize, node: Node)
+// The bytes of a node over those of out from a place on, as many as there is room for.
+pub fn put_node(out: &mut [u8], at: usize, node: Node)
     requires { ⌜ at ≤ 2000 ⌝ }
     ensures { λ _. ⌜ now (out .exit) ≡ written (now (out .entry)) at (spec.nodeBytes node) ⌝ }
 {

@@ -1,0 +1,4 @@
+-- The controller on bytes.
+pub mod Field
+pub mod Boundary
+pub mod Parts
