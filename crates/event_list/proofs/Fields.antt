@@ -11,12 +11,12 @@ use lib.Dec.{leb, ltb}
 use borrow.Author.Tests.{le-ltb, lt-ltb, le-leb, lt-leb, leb-true, leb-false, ltb-false}
 use Rattle.model.specs.Pick.{pick, by-test}
 use Rattle.event_list.specs.declared.Stop.{Stop}
-use Rattle.event_list.specs.declared.Stop.the-variants.{TooLong, CutShort}
+use Rattle.event_list.specs.declared.Stop.the-variants.{TooLong, CutShort, WrongTag, WrongLength, WrongCount}
 use Rattle.event_list.specs.declared.Field.{Field}
 use Rattle.event_list.specs.declared.Field.the-variants as Field
 use Rattle.event_list.specs.declared.Next.the-variants as Next
 use Rattle.event_list.specs.declared.First.the-variants as First
-use Rattle.event_list.specs.Format.{maxBytes, between, twoBytes, tagAt, lengthAt, contentsAt, behind, cutShort, fieldAt, checked, nextAt, firstOf}
+use Rattle.event_list.specs.Format.{stopNumber, maxBytes, between, twoBytes, tagAt, lengthAt, contentsAt, behind, cutShort, fieldAt, checked, nextAt, firstOf}
 use Rattle.event_list.specs.Parts.{sized, decoded, countedIn, firstIn}
 
 -- What cannot lie between two ends does not.
@@ -145,3 +145,13 @@ module _ {A : Type 0} (tags : ℕ → Bool) (long : ℕ → ℕ) (stop : Stop �
   checked-alone (a ∷ []) g h = absurd (true≢false h)
   checked-alone (a ∷ b ∷ []) g h = absurd (true≢false h)
   checked-alone (a ∷ b ∷ c ∷ r) g h = same-read a b c r g (fits a b c r h)
+
+-- ── its grounds ──
+
+-- no ground of a field has the number 0
+pub refuses : (s : Stop) → stopNumber s ≡ 0 → ⊥
+refuses TooLong z = omega arith
+refuses CutShort z = omega arith
+refuses WrongTag z = omega arith
+refuses WrongLength z = omega arith
+refuses WrongCount z = omega arith

@@ -17,6 +17,7 @@ use Rattle.bully_model.specs.declared.Event.{Event}
 use Rattle.event_list.specs.Format.{cutShort}
 use Rattle.event_list.specs.declared.Stop.{Stop}
 use Rattle.event_list.specs.declared.Stop.the-variants.{TooLong, CutShort, WrongTag, WrongLength, WrongCount}
+use Rattle.number_bytes.proofs.Lent.{short-in, long-in, only-short-in, keeps-in, behind-in}
 use Rattle.bully_bytes.specs.declared.FieldRead.{FieldRead}
 use Rattle.bully_bytes.specs.declared.FieldRead.the-variants.{Stopped, Got}
 use Rattle.bully_bytes.specs.Bytes.{size}
@@ -24,7 +25,6 @@ use Rattle.bully_bytes.specs.Field.{eventIn}
 use Rattle.bully_bytes.proofs.Records.{encoded-size}
 use Rattle.bully_bytes.proofs.Reading.{field-rules}
 use Rattle.exports.specs.BullyBoundary.{stateOf, stateBytes, fieldNumber, fieldAfter, bullyNumber, bullyBytes, BullyClaims}
-use Rattle.exports.proofs.Answering.{short-in, long-in, only-short-in, keeps-in, behind-in}
 
 -- ── no number of a refusal is 255 ──
 

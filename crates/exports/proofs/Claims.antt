@@ -18,11 +18,11 @@ use Rattle.event_list.specs.declared.Stop.{Stop}
 use Rattle.event_list.specs.declared.Stop.the-variants.{TooLong, CutShort, WrongTag, WrongLength, WrongCount}
 use Rattle.event_list.specs.declared.Next.{Next}
 use Rattle.event_list.specs.declared.Next.the-variants.{Done, Stopped, Got}
+use Rattle.number_bytes.proofs.Lent.{short-in, long-in, only-short-in, accepts-in, keeps-in, behind-in}
 use Rattle.table_bytes.specs.Bytes.{size}
 use Rattle.table_bytes.proofs.Records.{encoded-size}
 use Rattle.exports.specs.Boundary.{stateOf, stateBytes, fieldNumber, fieldAfter, stepNumber, stepBytes}
 use Rattle.exports.specs.Claims.{StepClaims}
-use Rattle.exports.proofs.Answering.{short-in, long-in, only-short-in, accepts-in, keeps-in, behind-in}
 
 -- ── no number of a refusal is 255 ──
 

@@ -27,10 +27,10 @@ use Rattle.event_list.specs.declared.Next.the-variants.{Got}
 use Rattle.number_bytes.specs.Bytes.{many, all}
 use Rattle.table_bytes.specs.Bytes.{nodeOf, decoded, nodeBytes, size, recordsSize, RecordsStored}
 use Rattle.number_bytes.proofs.Records.{all-long}
+use Rattle.number_bytes.proofs.Lent.{short-in, long-in, only-short-in, keeps-in, behind-in}
 use Rattle.table_bytes.proofs.Records.{node-long}
 use Rattle.exports.specs.Boundary.{stateOf, fieldNumber, fieldAfter, stepNumber, StepExported, recoveryNumber, recoveryBytes, RecoveryExported}
 use Rattle.exports.specs.Claims.{recoverField, RecoveryClaims}
-use Rattle.exports.proofs.Answering.{short-in, long-in, only-short-in, keeps-in, behind-in}
 
 -- ── the promise ──
 

@@ -17,6 +17,7 @@ use Rattle.model.specs.declared.Event.{Event}
 use Rattle.event_list.specs.Format.{nextAt}
 use Rattle.event_list.specs.declared.Next.the-variants.{Got}
 use Rattle.number_bytes.specs.Bytes.{written}
+use Rattle.number_bytes.proofs.Lent.{short-in, long-in, only-short-in, accepts-in, keeps-in, behind-in}
 use Rattle.table_bytes.specs.Bytes.{decoded, size}
 use Rattle.round.specs.Order.{pair}
 use Rattle.round.specs.Turn.{Turn, turnRefused, turnAccepted, turnAt, turnNumber, tableAfter, placeAfter, doneIn, doneNumber, eventOf}
@@ -30,7 +31,6 @@ use Rattle.exports.specs.Boundary.{stateOf, stateBytes, fieldNumber, fie
 use Rattle.exports.specs.TurnBoundary.{turnSize, turnOn, behindTable, turnGiven, turnAnswer, turnBytes, TurnExported}
 use Rattle.exports.specs.Parts.{Answered}
 use Rattle.exports.specs.Claims.{TurnClaims}
-use Rattle.exports.proofs.Answering.{short-in, long-in, only-short-in, accepts-in, keeps-in, behind-in}
 use Rattle.exports.proofs.Claims.{state-long}
 use Rattle.exports.proofs.Claims as step-claims
 

@@ -3,8 +3,7 @@ use mathlib.Core.Path.{_≡_}
 use mathlib.Core.Bool.{not}
 use mathlib.Core.List.{List, [], _∷_, _++_}
 use Prim.Native.Nat.{ℕ, _+_}
-use lib.Dec.{eqb, ltb}
-use lib.ListN.{length, drop}
+use lib.Dec.{eqb}
 use Rattle.model.specs.Pick.{pick}
 use Rattle.model.specs.Recovery.{recoveryRecords}
 use Rattle.model.specs.State.{State, start, nodeAt, inRange, view, tableOf}

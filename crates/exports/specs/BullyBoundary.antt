@@ -11,11 +11,11 @@ use Rattle.bully_model.specs.Answers.{resultNumber}
 use Rattle.bully_model.specs.declared.Event.{Event}
 use Rattle.event_list.specs.Format.{stopNumber, cutShort}
 use Rattle.event_list.specs.declared.Stop.{Stop}
+use Rattle.number_bytes.specs.Bytes.{numberIn, bufferIn}
 use Rattle.bully_bytes.specs.declared.FieldRead.{FieldRead}
 use Rattle.bully_bytes.specs.declared.FieldRead.the-variants.{Stopped, Got}
 use Rattle.bully_bytes.specs.Bytes.{decoded, size, encoded}
 use Rattle.bully_bytes.specs.Field.{eventIn}
-use Rattle.exports.specs.Boundary.{numberIn, bufferIn}
 
 -- the state that bytes mean as a table
 abbrev pub stateOf : List ℕ → State

@@ -8,8 +8,9 @@ use Rattle.round.specs.Order.{pair}
 use Rattle.round.specs.Turn.{Turn, turnAt, turnNumber, tableAfter, placeAfter, doneIn, doneNumber}
 use Rattle.round.specs.declared.Place.{Place}
 use Rattle.round.specs.declared.Done.{Done}
+use Rattle.number_bytes.specs.Bytes.{numberIn, bufferIn}
 use Rattle.table_bytes.specs.Bytes.{size}
-use Rattle.exports.specs.Boundary.{numberIn, bufferIn, stateOf, stateBytes}
+use Rattle.exports.specs.Boundary.{stateOf, stateBytes}
 
 -- the bytes of a table, and three more
 abbrev pub turnSize : ℕ

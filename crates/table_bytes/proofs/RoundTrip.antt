@@ -32,7 +32,7 @@ activity-back Contacting = refl
 activity-back (Forwarding rest now caller call) = refl
 activity-back (Accepting caller call) = refl
 
-node-back : (c : Node) → NodeFits c → (l : List ℕ) → nodeOf (nodeBytes c ++ l) ≡ c
+pub node-back : (c : Node) → NodeFits c → (l : List ℕ) → nodeOf (nodeBytes c ++ l) ≡ c
 unfolding number bytes nodeOf partsBytes nodeBytes
 node-back c h l =
     let p = partsOf (c .activity) in

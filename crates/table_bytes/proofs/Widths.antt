@@ -46,7 +46,7 @@ parts-fit (Accepting caller call) g =
     let f = g .1 .1 .1 .1 in
     record { tag = omega arith; set = omega arith; former = omega arith; node = omega arith; caller = f .0 .1; call = f .1 .0 .1 .1 .0 .1 }
 
-node-fits : (c : Node) {vs : List Val} → Is (struct.row node.the-type) c vs → NodeFits c
+pub node-fits : (c : Node) {vs : List Val} → Is (struct.row node.the-type) c vs → NodeFits c
 node-fits c g =
     let f = g .1 .1 in
     let h = f .1 .1 .1 .1 in

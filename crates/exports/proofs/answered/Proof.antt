@@ -6,10 +6,10 @@ use mathlib.Core.Path.{refl, sym, _∙_, ap}
 use lib.Seq.{length-take-le}
 use Rattle.model.specs.State.{view}
 use Rattle.machine.proofs.Laws.{sized}
+use Rattle.number_bytes.proofs.Lent.{written-part}
 use Rattle.table_bytes.specs.Bytes.{size}
 use Rattle.exports.specs.Boundary.{stateBytes}
 use Rattle.exports.proofs.Clearing.{view-table}
-use Rattle.exports.proofs.Answering.{written-part}
 use Rattle.exports.proofs.answered.Statement.{statement}
 use Rattle.exports.proofs.answered.Tie as tie
 

@@ -3,7 +3,7 @@ use borrow.Author.Needs.{needs}
 use borrow.Author.Tests.{not-true, not-false}
 use native.Mathlib.Omega.{arith}
 use mathlib.Core.Path.{sym, _∙_}
-use Rattle.exports.proofs.Answering.{refuses}
+use Rattle.event_list.proofs.Fields.{refuses}
 use Rattle.exports.proofs.Stepping.{short, away, no-event, event}
 use Rattle.exports.proofs.nevraspu_step.Statement.{statement}
 use Rattle.exports.proofs.nevraspu_step.Tie as tie

@@ -1,7 +1,7 @@
 -- `nevraspu_bully_step` meets its contract: too little room, no event, or the step's outcome in bytes.
 use borrow.Author.Needs.{needs}
 use mathlib.Core.Path.{sym, _∙_}
-use Rattle.exports.proofs.Answering.{refuses}
+use Rattle.event_list.proofs.Fields.{refuses}
 use Rattle.exports.proofs.BullyStepping.{short, no-event, event}
 use Rattle.exports.proofs.bully.nevraspu_bully_step.Statement.{statement}
 use Rattle.exports.proofs.bully.nevraspu_bully_step.Tie as tie

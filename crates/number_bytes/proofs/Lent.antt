@@ -7,10 +7,7 @@ use lib.ListN.{length, take, drop, drop-of-length-le}
 use lib.Seq.{drop-at, length-take-le}
 use borrow.Author.Tests.{lt-ltb, le-ltb, ltb-true, eqb-true, ne-eqb}
 use Rattle.model.specs.Pick.{pick-true, pick-false, by-test}
-use Rattle.event_list.specs.Format.{stopNumber}
-use Rattle.event_list.specs.declared.Stop.{Stop}
-use Rattle.event_list.specs.declared.Stop.the-variants.{TooLong, CutShort, WrongTag, WrongLength, WrongCount}
-use Rattle.exports.specs.Boundary.{numberIn, bufferIn}
+use Rattle.number_bytes.specs.Bytes.{numberIn, bufferIn}
 
 -- r is answered where there is room
 module _ (size : ℕ) (b : List ℕ) (r : ℕ) where
@@ -39,11 +36,3 @@ pub written-part : (size : ℕ) (b l m : List ℕ) → size ≤ length b → m �
 written-part size b l m h e =
     let z : drop size (take size b) ≡ [] = drop-of-length-le (take size b) {i = size} (omega (arith, length-take-le size b h)) in
     ap (λ (k : List ℕ). k ++ drop size b) (e ∙ ap (λ (k : List ℕ). l ++ k) z ∙ append-nil l)
-
--- no ground of a field has the number 0
-pub refuses : (s : Stop) → stopNumber s ≡ 0 → ⊥
-refuses TooLong z = omega arith
-refuses CutShort z = omega arith
-refuses WrongTag z = omega arith
-refuses WrongLength z = omega arith
-refuses WrongCount z = omega arith
