@@ -4,7 +4,7 @@ use mathlib.Core.List.{List, _++_}
 use Prim.Native.Nat.{ℕ}
 use Rattle.model.specs.Answers.{answerNumber}
 use Rattle.number_bytes.specs.Bytes.{bytes, bufferIn}
-use Rattle.table_bytes.specs.Bytes.{nodeBytes}
+use Rattle.table_bytes.specs.Bytes.{nodeOf, nodeBytes}
 use Rattle.event_list.specs.declared.Stop.the-variants.{CutShort}
 use Rattle.event_list.specs.declared.Next.{Next}
 use Rattle.event_list.specs.declared.Next.the-variants as Next
@@ -29,3 +29,5 @@ packetBytes p = bytes 1 (p .length) ++ p .bytes
 pub record Answered (q : ControllerOutcome) (b o : List ℕ) (x : ℕ) : Type 0 where
   pub number : x ≡ answerNumber (q .answer)
   pub buffer : o ≡ bufferIn outcomeSize b x (nodeBytes (q .node) ++ packetBytes (q .packet))
+  -- handed in again as a record, where it is accepted
+  pub back : x ≡ 0 → nodeOf o ≡ q .node

@@ -5,7 +5,7 @@ use mathlib.Core.Path.{_≡_, refl, _∙_, ap}
 use mathlib.Core.List.{List, [], _++_, append-nil}
 use lib.ListN.{length, take, drop, drop-of-length-le}
 use lib.Seq.{drop-at, length-take-le}
-use borrow.Author.Tests.{lt-ltb, le-ltb, ltb-true, eqb-true, ne-eqb}
+use borrow.Author.Tests.{lt-ltb, le-ltb, ltb-true, eqb-true, eq-eqb, ne-eqb}
 use Rattle.model.specs.Pick.{pick-true, pick-false, by-test}
 use Rattle.number_bytes.specs.Bytes.{numberIn, bufferIn}
 
@@ -27,6 +27,9 @@ module _ (size : ℕ) (b : List ℕ) (r : ℕ) where
 module _ (size : ℕ) (b : List ℕ) (r : ℕ) (l : List ℕ) where
   pub keeps-in : (r ≡ 0 → ⊥) → bufferIn size b r l ≡ b
   keeps-in h = rw (ne-eqb r 0 h, pick-false)
+
+  pub gives-in : r ≡ 0 → bufferIn size b r l ≡ l ++ drop size b
+  gives-in h = rw (eq-eqb r 0 h, pick-true)
 
   pub behind-in : (r ≡ 0 → length l ≡ size) → drop size (bufferIn size b r l) ≡ drop size b
   behind-in h = by-test (λ (m : List ℕ). drop size m ≡ drop size b) (λ q. drop-at l (drop size b) size (h (eqb-true r 0 q))) (λ _. refl)

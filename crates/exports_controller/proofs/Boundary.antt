@@ -1,0 +1,125 @@
+-- What is claimed of the controller on bytes.
+use Prim.Native.Nat.{ℕ, _≤_, _<_}
+use native.Mathlib.Omega.{arith}
+use mathlib.Core.Bool.{true, false}
+use mathlib.Core.Path.{_≡_, refl, _∙_, ap}
+use mathlib.Core.List.{List, [], _∷_, _++_}
+use lib.ListN.{length, drop}
+use Rattle.model.specs.Pick.{pick}
+use Rattle.model.specs.declared.Node.{Node}
+use Rattle.event_list.specs.Format.{cutShort, checked}
+use Rattle.event_list.specs.declared.Stop.{Stop}
+use Rattle.event_list.specs.declared.Stop.the-variants.{TooLong, CutShort, WrongTag, WrongLength, WrongCount}
+use Rattle.number_bytes.proofs.Lent.{short-in, long-in, only-short-in, keeps-in, behind-in}
+use Rattle.table_bytes.specs.Bytes.{nodeOf}
+use Rattle.message_fields.specs.Fields.{mostBytes, isMessage}
+use Rattle.controller.specs.declared.LocalEvent.{LocalEvent}
+use Rattle.controller.specs.Controller.{event, message, inRangeFor, Result, controllerStep, resultNumber, nodeAfter, sentIn}
+use Rattle.controller.proofs.Steps.{out-of-range, wrong-bytes}
+use Rattle.controller.proofs.Bounds.{controller-small, sent-short}
+use Rattle.exports_controller.specs.declared.FieldRead.{FieldRead}
+use Rattle.exports_controller.specs.declared.FieldRead.the-variants.{Stopped, Got}
+use Rattle.exports_controller.specs.Field.{eventIn}
+use Rattle.exports_controller.specs.Boundary.{outcomeSize, outcomeBytes, fieldStep, eventNumber, eventBytes, messageNumber, messageBytes, ControllerEventClaims, ControllerMessageClaims}
+use Rattle.exports_controller.proofs.Reading.{field-grounds, field-alone}
+use Rattle.exports_controller.proofs.Outcomes.{given-long}
+
+-- ── nevraspu_controller_event ──
+
+-- no number of a refusal is 255
+field-small : (n i : ℕ) (c : Node) (x : FieldRead) → resultNumber (fieldStep n i c x) < 255
+field-small n i c (Stopped TooLong) = omega arith
+field-small n i c (Stopped CutShort) = omega arith
+field-small n i c (Stopped WrongTag) = omega arith
+field-small n i c (Stopped WrongLength) = omega arith
+field-small n i c (Stopped WrongCount) = omega arith
+field-small n i c (Got e) = omega (arith, controller-small n i c (event e))
+
+field-sent : (n i : ℕ) (c : Node) (x : FieldRead) → length (sentIn (fieldStep n i c x)) ≤ mostBytes
+field-sent n i c (Stopped s) = omega arith
+field-sent n i c (Got e) = sent-short n i c (event e)
+
+module _ (n i : ℕ) (r f b : List ℕ) where
+  abbrev result : Result
+  result = fieldStep n i (nodeOf r) (eventIn f)
+
+  abbrev given : List ℕ
+  given = outcomeBytes (nodeOf r) result
+
+  short : length b < outcomeSize → eventNumber n i r f b ≡ 255
+  unfolding eventNumber
+  short = short-in outcomeSize b (resultNumber result)
+
+  long : outcomeSize ≤ length b → eventNumber n i r f b ≡ resultNumber result
+  unfolding eventNumber
+  long = long-in outcomeSize b (resultNumber result)
+
+  only-short : eventNumber n i r f b ≡ 255 → length b < outcomeSize
+  unfolding eventNumber
+  only-short = only-short-in outcomeSize b (resultNumber result) (field-small n i (nodeOf r) (eventIn f))
+
+  keeps : (eventNumber n i r f b ≡ 0 → ⊥) → eventBytes n i r f b ≡ b
+  unfolding eventBytes
+  keeps = keeps-in outcomeSize b (eventNumber n i r f b) given
+
+  behind : drop outcomeSize (eventBytes n i r f b) ≡ drop outcomeSize b
+  unfolding eventBytes
+  behind = behind-in outcomeSize b (eventNumber n i r f b) given (λ _. given-long (nodeAfter (nodeOf r) result) (sentIn result) (field-sent n i (nodeOf r) (eventIn f)))
+
+  -- the number by what the field says
+  by-field : (x : FieldRead) → outcomeSize ≤ length b → eventIn f ≡ x → eventNumber n i r f b ≡ resultNumber (fieldStep n i (nodeOf r) x)
+  by-field x h q = long h ∙ ap (λ (y : FieldRead). resultNumber (fieldStep n i (nodeOf r) y)) q
+
+  no-event : (s : Stop) → outcomeSize ≤ length b → eventIn f ≡ Stopped s → (3 ≤ eventNumber n i r f b) × (eventNumber n i r f b ≤ 5)
+  no-event s h q = rw (by-field (Stopped s) h q) (field-grounds f s q)
+
+  not-in-range : (e : LocalEvent) → outcomeSize ≤ length b → eventIn f ≡ Got e → inRangeFor n i (nodeOf r) ≡ false → eventNumber n i r f b ≡ 1
+  not-in-range e h q away = by-field (Got e) h q ∙ ap resultNumber (out-of-range n i (nodeOf r) (event e) away)
+
+module _ (n i : ℕ) (r f g b : List ℕ) (h : cutShort f 0 ≡ false) where
+  same-number : eventNumber n i r (f ++ g) b ≡ eventNumber n i r f b
+  unfolding eventNumber
+  same-number = rw (field-alone f g h)
+
+  same-bytes : eventBytes n i r (f ++ g) b ≡ eventBytes n i r f b
+  unfolding eventBytes
+  same-bytes = rw (same-number, field-alone f g h)
+
+pub controller-event-claims : ControllerEventClaims
+unfolding eventIn checked cutShort pick
+controller-event-claims =
+    record {
+      short = short;
+      only-short = only-short;
+      keeps = keeps;
+      behind = behind;
+      empty = λ n i r b h. by-field n i r [] b (Stopped CutShort) h refl;
+      no-event = no-event;
+      deliver = λ n i x y r b h. by-field n i r (0x17 ∷ 0 ∷ 2 ∷ x ∷ y ∷ []) b (Stopped WrongTag) h refl;
+      lose = λ n i x y r b h. by-field n i r (0x18 ∷ 0 ∷ 2 ∷ x ∷ y ∷ []) b (Stopped WrongTag) h refl;
+      deliver-short = λ n i x r b h. by-field n i r (0x17 ∷ 0 ∷ 1 ∷ x ∷ []) b (Stopped WrongTag) h refl;
+      not-in-range = not-in-range;
+      first-alone = λ n i r f g b h. (same-number n i r f g b h, same-bytes n i r f g b h);
+    }
+
+-- ── nevraspu_controller_message ──
+
+module _ (n i : ℕ) (r l b : List ℕ) where
+  abbrev step : Result
+  step = controllerStep n i (nodeOf r) (message l)
+
+  message-long : outcomeSize ≤ length b → messageNumber n i r l b ≡ resultNumber step
+  unfolding messageNumber
+  message-long = long-in outcomeSize b (resultNumber step)
+
+pub controller-message-claims : ControllerMessageClaims
+unfolding messageNumber messageBytes
+controller-message-claims =
+    record {
+      short = λ n i r l b. short-in outcomeSize b (resultNumber (step n i r l b));
+      only-short = λ n i r l b. only-short-in outcomeSize b (resultNumber (step n i r l b)) (omega (arith, controller-small n i (nodeOf r) (message l)));
+      keeps = λ n i r l b. keeps-in outcomeSize b (messageNumber n i r l b) (outcomeBytes (nodeOf r) (step n i r l b));
+      behind = λ n i r l b. behind-in outcomeSize b (messageNumber n i r l b) (outcomeBytes (nodeOf r) (step n i r l b)) (λ _. given-long (nodeAfter (nodeOf r) (step n i r l b)) (sentIn (step n i r l b)) (sent-short n i (nodeOf r) (message l)));
+      not-in-range = λ n i r l b h away. message-long n i r l b h ∙ ap resultNumber (out-of-range n i (nodeOf r) (message l) away);
+      no-message = λ n i r l b h ok wrong. message-long n i r l b h ∙ ap resultNumber (wrong-bytes n i (nodeOf r) l ok wrong);
+    }

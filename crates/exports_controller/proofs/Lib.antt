@@ -1,0 +1,4 @@
+pub mod Reading
+pub mod Outcomes
+pub mod Promises
+pub mod Boundary
