@@ -5,8 +5,8 @@ use mathlib.Core.Path.{_≡_, refl, sym, _∙_, ap}
 use mathlib.Core.Bool.{false}
 use mathlib.Core.List.{List, _++_}
 use lib.ListN.{length, drop}
-use borrow.Author.Tests.{not-true, le-ltb, eq-eqb, ne-eqb}
-use Rattle.model.specs.Pick.{pick, pick-true, pick-false, by-test}
+use borrow.Author.Tests.{not-true, le-ltb, ne-eqb}
+use Rattle.model.specs.Pick.{pick, pick-false, by-test}
 use Rattle.model.specs.Recovery.{recoveryRecords}
 use Rattle.model.specs.State.{State, nodeAt, inRange}
 use Rattle.model.specs.Grounds.{judged}
@@ -27,7 +27,7 @@ use Rattle.event_list.specs.declared.Next.the-variants.{Got}
 use Rattle.number_bytes.specs.Bytes.{many, all}
 use Rattle.table_bytes.specs.Bytes.{nodeOf, decoded, nodeBytes, size, recordsSize, RecordsStored}
 use Rattle.number_bytes.proofs.Records.{all-long}
-use Rattle.number_bytes.proofs.Lent.{short-in, long-in, only-short-in, keeps-in, behind-in}
+use Rattle.number_bytes.proofs.Lent.{short-in, long-in, only-short-in, keeps-in, gives-in, behind-in}
 use Rattle.table_bytes.proofs.Records.{node-long}
 use Rattle.exports.specs.Boundary.{stateOf, fieldNumber, fieldAfter, stepNumber, StepExported, recoveryNumber, recoveryBytes, RecoveryExported}
 use Rattle.exports.specs.Claims.{recoverField, RecoveryClaims}
@@ -67,7 +67,7 @@ module _ (t : List ℕ) (i : ℕ) (b : List ℕ) where
       accepted o w =
           record {
             number = number-is;
-            buffer = w .whole room ∙ ap (λ (l : List Node). all nodeBytes l ++ drop recordsSize b) records-are ∙ sym (rw (eq-eqb (recoveryNumber t i b) 0 (sym number-is ∙ z), pick-true));
+            buffer = w .whole room ∙ ap (λ (l : List Node). all nodeBytes l ++ drop recordsSize b) records-are ∙ sym (gives-in recordsSize b (recoveryNumber t i b) (all nodeBytes (recoveryRecords i (nodeAt (stateOf t) i))) (sym number-is ∙ z));
             back = λ _. w .back room ∙ records-are;
           }
 

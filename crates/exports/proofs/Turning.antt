@@ -7,8 +7,6 @@ use mathlib.Core.Path.{_≡_, refl, sym, _∙_, ap, subst}
 use mathlib.Core.List.{List, [], _∷_, _++_, append-assoc}
 use lib.ListN.{length, take, drop, set, getD, length-append, length-drop}
 use lib.Seq.{drop-drop, drop-set-add, take-at, getD-append-add}
-use borrow.Author.Tests.{eq-eqb}
-use Rattle.model.specs.Pick.{pick-true}
 use Rattle.model.specs.State.{State, inRange, view}
 use Rattle.model.specs.Step.{runFrom}
 use Rattle.model.specs.Answers.{answerNumber, resultNumber}
@@ -17,7 +15,7 @@ use Rattle.model.specs.declared.Event.{Event}
 use Rattle.event_list.specs.Format.{nextAt}
 use Rattle.event_list.specs.declared.Next.the-variants.{Got}
 use Rattle.number_bytes.specs.Bytes.{written}
-use Rattle.number_bytes.proofs.Lent.{short-in, long-in, only-short-in, accepts-in, keeps-in, behind-in}
+use Rattle.number_bytes.proofs.Lent.{short-in, long-in, only-short-in, accepts-in, keeps-in, gives-in, behind-in}
 use Rattle.table_bytes.specs.Bytes.{decoded, size}
 use Rattle.round.specs.Order.{pair}
 use Rattle.round.specs.Turn.{Turn, turnRefused, turnAccepted, turnAt, turnNumber, tableAfter, placeAfter, doneIn, doneNumber, eventOf}
@@ -116,7 +114,7 @@ module _ (t : List ℕ) (a b : ℕ) (l : List ℕ) where
               ∙ ap (λ (k : List ℕ). stateBytes (view (q .table)) ++ k) behind-m
               ∙ sym (append-assoc (stateBytes (view (q .table))) (behindTable (q .place) (q .done)) (drop turnSize l))
               ∙ ap (λ (k : List ℕ). k ++ drop turnSize l) given
-              ∙ sym (rw (eq-eqb (turnAnswer t a b l) 0 (sym number-is ∙ z), pick-true));
+              ∙ sym (gives-in turnSize l (turnAnswer t a b l) (turnGiven (stateOf t) (pair a b) (turnOn t a b)) (sym number-is ∙ z));
           back = λ _. y .back zero ∙ x .table;
           back-place = λ _.
               ap (λ (k : List ℕ). pair (getD k size 0) (getD k (size + 1) 0)) (y .whole zero ∙ ap (λ (k : List ℕ). stateBytes (view (q .table)) ++ k) behind-m)
@@ -160,7 +158,7 @@ module _ (t : List ℕ) (a b : ℕ) (l : List ℕ) where
 
   bytes-are : turnAnswer t a b l ≡ 0 → turnBytes t a b l ≡ turnGiven (stateOf t) (pair a b) (turnOn t a b) ++ drop turnSize l
   unfolding turnBytes
-  bytes-are z = rw (eq-eqb (turnAnswer t a b l) 0 z, pick-true)
+  bytes-are = gives-in turnSize l (turnAnswer t a b l) (turnGiven (stateOf t) (pair a b) (turnOn t a b))
 
   -- the table's bytes come first
   table-first : turnAnswer t a b l ≡ 0 → take size (turnBytes t a b l) ≡ stateBytes (tableAfter (stateOf t) (turnOn t a b))
@@ -182,7 +180,7 @@ module _ (t : List ℕ) (a b : ℕ) (l m : List ℕ) (e : Event) (f : List ℕ) 
 
   step-bytes : stepBytes t f m ≡ stateBytes (tableAfter (stateOf t) (turnOn t a b)) ++ drop size m
   unfolding stepBytes
-  step-bytes = rw (eq-eqb (stepNumber t f m) 0 step-zero, pick-true) (ap (λ (s : State). stateBytes s ++ drop size m) same-state)
+  step-bytes = gives-in size m (stepNumber t f m) (stateBytes (fieldAfter (stateOf t) (nextAt f 0))) step-zero ∙ ap (λ (s : State). stateBytes s ++ drop size m) same-state
 
   same-table : take size (stepBytes t f m) ≡ take size (turnBytes t a b l)
   same-table =

@@ -1,7 +1,7 @@
 -- What the exported functions promise: for any bytes at all, the number that is answered and what the lent buffer then holds.
 use mathlib.Core.Path.{_≡_}
 use mathlib.Core.Bool.{not}
-use mathlib.Core.List.{List, [], _∷_, _++_}
+use mathlib.Core.List.{List, [], _∷_}
 use Prim.Native.Nat.{ℕ, _+_}
 use lib.Dec.{eqb}
 use Rattle.model.specs.Pick.{pick}

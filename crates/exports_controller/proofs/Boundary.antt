@@ -1,7 +1,7 @@
 -- What is claimed of the controller on bytes.
 use Prim.Native.Nat.{ℕ, _≤_, _<_}
 use native.Mathlib.Omega.{arith}
-use mathlib.Core.Bool.{true, false}
+use mathlib.Core.Bool.{false}
 use mathlib.Core.Path.{_≡_, refl, _∙_, ap}
 use mathlib.Core.List.{List, [], _∷_, _++_}
 use lib.ListN.{length, drop}
@@ -12,7 +12,7 @@ use Rattle.event_list.specs.declared.Stop.{Stop}
 use Rattle.event_list.specs.declared.Stop.the-variants.{TooLong, CutShort, WrongTag, WrongLength, WrongCount}
 use Rattle.number_bytes.proofs.Lent.{short-in, long-in, only-short-in, keeps-in, behind-in}
 use Rattle.table_bytes.specs.Bytes.{nodeOf}
-use Rattle.message_fields.specs.Fields.{mostBytes, isMessage}
+use Rattle.message_fields.specs.Fields.{mostBytes}
 use Rattle.controller.specs.declared.LocalEvent.{LocalEvent}
 use Rattle.controller.specs.Controller.{event, message, inRangeFor, Result, controllerStep, resultNumber, nodeAfter, sentIn}
 use Rattle.controller.proofs.Steps.{out-of-range, wrong-bytes}

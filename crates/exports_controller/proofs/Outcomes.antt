@@ -1,16 +1,15 @@
--- The bytes of an outcome: how many they are, and what is read back from them.
-use Prim.Native.Nat.{ℕ, _+_, _/_, _%_, _≤_, _<_}
-use native.Mathlib.Numerals.{add-one}
+-- What owning an outcome tells of it; how many bytes it has, and what is read back from them.
+use Prim.Native.Nat.{ℕ, _/_, _%_, _≤_}
 use native.Mathlib.Omega.{arith}
-use mathlib.Core.Path.{_≡_, sym, _∙_, ap}
+use mathlib.Core.Path.{_≡_, sym, _∙_}
 use mathlib.Core.List.{List, _++_, append-assoc}
-use lib.ListN.{length, getD, take, drop, set, replicate, length-append, length-drop, length-map, drop-of-length-le}
-use lib.Seq.{drop-cons, take-append-seam}
+use lib.ListN.{length, getD, take, drop, replicate, length-append, length-drop, length-map}
+use lib.Seq.{take-append-seam}
 use mir.Val.{Val}
 use denote.Laws.{Is}
 use denote.Struct.Declared.{row}
 use Rattle.model.specs.declared.Node.{Node}
-use Rattle.number_bytes.specs.Bytes.{bytes, written}
+use Rattle.number_bytes.specs.Bytes.{bytes}
 use Rattle.number_bytes.proofs.Numbers.{length-bytes, written-over}
 use Rattle.table_bytes.specs.Bytes.{nodeBytes, partsBytes, NodeFits}
 use Rattle.table_bytes.proofs.Records.{node-long}
@@ -29,17 +28,6 @@ packet-long p g = sym (length-map (p .bytes) _) ∙ g .1 .1 .0 .1 .0 .1
 
 pub outcome-fits : (q : ControllerOutcome) {vs : List Val} → Is (row outcome.the-type) q vs → NodeFits (q .node) × (length (q .packet .bytes) ≡ mostBytes)
 outcome-fits q g = (node-fits (q .node) (g .1 .1 .1 .0), packet-long (q .packet) (g .1 .1 .1 .1 .0))
-
--- ── written one by one ──
-
-module _ (xs : List ℕ) (i : ℕ) where
-  pub bytes-turn : i < length xs → (at next : ℕ) → next ≡ at + 1 → (out o : List ℕ) → o ≡ set out at (getD xs i 0) → written out at (drop i xs) ≡ written o next (drop (i + 1) xs)
-  unfolding written
-  bytes-turn h at next n out o e = rw (drop-cons xs i 0 h, e, add-one i, n)
-
-  pub bytes-end : length xs ≤ i → (at : ℕ) (out : List ℕ) → written out at (drop i xs) ≡ out
-  unfolding written
-  bytes-end h at out = rw (drop-of-length-le xs h)
 
 -- ── read back ──
 

@@ -18,7 +18,7 @@ use Rattle.table_bytes.proofs.RoundTrip.{node-back}
 use Rattle.message_fields.specs.Fields.{mostBytes}
 use Rattle.controller.specs.declared.LocalEvent.{LocalEvent}
 use Rattle.controller.specs.declared.ControllerOutcome.{ControllerOutcome}
-use Rattle.controller.specs.Controller.{Incoming, event, message, Result, controllerStep, resultNumber, nodeAfter, sentIn}
+use Rattle.controller.specs.Controller.{event, message, Result, controllerStep, resultNumber, nodeAfter, sentIn}
 use Rattle.controller.specs.Told.{Shows, Told}
 use Rattle.controller.proofs.Steps.{shows}
 use Rattle.controller.proofs.Bounds.{sent-short}

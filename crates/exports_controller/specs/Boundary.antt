@@ -11,7 +11,7 @@ use Rattle.table_bytes.specs.Bytes.{nodeOf, nodeBytes}
 use Rattle.event_list.specs.Format.{stopNumber, cutShort}
 use Rattle.event_list.specs.declared.Stop.{Stop}
 use Rattle.message_fields.specs.Fields.{isMessage, padded}
-use Rattle.controller.specs.Controller.{Incoming, event, message, inRangeFor, Result, refused, controllerStep, resultNumber, nodeAfter, sentIn}
+use Rattle.controller.specs.Controller.{event, message, inRangeFor, Result, refused, controllerStep, resultNumber, nodeAfter, sentIn}
 use Rattle.controller.specs.declared.LocalEvent.{LocalEvent}
 use Rattle.exports_controller.specs.declared.FieldRead.{FieldRead}
 use Rattle.exports_controller.specs.declared.FieldRead.the-variants.{Stopped, Got}

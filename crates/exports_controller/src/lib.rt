@@ -122,7 +122,13 @@ fn answered(o: ControllerOutcome, out: &mut [u8]) -> u8
 //   0                 accepted: out starts with the record after the event; then come a byte with the length of the outgoing message, 0 for none, and its bytes, with zeros up to 55
 // By any answer but 0 out is left as it was; what it has behind its first 55 bytes is never changed.
 #[no_mangle]
-pub extern "C" fn nevraspu_controller_event(n: u8, own: u8, record: &[u8], field: &[u8], out: &mut [u8]) -> u8
+pub extern "C" fn nevraspu_controller_event(
+    n: u8,
+    own: u8,
+    record: &[u8],
+    field: &[u8],
+    out: &mut [u8],
+) -> u8
     ensures { λ r. ⌜ EventExported n own (now («record» .entry)) (now (field .entry)) (now (out .entry)) (now (out .exit)) r ⌝ }
 {
     if out.len() < OUTCOME_SIZE {
@@ -147,7 +153,13 @@ pub extern "C" fn nevraspu_controller_event(n: u8, own: u8, record: &[u8], field
 //   12, 13    refused at the end of a range
 //   0         accepted, as above
 #[no_mangle]
-pub extern "C" fn nevraspu_controller_message(n: u8, own: u8, record: &[u8], message: &[u8], out: &mut [u8]) -> u8
+pub extern "C" fn nevraspu_controller_message(
+    n: u8,
+    own: u8,
+    record: &[u8],
+    message: &[u8],
+    out: &mut [u8],
+) -> u8
     ensures { λ r. ⌜ MessageExported n own (now («record» .entry)) (now (message .entry)) (now (out .entry)) (now (out .exit)) r ⌝ }
 {
     if out.len() < OUTCOME_SIZE {

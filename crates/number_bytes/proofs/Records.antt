@@ -52,6 +52,16 @@ module _ {A : Type 0} (g : A → List ℕ) (size : ℕ) (long : (x : A) → leng
   unfolding all written
   all-end h at out = rw (drop-of-length-le xs h)
 
+-- the same of single bytes
+module _ (xs : List ℕ) (i : ℕ) where
+  pub bytes-turn : i < length xs → (at next : ℕ) → next ≡ at + 1 → (out o : List ℕ) → o ≡ set out at (getD xs i 0) → written out at (drop i xs) ≡ written o next (drop (i + 1) xs)
+  unfolding written
+  bytes-turn h at next n out o e = rw (drop-cons xs i 0 h, e, add-one i, n)
+
+  pub bytes-end : length xs ≤ i → (at : ℕ) (out : List ℕ) → written out at (drop i xs) ≡ out
+  unfolding written
+  bytes-end h at out = rw (drop-of-length-le xs h)
+
 -- ── read back ──
 
 module _ {A : Type 0} (f : List ℕ → A) (g : A → List ℕ) (size : ℕ) (long : (x : A) → length (g x) ≡ size) (P : A → Type 0) (back : (x : A) → P x → (l : List ℕ) → f (g x ++ l) ≡ x) where

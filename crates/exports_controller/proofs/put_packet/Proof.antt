@@ -6,7 +6,8 @@ use native.Mathlib.Omega.{arith}
 use lib.ListN.{length, drop}
 use Rattle.number_bytes.specs.Bytes.{bytes, written}
 use Rattle.number_bytes.proofs.Numbers.{length-bytes, then}
-use Rattle.exports_controller.proofs.Outcomes.{packet-long, bytes-turn, bytes-end}
+use Rattle.number_bytes.proofs.Records.{bytes-turn, bytes-end}
+use Rattle.exports_controller.proofs.Outcomes.{packet-long}
 use Rattle.exports_controller.proofs.put_packet.Statement.{statement}
 use Rattle.exports_controller.proofs.put_packet.Tie as tie
 
