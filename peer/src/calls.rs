@@ -3,6 +3,7 @@
 //! what out begins with after the call, or `same`.
 
 use crate::bully;
+use crate::controller;
 use crate::machine::TOWER;
 use crate::proved::{
     limits_to_bytes, table_from_bytes, traffic_to_bytes, Library, COUNTS_AT, TABLE_BYTES,
@@ -34,7 +35,7 @@ pub struct Function {
     pub name: &'static str,
     pub takes: &'static [Takes],
     pub call: fn(&dyn Library, &Arguments, &mut [u8]) -> u8,
-    /// Which of the bytes that out begins with after the call are free.
+    /// Which of the bytes that out begins with after the call are free, and which directly behind them.
     pub free: fn(&[u8]) -> Vec<Range<usize>>,
 }
 
@@ -44,7 +45,7 @@ pub fn none_free(_: &[u8]) -> Vec<Range<usize>> {
 }
 
 /// The functions of the library that vectors call.
-pub static FUNCTIONS: [Function; 3] = [
+pub static FUNCTIONS: [Function; 5] = [
     Function {
         name: "nevraspu_recovery",
         takes: &[Takes::OlderTable, Takes::Number],
@@ -64,6 +65,22 @@ pub static FUNCTIONS: [Function; 3] = [
             library.turn(&given.slices[0], given.numbers[0], given.numbers[1], out)
         },
         free: round::bytes::free,
+    },
+    Function {
+        name: "nevraspu_controller_event",
+        takes: &[Takes::Number, Takes::Number, Takes::Slice, Takes::Slice],
+        call: |library, Arguments { slices, numbers }, out| {
+            library.controller_event(numbers[0], numbers[1], &slices[0], &slices[1], out)
+        },
+        free: controller::bytes::free,
+    },
+    Function {
+        name: "nevraspu_controller_message",
+        takes: &[Takes::Number, Takes::Number, Takes::Slice, Takes::Slice],
+        call: |library, Arguments { slices, numbers }, out| {
+            library.controller_message(numbers[0], numbers[1], &slices[0], &slices[1], out)
+        },
+        free: controller::bytes::free,
     },
 ];
 

@@ -101,7 +101,8 @@ impl Lent {
         }
     }
 
-    /// The same where the answer and the bytes that the buffer begins with are known, some of which are free.
+    /// The same where the answer and the bytes that the buffer begins with are known, some of which are free, as
+    /// may be some behind them.
     pub fn judge_bytes(
         &self,
         answer: u8,
@@ -120,7 +121,8 @@ impl Lent {
         if let Some((place, (now, byte))) = differing {
             return Some(format!("byte {place} of the buffer is {now:02x}, expected: {byte:02x}"));
         }
-        let place = self.changed(written.len())?;
+        let ends = free.iter().map(|places| places.end);
+        let place = self.changed(ends.fold(written.len(), usize::max).min(self.now.len()))?;
         let behind = if written.is_empty() { "" } else { ", behind what is expected," };
         Some(format!("{}: byte {place} of the buffer{behind} has changed", answer_words(answer)))
     }

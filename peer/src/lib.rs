@@ -1,4 +1,4 @@
-//! A second implementation of document 01 (coordinator election among cabinets) and of T-01 to T-10 of
+//! A second implementation of document 01 (coordinator election among cabinets) and of T-01 to T-11 of
 //! document 02, written from the papers alone, so that other implementations can be compared with it.
 //! Document 01's cabinet is called node here, and its book history.
 
@@ -6,6 +6,7 @@ pub mod bully;
 pub mod calls;
 pub mod check_corners;
 pub mod compare;
+pub mod controller;
 pub mod corners;
 pub mod damage;
 pub mod drive;

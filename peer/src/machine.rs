@@ -230,6 +230,48 @@ impl Node {
     pub fn minority(&self, n: u8) -> bool {
         2 * self.members.count_ones() + 2 <= u32::from(n)
     }
+
+    /// Whether the record is in range as that of node i of n, both of which must be.
+    pub fn in_range(&self, n: u8, i: u8) -> bool {
+        let all: Set = u16::MAX >> (MAX_NODES - n);
+        // "all cabinet numbers are 1 to n, no set, caller or cabinet asked or called names its
+        // holder"
+        let other = |j: u8| (1..=n).contains(&j) && j != i;
+        let others = |set: Set| set & !(all & !only(i)) == 0;
+        let call = |c: u32| (1..=MAX_CALL).contains(&c);
+        let activity = match self.activity {
+            Activity::Idle | Activity::Collecting | Activity::Contacting => true,
+            Activity::Asking { asked, found } => other(asked) && others(found),
+            Activity::Waiting { ticks, found } => (1..=MAX_TICKS).contains(&ticks) && others(found),
+            Activity::Inviting { found, former, now } => {
+                others(found) && others(former) && other(now)
+            }
+            // "a handing cabinet's task is 100 to 65,535"
+            Activity::Handing { rest, now } => others(rest) && other(now) && self.task >= MIN_TASK,
+            // "a forwarding or accepting cabinet isn't that owner"
+            Activity::Forwarding { rest, now, caller, call: c } => {
+                others(rest) && other(now) && other(caller) && call(c) && self.coordinator != i
+            }
+            Activity::Accepting { caller, call: c } => {
+                other(caller) && call(c) && self.coordinator != i
+            }
+        };
+        // "a cabinet that isn't Down has a group of counter at least 1 whose owner is 1 to n and is
+        // its coordinator ... a Down one is idle"
+        let by_status = match self.status {
+            Status::Down => {
+                (self.group == 0 || group_in_range(n, self.group))
+                    && self.coordinator <= n
+                    && self.activity == Activity::Idle
+            }
+            _ => group_in_range(n, self.group) && self.coordinator == owner(self.group),
+        };
+        self.counter <= MAX_COUNTER
+            && others(self.members)
+            && self.last_call <= MAX_CALL
+            && activity
+            && by_status
+    }
 }
 
 impl Body {
@@ -256,6 +298,31 @@ impl Body {
             Body::AreYouCoordinator | Body::Reply { .. } | Body::Unknown { .. } => None,
         }
     }
+}
+
+impl Message {
+    /// "message groups aren't 0, call numbers in messages ... are at least 1 and Ready tasks are
+    /// 100 to 65,535"
+    pub fn in_range(&self, n: u8) -> bool {
+        let body = match self.body {
+            Body::AreYouCoordinator | Body::Reply { .. } => true,
+            Body::AreYouThere { group } | Body::Invitation { group } | Body::Accept { group } => {
+                group_in_range(n, group)
+            }
+            Body::Ready { group, task } => group_in_range(n, group) && task >= MIN_TASK,
+            Body::Unknown { .. } => false,
+        };
+        (1..=n).contains(&self.sender)
+            && (1..=n).contains(&self.receiver)
+            && self.sender != self.receiver
+            && (1..=MAX_CALL).contains(&self.call)
+            && body
+    }
+}
+
+/// "has counter at least 1 and owner 1 to n"
+fn group_in_range(n: u8, group: u32) -> bool {
+    (1..=MAX_COUNTER).contains(&(group / 16)) && owner(group) <= n
 }
 
 /// The count of a pair, whose nodes must be 1 to 16.
@@ -306,75 +373,10 @@ impl Table {
         self.limits.nodes <= TOWER.nodes
             && self.limits.messages <= TOWER.messages
             && (1..=self.limits.nodes).contains(&self.n)
-            && (1..=self.n).all(|i| self.node_in_range(i))
+            && (1..=self.n).all(|i| self.node(i).in_range(self.n, i))
             && self.messages.len() <= usize::from(self.limits.messages)
-            && self.messages.iter().all(|m| self.message_in_range(m))
+            && self.messages.iter().all(|m| m.in_range(self.n))
             && self.traffic_in_range()
-    }
-
-    fn node_in_range(&self, i: u8) -> bool {
-        let node = self.node(i);
-        let all: Set = u16::MAX >> (MAX_NODES - self.n);
-        // "all cabinet numbers are 1 to n, no set, caller or cabinet asked or called names its
-        // holder"
-        let other = |j: u8| (1..=self.n).contains(&j) && j != i;
-        let others = |set: Set| set & !(all & !only(i)) == 0;
-        let call = |c: u32| (1..=MAX_CALL).contains(&c);
-        let activity = match node.activity {
-            Activity::Idle | Activity::Collecting | Activity::Contacting => true,
-            Activity::Asking { asked, found } => other(asked) && others(found),
-            Activity::Waiting { ticks, found } => (1..=MAX_TICKS).contains(&ticks) && others(found),
-            Activity::Inviting { found, former, now } => {
-                others(found) && others(former) && other(now)
-            }
-            // "a handing cabinet's task is 100 to 65,535"
-            Activity::Handing { rest, now } => others(rest) && other(now) && node.task >= MIN_TASK,
-            // "a forwarding or accepting cabinet isn't that owner"
-            Activity::Forwarding { rest, now, caller, call: c } => {
-                others(rest) && other(now) && other(caller) && call(c) && node.coordinator != i
-            }
-            Activity::Accepting { caller, call: c } => {
-                other(caller) && call(c) && node.coordinator != i
-            }
-        };
-        // "a cabinet that isn't Down has a group of counter at least 1 whose owner is 1 to n and is
-        // its coordinator ... a Down one is idle"
-        let by_status = match node.status {
-            Status::Down => {
-                (node.group == 0 || self.group_in_range(node.group))
-                    && node.coordinator <= self.n
-                    && node.activity == Activity::Idle
-            }
-            _ => self.group_in_range(node.group) && node.coordinator == owner(node.group),
-        };
-        node.counter <= MAX_COUNTER
-            && others(node.members)
-            && node.last_call <= MAX_CALL
-            && activity
-            && by_status
-    }
-
-    /// "has counter at least 1 and owner 1 to n"
-    fn group_in_range(&self, group: u32) -> bool {
-        (1..=MAX_COUNTER).contains(&(group / 16)) && owner(group) <= self.n
-    }
-
-    /// "message groups aren't 0, call numbers in messages ... are at least 1 and Ready tasks are
-    /// 100 to 65,535"
-    fn message_in_range(&self, m: &Message) -> bool {
-        let body = match m.body {
-            Body::AreYouCoordinator | Body::Reply { .. } => true,
-            Body::AreYouThere { group } | Body::Invitation { group } | Body::Accept { group } => {
-                self.group_in_range(group)
-            }
-            Body::Ready { group, task } => self.group_in_range(group) && task >= MIN_TASK,
-            Body::Unknown { .. } => false,
-        };
-        (1..=self.n).contains(&m.sender)
-            && (1..=self.n).contains(&m.receiver)
-            && m.sender != m.receiver
-            && (1..=MAX_CALL).contains(&m.call)
-            && body
     }
 
     /// How many messages of each pair wait. One whose sender or receiver is no number of a node is of
@@ -428,30 +430,18 @@ pub fn advance(table: &mut Table, event: &Event) -> Result<(), u8> {
 /// The same, and says which node recovered or merged, if one did.
 pub fn advance_noting(table: &mut Table, event: &Event) -> Result<Option<Formed>, u8> {
     let i = acting_node(table.n, event)?;
-    let place = check_state(table, event, i)?;
-    let mut turn = Turn {
-        i,
-        n: table.n,
-        node: *table.node(i),
-        // "a delivered one is already out"
-        waiting: table.messages.len() - usize::from(place.is_some()),
-        most_waiting: usize::from(table.limits.messages),
-        sent_before: &table.traffic.sent[usize::from(i) - 1],
-        sent: None,
-        formed: None,
+    let node = table.node(i);
+    check_state(table.n, i, node, event)?;
+    let place = match *event {
+        Event::Deliver(a, b) | Event::Lose(a, b) => Some(oldest(table, a, b)?),
+        _ => None,
     };
-    match (*event, place) {
-        (Event::Crash(_), _) => turn.crash(),
-        (Event::Recover(_), _) => turn.recover()?,
-        (Event::Check(_), _) => turn.check()?,
-        (Event::Timeout(_), _) => turn.timeout()?,
-        (Event::Tick(_), _) => turn.tick()?,
-        (Event::Expire(_), _) => turn.expire()?,
-        (Event::Finish(_, task), _) => turn.finish(task)?,
-        (Event::Deliver(..), Some(place)) => turn.deliver(table.messages[place])?,
-        (Event::Deliver(..), None) | (Event::Lose(..), _) => {}
+    let message = place.map(|place| &table.messages[place]);
+    let Share { node, sent, formed } = act(table.n, i, node, event, message)?;
+    if let Some(m) = sent {
+        // "a delivered one is already out"
+        check_queue(table, table.messages.len() - usize::from(place.is_some()), &m)?;
     }
-    let Turn { node, sent, formed, .. } = turn;
     // No refusal can follow: only here is the table written.
     table.nodes[usize::from(i) - 1] = node;
     if let Some(place) = place {
@@ -472,7 +462,7 @@ pub fn advance_noting(table: &mut Table, event: &Event) -> Result<Option<Formed>
 
 /// Grounds 7 and 8, "event's numbers". Gives the node whose turn it is; for deliver and lose this is
 /// the receiver.
-fn acting_node(n: u8, event: &Event) -> Result<u8, u8> {
+pub fn acting_node(n: u8, event: &Event) -> Result<u8, u8> {
     let inside = |i: u8| (1..=n).contains(&i);
     match *event {
         Event::Crash(i)
@@ -504,9 +494,28 @@ fn acting_node(n: u8, event: &Event) -> Result<u8, u8> {
     }
 }
 
-/// Grounds 9, 10, 18, 19 and 11, "state", in this order. Gives the place of "the oldest message from a to b".
-fn check_state(table: &Table, event: &Event, i: u8) -> Result<Option<usize>, u8> {
-    let node = table.node(i);
+/// Ground 11, "deliver, lose: no message from a to b". Gives the place of "the oldest message from a to b".
+fn oldest(table: &Table, a: u8, b: u8) -> Result<usize, u8> {
+    table.messages.iter().position(|m| m.sender == a && m.receiver == b).ok_or(11)
+}
+
+/// Grounds 14 and 17, where so many messages wait and this one must be sent.
+#[inline]
+fn check_queue(table: &Table, waiting: usize, m: &Message) -> Result<(), u8> {
+    // T-08: "Grounds 1, 6 and 14 read the table's own limits."
+    if waiting >= usize::from(table.limits.messages) {
+        return Err(14);
+    }
+    // T-05: "its pair's sent count is 33,554,430, after 14"
+    if count_of(&table.traffic.sent, m.sender, m.receiver) >= MAX_COUNT {
+        return Err(17);
+    }
+    Ok(())
+}
+
+/// Grounds 9, 10, 18 and 19, "state", in this order: those that look at the record of node i of n alone.
+#[inline]
+pub fn check_state(n: u8, i: u8, node: &Node, event: &Event) -> Result<(), u8> {
     let down = node.status == Status::Down;
     // "recover: not Down; all others but lose: cabinet (for deliver, the receiver) Down"
     let refused = match event {
@@ -535,21 +544,10 @@ fn check_state(table: &Table, event: &Event, i: u8) -> Result<Option<usize>, u8>
     }
     // T-10: "finish with task 100 to 199 when twice the members plus two is at most n, in the state place
     // after 18"
-    if matches!(event, Event::Finish(_, task) if FULL_PEALS.contains(task))
-        && node.minority(table.n)
-    {
+    if matches!(event, Event::Finish(_, task) if FULL_PEALS.contains(task)) && node.minority(n) {
         return Err(19);
     }
-    match *event {
-        Event::Deliver(a, b) | Event::Lose(a, b) => {
-            let place = table.messages.iter().position(|m| m.sender == a && m.receiver == b);
-            if place.is_none() {
-                return Err(11);
-            }
-            Ok(place)
-        }
-        _ => Ok(None),
-    }
+    Ok(())
 }
 
 /// Ground 12: "a new group is needed, counter 1,048,575".
@@ -584,8 +582,8 @@ pub fn recovery(table: &Table, i: u8) -> Result<[Node; ASSIGNMENTS], u8> {
     }
     let event = Event::Recover(i);
     acting_node(table.n, &event)?;
-    check_state(table, &event, i)?;
     let mut node = *table.node(i);
+    check_state(table.n, i, &node, &event)?;
     check_counter(&node)?;
     Ok(RECOVERY.map(|assign| {
         assign(&mut node, i);
@@ -593,43 +591,63 @@ pub fn recovery(table: &Table, i: u8) -> Result<[Node; ASSIGNMENTS], u8> {
     }))
 }
 
-/// What an event does to the one node i that acts in it: a copy of the node to work on, and the one
-/// message it may send ("an event sends at most one message"). Grounds 12 to 14 and 17 are met here, and
-/// in this order, since a new group comes before a call and a call's number before its message.
-struct Turn<'a> {
+/// What an event comes to at the node that acts in it: its record after, the one message it may send ("an event
+/// sends at most one message"), and the group that it formed, if it formed one.
+#[derive(Clone, Copy, Debug, PartialEq, Eq)]
+pub struct Share {
+    pub node: Node,
+    pub sent: Option<Message>,
+    pub formed: Option<Formed>,
+}
+
+/// What an event does at node i of n, whose record this is; a delivery with the message that is delivered. It looks
+/// at nothing else. Grounds 12 and 13 are met here, and in this order, since a new group comes before a call. Those
+/// of the queue, 14 and 17, come behind them: a call has its number before its message.
+#[inline]
+pub fn act(
+    n: u8,
+    i: u8,
+    node: &Node,
+    event: &Event,
+    message: Option<&Message>,
+) -> Result<Share, u8> {
+    let mut turn = Turn { i, n, node: *node, sent: None, formed: None };
+    match (*event, message) {
+        (Event::Crash(_), _) => turn.crash(),
+        (Event::Recover(_), _) => turn.recover()?,
+        (Event::Check(_), _) => turn.check()?,
+        (Event::Timeout(_), _) => turn.timeout()?,
+        (Event::Tick(_), _) => turn.tick()?,
+        (Event::Expire(_), _) => turn.expire()?,
+        (Event::Finish(_, task), _) => turn.finish(task)?,
+        (Event::Deliver(..), Some(m)) => turn.deliver(m)?,
+        (Event::Deliver(..), None) | (Event::Lose(..), _) => {}
+    }
+    let Turn { node, sent, formed, .. } = turn;
+    Ok(Share { node, sent, formed })
+}
+
+/// The node i of n that acts in an event: a copy of its record to work on.
+struct Turn {
     i: u8,
     n: u8,
     node: Node,
-    /// How many messages wait, and how many may.
-    waiting: usize,
-    most_waiting: usize,
-    /// How many the node has sent to each.
-    sent_before: &'a [u32; MAX_NODES as usize],
     sent: Option<Message>,
     formed: Option<Formed>,
 }
 
-impl Turn<'_> {
+impl Turn {
     fn own_coordinator(&self) -> bool {
         self.node.coordinator == self.i
     }
 
-    fn send(&mut self, receiver: u8, call: u32, body: Body) -> Result<(), u8> {
-        // T-08: "Grounds 1, 6 and 14 read the table's own limits."
-        if self.waiting >= self.most_waiting {
-            return Err(14);
-        }
-        // T-05: "its pair's sent count is 33,554,430, after 14"
-        if self.sent_before[usize::from(receiver) - 1] >= MAX_COUNT {
-            return Err(17);
-        }
+    fn send(&mut self, receiver: u8, call: u32, body: Body) {
         self.sent = Some(Message { sender: self.i, receiver, call, body });
-        Ok(())
     }
 
     /// "its call number is that of the call it answers"
-    fn reply(&mut self, receiver: u8, call: u32, yes: bool) -> Result<(), u8> {
-        self.send(receiver, call, Body::Reply { yes })
+    fn reply(&mut self, receiver: u8, call: u32, yes: bool) {
+        self.send(receiver, call, Body::Reply { yes });
     }
 
     /// "last call number plus one, one message added"
@@ -638,7 +656,8 @@ impl Turn<'_> {
             return Err(13);
         }
         self.node.last_call += 1;
-        self.send(receiver, self.node.last_call, body)
+        self.send(receiver, self.node.last_call, body);
+        Ok(())
     }
 
     /// "status Down, idle. All else is kept"
@@ -775,13 +794,13 @@ impl Turn<'_> {
     }
 
     /// "On delivery"
-    fn deliver(&mut self, m: Message) -> Result<(), u8> {
+    fn deliver(&mut self, m: &Message) -> Result<(), u8> {
         let (from, call) = (m.sender, m.call);
         match m.body {
             // "reply yes exactly when Normal and its own coordinator"
             Body::AreYouCoordinator => {
                 let yes = self.node.normal_coordinator(self.i);
-                self.reply(from, call, yes)
+                self.reply(from, call, yes);
             }
             // "yes exactly when the group is equal, it is its own coordinator and the sender is a
             // member"
@@ -789,7 +808,7 @@ impl Turn<'_> {
                 let yes = self.node.group == group
                     && self.own_coordinator()
                     && self.node.members & only(from) != 0;
-                self.reply(from, call, yes)
+                self.reply(from, call, yes);
             }
             // "if not Normal, or it owns that group, plain reply and no change." T-03: "an invitation
             // to the group a cabinet already holds gets a plain reply and changes nothing else"
@@ -798,9 +817,9 @@ impl Turn<'_> {
                     || owner(group) == self.i
                     || self.node.group == group
                 {
-                    self.reply(from, call, true)
+                    self.reply(from, call, true);
                 } else {
-                    self.join(group, from, call)
+                    self.join(group, from, call)?;
                 }
             }
             // "if in Election, its own coordinator and in that group, the sender joins the members.
@@ -812,7 +831,7 @@ impl Turn<'_> {
                 {
                     self.node.members |= only(from);
                 }
-                self.reply(from, call, true)
+                self.reply(from, call, true);
             }
             // "if in Reorganization and in that group, task taken, Normal. Plain reply always."
             Body::Ready { group, task } => {
@@ -820,18 +839,17 @@ impl Turn<'_> {
                     self.node.task = task;
                     self.node.status = Status::Normal;
                 }
-                self.reply(from, call, true)
+                self.reply(from, call, true);
             }
             // "if a call is open with this number, it goes on ... Otherwise the reply is dropped."
             Body::Reply { yes } => {
                 if self.node.open_call() == Some(call) {
-                    self.go_on(yes)
-                } else {
-                    Ok(())
+                    self.go_on(yes)?;
                 }
             }
-            Body::Unknown { .. } => Ok(()), // ground 1
+            Body::Unknown { .. } => {} // ground 1, and T-11's ground 20
         }
+        Ok(())
     }
 
     /// "its activity stops; Election, the new group and its owner as coordinator. If it was its own
@@ -874,7 +892,8 @@ impl Turn<'_> {
             Activity::Accepting { caller, call } => {
                 self.node.status = Status::Reorganization;
                 self.node.activity = Activity::Idle;
-                self.reply(caller, call, true)
+                self.reply(caller, call, true);
+                Ok(())
             }
             Activity::Contacting if yes => {
                 self.node.activity = Activity::Idle;

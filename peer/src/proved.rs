@@ -2,6 +2,10 @@
 //! ones. `Own` is this program's own machine behind the same boundary.
 
 use crate::bully::{self, bytes::bully_step_by};
+use crate::controller::{
+    bytes::{event_by, message_by},
+    share::Cabinet,
+};
 use crate::list::{first_event, read_list};
 use crate::machine::{
     self, Activity, Body, Event, Limits, Message, Node, PairCounts, Status, Table, Traffic,
@@ -32,7 +36,7 @@ pub type TableBytes = [u8; TABLE_BYTES];
 /// The records of a recovery in bytes, each as in a table.
 pub const RECORDS_BYTES: usize = ASSIGNMENTS * NODE_BYTES;
 
-/// The answer when there is no room for the table or the records.
+/// The answer when there is no room for the table, the records or what else is written.
 pub const TOO_SHORT: u8 = 255;
 
 /// What the library does: the proved one, this program's own, or a wrong one in the tests.
@@ -69,6 +73,23 @@ pub trait Library {
     /// delivered, 2 lost; what stands behind these stays as it was. A refusal is 1 or 7, and out stays as it was.
     /// TOO_SHORT, which comes first, is for an out shorter than that, and out stays as it was.
     fn turn(&self, table: &[u8], a: u8, b: u8, out: &mut [u8]) -> u8;
+
+    /// One event, as a field, at the controller of cabinet own of n (T-11), whose record is read as a table is in
+    /// `step`. Accepted is 0, and out begins with the record after it, the length of the outgoing message, 0 for
+    /// none, and its bytes; what stands behind these is free up to 55, and stays as it was from there on. A refusal
+    /// is its number, and out stays as it was: 3, 4 or 5, where the field is none, deliver or lose, come before 1.
+    /// TOO_SHORT, which comes first, is for an out shorter than 55, and out stays as it was.
+    fn controller_event(&self, n: u8, own: u8, record: &[u8], field: &[u8], out: &mut [u8]) -> u8;
+
+    /// The same for an incoming message, which is these bytes and nothing behind them.
+    fn controller_message(
+        &self,
+        n: u8,
+        own: u8,
+        record: &[u8],
+        message: &[u8],
+        out: &mut [u8],
+    ) -> u8;
 }
 
 /// The proved library.
@@ -115,6 +136,26 @@ mod linked {
             out: *mut u8,
             out_len: usize,
         ) -> u8;
+        pub fn nevraspu_controller_event(
+            n: u8,
+            own: u8,
+            record: *const u8,
+            record_len: usize,
+            field: *const u8,
+            field_len: usize,
+            out: *mut u8,
+            out_len: usize,
+        ) -> u8;
+        pub fn nevraspu_controller_message(
+            n: u8,
+            own: u8,
+            record: *const u8,
+            record_len: usize,
+            message: *const u8,
+            message_len: usize,
+            out: *mut u8,
+            out_len: usize,
+        ) -> u8;
     }
 }
 
@@ -152,6 +193,32 @@ mod linked {
         unreachable!()
     }
     pub unsafe fn nevraspu_turn(_: *const u8, _: usize, _: u8, _: u8, _: *mut u8, _: usize) -> u8 {
+        unreachable!()
+    }
+    #[allow(clippy::too_many_arguments)]
+    pub unsafe fn nevraspu_controller_event(
+        _: u8,
+        _: u8,
+        _: *const u8,
+        _: usize,
+        _: *const u8,
+        _: usize,
+        _: *mut u8,
+        _: usize,
+    ) -> u8 {
+        unreachable!()
+    }
+    #[allow(clippy::too_many_arguments)]
+    pub unsafe fn nevraspu_controller_message(
+        _: u8,
+        _: u8,
+        _: *const u8,
+        _: usize,
+        _: *const u8,
+        _: usize,
+        _: *mut u8,
+        _: usize,
+    ) -> u8 {
         unreachable!()
     }
 }
@@ -234,6 +301,45 @@ impl Library for Proved {
             linked::nevraspu_turn(table.as_ptr(), table.len(), a, b, out.as_mut_ptr(), out.len())
         }
     }
+
+    fn controller_event(&self, n: u8, own: u8, record: &[u8], field: &[u8], out: &mut [u8]) -> u8 {
+        // Safety: as above.
+        unsafe {
+            linked::nevraspu_controller_event(
+                n,
+                own,
+                record.as_ptr(),
+                record.len(),
+                field.as_ptr(),
+                field.len(),
+                out.as_mut_ptr(),
+                out.len(),
+            )
+        }
+    }
+
+    fn controller_message(
+        &self,
+        n: u8,
+        own: u8,
+        record: &[u8],
+        message: &[u8],
+        out: &mut [u8],
+    ) -> u8 {
+        // Safety: as above.
+        unsafe {
+            linked::nevraspu_controller_message(
+                n,
+                own,
+                record.as_ptr(),
+                record.len(),
+                message.as_ptr(),
+                message.len(),
+                out.as_mut_ptr(),
+                out.len(),
+            )
+        }
+    }
 }
 
 /// This program's own machine behind the same boundary.
@@ -265,6 +371,21 @@ impl Library for Own {
 
     fn turn(&self, table: &[u8], a: u8, b: u8, out: &mut [u8]) -> u8 {
         turn_by(round::driver::turn, table, (a, b), out)
+    }
+
+    fn controller_event(&self, n: u8, own: u8, record: &[u8], field: &[u8], out: &mut [u8]) -> u8 {
+        event_by(Cabinet::event, (n, own), record, field, out)
+    }
+
+    fn controller_message(
+        &self,
+        n: u8,
+        own: u8,
+        record: &[u8],
+        message: &[u8],
+        out: &mut [u8],
+    ) -> u8 {
+        message_by(Cabinet::message, (n, own), record, message, out)
     }
 }
 
@@ -465,7 +586,7 @@ fn parts(bytes: &TableBytes) -> (usize, usize) {
 }
 
 /// status 1, counter 4, group 4, coordinator 1, task 2, members 2, last call 4, activity 11
-fn node_to_bytes(node: &Node, bytes: &mut [u8; NODE_BYTES]) {
+pub fn node_to_bytes(node: &Node, bytes: &mut [u8; NODE_BYTES]) {
     bytes[0] = node.status as u8;
     bytes[1..5].copy_from_slice(&node.counter.to_be_bytes());
     bytes[5..9].copy_from_slice(&node.group.to_be_bytes());
@@ -482,7 +603,8 @@ fn node_to_bytes(node: &Node, bytes: &mut [u8; NODE_BYTES]) {
     bytes[25..29].copy_from_slice(&a.call.to_be_bytes());
 }
 
-fn node_from_bytes(bytes: &[u8; NODE_BYTES]) -> Node {
+/// Status and activity are read by their remainders. What an activity does not have is read past.
+pub fn node_from_bytes(bytes: &[u8; NODE_BYTES]) -> Node {
     Node {
         status: status_from_byte(bytes[0]),
         counter: four(&bytes[1..5]),

@@ -250,7 +250,8 @@ fn group(n: u8, numbers: &mut Numbers) -> u32 {
     group_number(near_ends(1, MAX_COUNTER, numbers), owner)
 }
 
-fn any_task(numbers: &mut Numbers) -> u16 {
+/// A task that a finish can have, often at an end.
+pub fn any_task(numbers: &mut Numbers) -> u16 {
     near_ends(u32::from(MIN_TASK), 65_535, numbers) as u16
 }
 
@@ -275,7 +276,8 @@ pub fn other(i: u8, n: u8, numbers: &mut Numbers) -> u8 {
     }
 }
 
-fn node(i: u8, n: u8, numbers: &mut Numbers) -> Node {
+/// The record of node i of n, in range.
+pub fn node(i: u8, n: u8, numbers: &mut Numbers) -> Node {
     let others = (u16::MAX >> (MAX_NODES - n)) & !only(i);
     let mut node = Node {
         status: numbers.of(&[
@@ -360,13 +362,36 @@ pub fn set_activity(node: &mut Node, activity: u32, i: u8, n: u8, numbers: &mut 
     };
 }
 
+/// Puts the bytes of a record in another form that is read as the same: other bytes with the same remainder as status and activity, and
+/// any bytes in what the activity does not have.
+pub fn record_in_another_form(record: &mut [u8], numbers: &mut Numbers) {
+    record[0] ^= numbers.byte() & !3;
+    let tag = record[18] % 9;
+    // Set 19 to 20, former 21 to 22, node 23, caller 24, call 25 to 28.
+    let lacks = match tag {
+        0 | 4 | 6 => [19..29, 0..0],
+        1 | 2 | 5 => [21..23, 24..29],
+        3 => [24..29, 0..0],
+        7 => [21..23, 0..0],
+        _ => [19..24, 0..0],
+    };
+    record[18] = tag + 9 * numbers.below(27) as u8;
+    for places in lacks {
+        numbers.fill(&mut record[places]);
+    }
+}
+
 /// A message that often fits its receiver: in its group, or with the number of its open call. The table must
 /// have two nodes or more.
 pub fn any_message(table: &Table, numbers: &mut Numbers) -> Message {
     let n = table.n;
     let sender = numbers.between(1, u32::from(n)) as u8;
     let receiver = other(sender, n, numbers);
-    let to = table.node(receiver);
+    message_to(n, sender, receiver, table.node(receiver), numbers)
+}
+
+/// The same for a receiver with this record.
+pub fn message_to(n: u8, sender: u8, receiver: u8, to: &Node, numbers: &mut Numbers) -> Message {
     let group = match numbers.below(3) {
         0 if to.group != 0 => to.group,
         1 => group_number(near_ends(1, MAX_COUNTER, numbers), receiver),

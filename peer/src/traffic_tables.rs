@@ -225,7 +225,7 @@ fn some(set: Set, numbers: &mut Numbers) -> Set {
 }
 
 /// Node i of n, which goes on in this way. Its counter and last call number come later.
-fn sending_node(way: Way, i: u8, n: u8, numbers: &mut Numbers) -> Node {
+pub fn sending_node(way: Way, i: u8, n: u8, numbers: &mut Numbers) -> Node {
     let others = (u16::MAX >> (MAX_NODES - n)) & !only(i);
     let any_status = numbers.of(&[Status::Election, Status::Reorganization, Status::Normal]);
     let counter = near_ends(1, MAX_COUNTER, numbers);
@@ -315,7 +315,7 @@ fn sending_node(way: Way, i: u8, n: u8, numbers: &mut Numbers) -> Node {
 }
 
 /// What is delivered to node i of n in this way, if something is.
-fn delivered(way: Way, node: &Node, i: u8, n: u8, numbers: &mut Numbers) -> Option<Body> {
+pub fn delivered(way: Way, node: &Node, i: u8, n: u8, numbers: &mut Numbers) -> Option<Body> {
     let counter = near_ends(1, MAX_COUNTER, numbers);
     let any_group = group_number(counter, numbers.between(1, u32::from(n)) as u8);
     let group = if numbers.one_in(5) { any_group } else { node.group };

@@ -1,5 +1,5 @@
-//! The vectors' calls: how a line is read, what is compared, and the calls of T-04, T-07 and T-09 on this
-//! program's own machines.
+//! The vectors' calls: how a line is read, what is compared, and the calls of T-04, T-07, T-09 and T-11 on
+//! this program's own machines and controllers.
 
 mod functions;
 
@@ -335,4 +335,61 @@ fn every_byte_of_the_records_is_compared() {
     for place in 0..232 {
         assert!(call_difference(&wrong(place), accepted).is_some(), "{place}");
     }
+}
+
+fn controllers() -> Vec<CallCase> {
+    let file = Path::new(env!("CARGO_MANIFEST_DIR")).join("../tests/controllers.txt");
+    read_calls(&std::fs::read_to_string(file).unwrap(), &FUNCTIONS).unwrap()
+}
+
+/// The vectors of T-11, with every answer of a controller, to events and to messages.
+#[test]
+fn controllers_of_the_vectors() {
+    let cases = controllers();
+    assert_eq!(cases.len(), 700);
+    for case in &cases {
+        assert_eq!(call_difference(&Own, case), None);
+        let length = case.written.get(29).map_or(0, |&length| 30 + usize::from(length));
+        assert_eq!(case.written.len(), length);
+        assert_eq!(case.answer == 0, length > 0);
+    }
+    let of = |name: &str, answer: u8| {
+        cases.iter().filter(|case| case.function.name == name && case.answer == answer).count()
+    };
+    for answer in [0, 1, 3, 4, 5, 7, 8, 9, 10, 12, 13, 18, 19, 21, 255] {
+        assert!(of("nevraspu_controller_event", answer) >= 7, "{answer}");
+    }
+    // No vector has a message that meets 12.
+    for answer in [0, 1, 9, 13, 20, 21, 255] {
+        assert!(of("nevraspu_controller_message", answer) >= 4, "{answer}");
+    }
+}
+
+/// Of what a controller writes, everything is compared but what stands between the message and 55.
+#[test]
+fn every_byte_of_a_share_that_is_not_free_is_compared() {
+    let wrong = |place: usize| {
+        let controller = move |n: u8, own: u8, record: &[u8], message: &[u8], out: &mut [u8]| {
+            let answer = Own.controller_message(n, own, record, message, out);
+            if answer == 0 {
+                out[place] ^= 1;
+            }
+            answer
+        };
+        Functions { controller_message: Box::new(controller), ..Functions::default() }
+    };
+    let cases = controllers();
+    let mut compared = [0; 2];
+    for case in cases.iter().filter(|case| case.function.name == "nevraspu_controller_message") {
+        let sends = case.answer == 0 && case.written[29] > 0;
+        if sends && case.room > 55 {
+            for place in 0..case.room {
+                let free = (case.written.len()..55).contains(&place);
+                let found = call_difference(&wrong(place), case).is_some();
+                assert_eq!(found, !free, "{place}");
+                compared[usize::from(found)] += 1;
+            }
+        }
+    }
+    assert!(compared[0] > 40 && compared[1] > 400, "{compared:?}");
 }

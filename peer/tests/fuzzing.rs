@@ -35,4 +35,7 @@ fn fuzzers_go_on() {
     let start = Instant::now();
     peer::round::fuzzing::Fuzz::new(Own, 1).go_on(asked, u64::MAX);
     assert!(start.elapsed() >= 4 * asked);
+    let start = Instant::now();
+    peer::controller::fuzzing::Fuzz::new(Own, 1).go_on(asked, u64::MAX);
+    assert!(start.elapsed() >= 4 * asked);
 }

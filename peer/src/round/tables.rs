@@ -12,7 +12,7 @@ use crate::proved::{
 };
 use crate::round::bound::pair_of;
 use crate::round::driver::Place;
-use crate::tables::{in_range, move_to_ends, of_nodes, other, spoil};
+use crate::tables::{in_range, move_to_ends, of_nodes, other, record_in_another_form, spoil};
 use crate::traffic_corners::{need, Way, WAYS};
 use crate::traffic_tables::{give_counts, sending, set_sent, Scene};
 
@@ -179,20 +179,7 @@ pub fn in_another_form(bytes: &TableBytes, numbers: &mut Numbers) -> Vec<u8> {
     let mut form = *bytes;
     let n = usize::from(form[0].min(MAX_NODES));
     for record in form[NODES_AT..MESSAGES_AT].chunks_exact_mut(NODE_BYTES).take(n) {
-        record[0] ^= numbers.byte() & !3;
-        let tag = record[18] % 9;
-        // Set 19 to 20, former 21 to 22, node 23, caller 24, call 25 to 28.
-        let lacks = match tag {
-            0 | 4 | 6 => [19..29, 0..0],
-            1 | 2 | 5 => [21..23, 24..29],
-            3 => [24..29, 0..0],
-            7 => [21..23, 0..0],
-            _ => [19..24, 0..0],
-        };
-        record[18] = tag + 9 * numbers.below(27) as u8;
-        for places in lacks {
-            numbers.fill(&mut record[places]);
-        }
+        record_in_another_form(record, numbers);
     }
     let waiting = usize::from(form[WAITING_AT]);
     for message in form[MESSAGES_AT..WAITING_AT].chunks_exact_mut(MESSAGE_BYTES).take(waiting) {

@@ -8,6 +8,7 @@ type Step<'a> = Box<dyn Fn(&[u8], &[u8], &mut [u8]) -> u8 + 'a>;
 type Fold<'a> = Box<dyn Fn(&[u8]) -> u32 + 'a>;
 type Recovery<'a> = Box<dyn Fn(&[u8], u8, &mut [u8]) -> u8 + 'a>;
 type Turn<'a> = Box<dyn Fn(&[u8], u8, u8, &mut [u8]) -> u8 + 'a>;
+type Controller<'a> = Box<dyn Fn(u8, u8, &[u8], &[u8], &mut [u8]) -> u8 + 'a>;
 
 /// What each takes and gives is said in `Library`.
 pub struct Functions<'a> {
@@ -17,6 +18,8 @@ pub struct Functions<'a> {
     pub recovery: Recovery<'a>,
     pub bully_step: Step<'a>,
     pub turn: Turn<'a>,
+    pub controller_event: Controller<'a>,
+    pub controller_message: Controller<'a>,
 }
 
 impl Default for Functions<'_> {
@@ -28,6 +31,12 @@ impl Default for Functions<'_> {
             recovery: Box::new(|table, node, out| Own.recovery(table, node, out)),
             bully_step: Box::new(|table, field, out| Own.bully_step(table, field, out)),
             turn: Box::new(|table, a, b, out| Own.turn(table, a, b, out)),
+            controller_event: Box::new(|n, own, record, field, out| {
+                Own.controller_event(n, own, record, field, out)
+            }),
+            controller_message: Box::new(|n, own, record, message, out| {
+                Own.controller_message(n, own, record, message, out)
+            }),
         }
     }
 }
@@ -50,5 +59,18 @@ impl Library for Functions<'_> {
     }
     fn turn(&self, table: &[u8], a: u8, b: u8, out: &mut [u8]) -> u8 {
         (self.turn)(table, a, b, out)
+    }
+    fn controller_event(&self, n: u8, own: u8, record: &[u8], field: &[u8], out: &mut [u8]) -> u8 {
+        (self.controller_event)(n, own, record, field, out)
+    }
+    fn controller_message(
+        &self,
+        n: u8,
+        own: u8,
+        record: &[u8],
+        message: &[u8],
+        out: &mut [u8],
+    ) -> u8 {
+        (self.controller_message)(n, own, record, message, out)
     }
 }
