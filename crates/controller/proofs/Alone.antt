@@ -6,6 +6,7 @@ use mathlib.Core.Path.{_≡_, refl, sym, _∙_, ap}
 use mathlib.Core.Logic.{_⊎_, inl, inr}
 use mathlib.Core.List.{List, [], _∷_, map}
 use lib.Dec.{eqb, leb}
+use lib.ListN.{length}
 use borrow.Author.Tests.{eqb-true, eqb-false, leb-true, not-true, not-false}
 use Rattle.model.specs.Pick.{pick}
 use Rattle.model.specs.Limits.{nodeLimit, counterEnd, callEnd}
@@ -25,11 +26,12 @@ use Rattle.model.specs.declared.Message.{Message}
 use Rattle.model.specs.declared.Outgoing.{Outgoing}
 use Rattle.model.specs.declared.Outgoing.the-variants.{Nothing, Send}
 use Rattle.model.specs.declared.Reaction.{Reaction}
-use Rattle.message_fields.specs.Fields.{fields, messageIn, isMessage, carried}
+use Rattle.message_fields.specs.Fields.{fields, mostBytes, messageIn, isMessage, carried}
+use Rattle.message_fields.proofs.Forms.{at-most}
 use Rattle.message_fields.proofs.RoundTrip.{widths, message-back, fields-message, its-range}
 use Rattle.controller.specs.declared.LocalEvent.{LocalEvent}
 use Rattle.controller.specs.declared.LocalEvent.the-variants.{Crash, Recover, Check, Timeout, Tick, Expire, Finish}
-use Rattle.controller.specs.Controller.{Incoming, event, message, asEvent, eventOf, inputOf, inputIn, reactionIn, sentBytes, inRangeFor, isForOther, controllerGrounds, Result, refused, accepted, controllerStep}
+use Rattle.controller.specs.Controller.{Incoming, event, message, asEvent, eventOf, inputOf, inputIn, reactionIn, sentBytes, inRangeFor, isForOther, controllerGrounds, Result, refused, accepted, controllerStep, resultNumber, sentIn}
 use Rattle.controller.specs.Claims.{ControllerRefuses, ControllerStaysInRange}
 
 -- ── results ──
@@ -97,6 +99,20 @@ module _ (n i : ℕ) (c : Node) (x : Incoming) where
 
 pub controller-refuses : ControllerRefuses
 controller-refuses = record { order = order; first = first; first-given = first-given; none-accepts = none-accepts; never-queues = never }
+
+-- ── bounds of every step: its number, and how many bytes it sends ──
+pub controller-small : (n i : ℕ) (c : Node) (x : Incoming) → resultNumber (controllerStep n i c x) ≤ 21
+controller-small n i c x =
+    by-number n i c x (λ (y : Result). resultNumber y ≤ 21) (omega arith) (omega arith) (omega arith) (omega arith) (omega arith) (omega arith) (omega arith) (omega arith) (omega arith) (omega arith) (omega arith) (omega arith)
+
+outgoing-short : (o : Outgoing) → length (sentBytes o) ≤ mostBytes
+outgoing-short Nothing = omega arith
+outgoing-short (Send m) = at-most m
+
+pub sent-short : (n i : ℕ) (c : Node) (x : Incoming) → length (sentIn (controllerStep n i c x)) ≤ mostBytes
+sent-short n i c x =
+    by-number n i c x (λ (y : Result). length (sentIn y) ≤ mostBytes) (omega arith) (omega arith) (omega arith) (omega arith) (omega arith) (omega arith) (omega arith) (omega arith) (omega arith) (omega arith) (omega arith)
+    (outgoing-short (reactionIn n i c x .outgoing))
 
 -- ── what is accepted stays in range ──
 

@@ -20,14 +20,14 @@ use Rattle.message_fields.specs.Parts.{Packed}
 use Rattle.message_fields.proofs.Forms.{unpacked}
 use Rattle.controller.specs.declared.ControllerOutcome.{ControllerOutcome}
 use Rattle.controller.specs.Controller.{Incoming, reactionIn, sentBytes, Result, refused, accepted, controllerStep, resultNumber, nodeAfter, sentIn}
-use Rattle.controller.specs.Told.{Shows, Told}
+use Rattle.controller.specs.Stepped.{OutcomeOf, ControllerStepped}
 use Rattle.controller.specs.Claims.{resultBy, Outcomes, MeetsPromise, answersOf, ControllersHold}
 use Rattle.controller.proofs.Alone.{by-number}
 use Rattle.controller.proofs.Holds.{network-fixes, network-in-range}
 
 -- ── what an outcome is as a result ──
 module _ (c : Node) (r : ControllerOutcome) where
-  refusal : (k : ℕ) → eqb k 0 ≡ false → Shows c (refused k) r → resultBy r ≡ refused k
+  refusal : (k : ℕ) → eqb k 0 ≡ false → OutcomeOf c (refused k) r → resultBy r ≡ refused k
   unfolding resultBy
   refusal k h s = rw (← zero-accepted (r .answer), s .answer, h, pick-false)
 
@@ -35,13 +35,13 @@ module _ (c : Node) (r : ControllerOutcome) where
   sent-back Nothing p = rw (p .length)
   sent-back (Send m) p = unpacked (r .packet) m p
 
-  acceptance : (d : Node) (o : Outgoing) → Shows c (accepted d (sentBytes o)) r → resultBy r ≡ accepted d (sentBytes o)
+  acceptance : (d : Node) (o : Outgoing) → OutcomeOf c (accepted d (sentBytes o)) r → resultBy r ≡ accepted d (sentBytes o)
   unfolding resultBy
   acceptance d o s = rw (← zero-accepted (r .answer), s .answer, pick-true, s .node, sent-back o (s .packet))
 
-pub told-result : (n i : ℕ) (c : Node) (x : Incoming) (r : ControllerOutcome) → Told n i c x r → resultBy r ≡ controllerStep n i c x
-told-result n i c x r =
-    by-number n i c x (λ (y : Result). Shows c y r → resultBy r ≡ y)
+pub stepped-result : (n i : ℕ) (c : Node) (x : Incoming) (r : ControllerOutcome) → ControllerStepped n i c x r → resultBy r ≡ controllerStep n i c x
+stepped-result n i c x r =
+    by-number n i c x (λ (y : Result). OutcomeOf c y r → resultBy r ≡ y)
     (refusal c r 1 refl) (refusal c r 7 refl) (refusal c r 8 refl) (refusal c r 20 refl) (refusal c r 21 refl) (refusal c r 9 refl) (refusal c r 10 refl) (refusal c r 18 refl) (refusal c r 19 refl) (refusal c r 12 refl) (refusal c r 13 refl)
     (acceptance c r (reactionIn n i c x .node) (reactionIn n i c x .outgoing))
 
@@ -82,9 +82,9 @@ controllers-hold =
     record {
       fixes = network-fixes controllerStep (λ n i c x. refl);
       in-range = network-in-range controllerStep (λ n i c x. refl);
-      code-fixes = λ g h. network-fixes (answersOf g) (λ n i c x. told-result n i c x (g n i c x) (h n i c x));
-      code-in-range = λ g h. network-in-range (answersOf g) (λ n i c x. told-result n i c x (g n i c x) (h n i c x));
-      told = told-result;
+      code-fixes = λ g h. network-fixes (answersOf g) (λ n i c x. stepped-result n i c x (g n i c x) (h n i c x));
+      code-in-range = λ g h. network-in-range (answersOf g) (λ n i c x. stepped-result n i c x (g n i c x) (h n i c x));
+      stepped = stepped-result;
       some = some-outcome;
       some-meets = some-meets;
     }

@@ -32,7 +32,7 @@ use Rattle.controller.specs.declared.LocalEvent.{LocalEvent}
 use Rattle.controller.specs.declared.LocalEvent.the-variants.{Crash, Recover, Check, Timeout, Tick, Expire, Finish}
 use Rattle.controller.specs.declared.ControllerOutcome.{ControllerOutcome}
 use Rattle.controller.specs.Controller.{Incoming, event, message, asEvent, inputOf, reactionIn, inRangeFor, controllerGrounds, Result, refused, controllerStep}
-use Rattle.controller.specs.Told.{Shows}
+use Rattle.controller.specs.Stepped.{OutcomeOf}
 use Rattle.controller.specs.Parts.{actGrounds, acts, acted, receivedBy}
 
 module _ (n i : ℕ) (c : Node) where
@@ -116,7 +116,7 @@ module _ (n i : ℕ) (c : Node) where
 -- ── outcomes ──
 
 -- one that shows a result shows what is equal to it
-pub shows : {c : Node} {y z : Result} {r : ControllerOutcome} → z ≡ y → Shows c y r → Shows c z r
+pub shows : {c : Node} {y z : Result} {r : ControllerOutcome} → z ≡ y → OutcomeOf c y r → OutcomeOf c z r
 shows e s = rw e s
 
 -- the code's test of an answer that is not accepted

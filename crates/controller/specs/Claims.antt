@@ -29,7 +29,7 @@ use Rattle.controller.specs.declared.LocalEvent.the-variants as LocalEve
 use Rattle.controller.specs.declared.ControllerOutcome.{ControllerOutcome}
 use Rattle.controller.specs.Controller as controller
 use Rattle.controller.specs.Controller.{Incoming, event, message, asEvent, reactionIn, sentBytes, inRangeFor, controllerGrounds, controllerStep}
-use Rattle.controller.specs.Told.{Told}
+use Rattle.controller.specs.Stepped.{ControllerStepped}
 use Rattle.controller.specs.Network.{Network, recordAt, startNetwork, networkOf, oldestIn, Result, refused, accepted, Controllers, stepBy, runBy, networkStep, networkRun}
 
 -- ── the theorem: "From any table in range, running n of these over one message queue answers as the whole table does, event by event" ──
@@ -204,7 +204,7 @@ Outcomes = ℕ → ℕ → Node → Incoming → ControllerOutcome
 
 -- Each outcome meets the promise of the code's functions. These are such outcomes for arguments that fit their words; for any other argument let g be `some` of ControllersHold.
 abbrev pub MeetsPromise : Outcomes → Type 0
-MeetsPromise g = (n i : ℕ) (c : Node) (x : Incoming) → Told n i c x (g n i c x)
+MeetsPromise g = (n i : ℕ) (c : Node) (x : Incoming) → ControllerStepped n i c x (g n i c x)
 
 abbrev pub answersOf : Outcomes → Controllers
 answersOf g n i c x = resultBy (g n i c x)
@@ -218,7 +218,7 @@ pub record ControllersHold : Type 0 where
   pub code-fixes : (g : Outcomes) → MeetsPromise g → (n limit : ℕ) → 1 ≤ n → n ≤ 16 → limit ≤ 64 → NetworkFixes (answersOf g) n limit
   pub code-in-range : (g : Outcomes) → MeetsPromise g → (n limit : ℕ) → 1 ≤ n → n ≤ 16 → limit ≤ 64 → NetworkInRange (answersOf g) n limit
   -- an outcome that meets the promise is the definition's result: nothing of it is free
-  pub told : (n i : ℕ) (c : Node) (x : Incoming) (r : ControllerOutcome) → Told n i c x r → resultBy r ≡ controllerStep n i c x
+  pub stepped : (n i : ℕ) (c : Node) (x : Incoming) (r : ControllerOutcome) → ControllerStepped n i c x r → resultBy r ≡ controllerStep n i c x
   -- and there are such outcomes
   pub some : Outcomes
   pub some-meets : MeetsPromise some

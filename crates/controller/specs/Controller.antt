@@ -1,6 +1,6 @@
 -- One node's share of the machine (02, T-11: "The controller in the cabinet"). "It takes n, its own number, its own record and one event other than deliver and lose or one incoming message, and gives
 -- the new record and at most one outgoing message." "The result depends on nothing but those four things": `controllerStep` is a function of them, and the code promises
--- what it gives (Told). What n of them over one queue of messages do is in Network.
+-- what it gives (ControllerStepped). What n of them over one queue of messages do is in Network.
 use Prim.Native.Nat.{ℕ}
 use mathlib.Core.Bool.{Bool, false, not, _&&_}
 use mathlib.Core.List.{List, [], _∷_}

@@ -1,6 +1,6 @@
 -- One node's share of the machine, and n of them over one queue.
 pub mod Controller
-pub mod Told
+pub mod Stepped
 pub mod Parts
 pub mod Network
 pub mod Claims

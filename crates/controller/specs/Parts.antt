@@ -1,4 +1,4 @@
--- What the inner functions compute: the step behind the grounds that an event's or a message's own bytes decide.
+-- What the inner functions compute: the step after grounds 1, 7, 8 and 20, and for an event after 21 too.
 use Prim.Native.Nat.{ℕ}
 use mathlib.Core.Bool.{not}
 use mathlib.Core.List.{List, _∷_, _++_}

@@ -1,6 +1,6 @@
 // The controller in the cabinet (02, T-11): one node's share of the machine. It takes n, its own number, its own record, and one event other than deliver and lose or the bytes of one message;
 // it gives the answer, the record after it and at most one message, in bytes. Nothing else is read or kept, and no function here takes a table.
-// What is answered is in specs/Controller and specs/Told; what n of them over one queue of messages do is in specs/Network.
+// What is answered is in specs/Controller and specs/ControllerStepped; what n of them over one queue of messages do is in specs/Network.
 use message_fields::MessageRead;
 use message_fields::Packet;
 use model::Answer;
@@ -16,7 +16,7 @@ ghost use Rattle.model.specs.Answers.{answerNumber};
 ghost use Rattle.model.specs.Step.{actor};
 ghost use Rattle.node_step.specs.Fits.{Fits, FitsInput, FitsSender};
 ghost use Rattle.controller.specs.Controller as spec;
-ghost use Rattle.controller.specs.Told.{Shows, Told};
+ghost use Rattle.controller.specs.Stepped.{OutcomeOf, ControllerStepped};
 ghost use Rattle.controller.specs.Parts.{acted, receivedBy};
 
 // The events other than deliver and lose, which are the queue's.
@@ -97,7 +97,7 @@ fn in_range(n: u8, own: u8, node: Node) -> bool
 
 // A refusal: the record as it was, and nothing sent.
 fn refused(answer: Answer, node: Node) -> ControllerOutcome
-    ensures { λ r. ⌜ Shows node (spec.refused (answerNumber answer)) r ⌝ }
+    ensures { λ r. ⌜ OutcomeOf node (spec.refused (answerNumber answer)) r ⌝ }
 {
     ControllerOutcome {
         answer: answer,
@@ -119,7 +119,7 @@ fn packet_for(o: Outgoing) -> Packet
 // By the record: grounds 9, 10, 18 and 19, then what the node does, then 12 and 13.
 fn act(n: u8, own: u8, node: Node, e: Event, input: Input) -> ControllerOutcome
     requires { ⌜ Fits own node × FitsInput input ⌝ }
-    ensures { λ r. ⌜ Shows node (acted n own node e input) r ⌝ }
+    ensures { λ r. ⌜ OutcomeOf node (acted n own node e input) r ⌝ }
 {
     let state = node_step::node_answer(n, node, e);
     if !predicates::is_accepted(state) {
@@ -140,8 +140,8 @@ fn act(n: u8, own: u8, node: Node, e: Event, input: Input) -> ControllerOutcome
 }
 
 // An event of a list, other than deliver and lose.
-pub fn told_event(n: u8, own: u8, node: Node, e: LocalEvent) -> ControllerOutcome
-    ensures { λ r. ⌜ Told n own node (spec.event e) r ⌝ }
+pub fn on_event(n: u8, own: u8, node: Node, e: LocalEvent) -> ControllerOutcome
+    ensures { λ r. ⌜ ControllerStepped n own node (spec.event e) r ⌝ }
 {
     if !in_range(n, own, node) {
         return refused(Answer::NotInRange, node);
@@ -160,7 +160,7 @@ pub fn told_event(n: u8, own: u8, node: Node, e: LocalEvent) -> ControllerOutcom
 // A message that is read: for another node, or acted on.
 fn received(n: u8, own: u8, node: Node, m: Message) -> ControllerOutcome
     requires { ⌜ Fits own node × FitsSender m ⌝ }
-    ensures { λ r. ⌜ Shows node (receivedBy n own node m) r ⌝ }
+    ensures { λ r. ⌜ OutcomeOf node (receivedBy n own node m) r ⌝ }
 {
     if m.receiver != own {
         return refused(Answer::OtherNode, node);
@@ -175,8 +175,8 @@ fn received(n: u8, own: u8, node: Node, m: Message) -> ControllerOutcome
 }
 
 // The bytes of one message, and nothing behind them.
-pub fn told_message(n: u8, own: u8, node: Node, bytes: &[u8]) -> ControllerOutcome
-    ensures { λ r. ⌜ Told n own node (spec.message (now (bytes .entry))) r ⌝ }
+pub fn on_message(n: u8, own: u8, node: Node, bytes: &[u8]) -> ControllerOutcome
+    ensures { λ r. ⌜ ControllerStepped n own node (spec.message (now (bytes .entry))) r ⌝ }
 {
     if !in_range(n, own, node) {
         return refused(Answer::NotInRange, node);

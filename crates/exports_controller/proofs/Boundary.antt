@@ -16,7 +16,7 @@ use Rattle.message_fields.specs.Fields.{mostBytes}
 use Rattle.controller.specs.declared.LocalEvent.{LocalEvent}
 use Rattle.controller.specs.Controller.{event, message, inRangeFor, Result, controllerStep, resultNumber, nodeAfter, sentIn}
 use Rattle.controller.proofs.Steps.{out-of-range, wrong-bytes}
-use Rattle.controller.proofs.Bounds.{controller-small, sent-short}
+use Rattle.controller.proofs.Alone.{controller-small, sent-short}
 use Rattle.exports_controller.specs.declared.FieldRead.{FieldRead}
 use Rattle.exports_controller.specs.declared.FieldRead.the-variants.{Stopped, Got}
 use Rattle.exports_controller.specs.Field.{eventIn}

@@ -19,9 +19,9 @@ use Rattle.message_fields.specs.Fields.{mostBytes}
 use Rattle.controller.specs.declared.LocalEvent.{LocalEvent}
 use Rattle.controller.specs.declared.ControllerOutcome.{ControllerOutcome}
 use Rattle.controller.specs.Controller.{event, message, Result, controllerStep, resultNumber, nodeAfter, sentIn}
-use Rattle.controller.specs.Told.{Shows, Told}
+use Rattle.controller.specs.Stepped.{OutcomeOf, ControllerStepped}
 use Rattle.controller.proofs.Steps.{shows}
-use Rattle.controller.proofs.Bounds.{sent-short}
+use Rattle.controller.proofs.Alone.{sent-short}
 use Rattle.exports_controller.specs.declared.FieldRead.{FieldRead}
 use Rattle.exports_controller.specs.declared.FieldRead.the-variants.{Stopped, Got}
 use Rattle.exports_controller.specs.Field.{eventIn}
@@ -76,7 +76,7 @@ module _ (c : Node) (y : Result) (b : List ℕ) where
     refusal : (x : ℕ) → x ≡ resultNumber y → (x ≡ 0 → ⊥) → Exported c y b b x
     refusal x e h = kept-by x (e ∙ sym (long-in outcomeSize b (resultNumber y) room)) h
 
-    outcome : length (sentIn y) ≤ mostBytes → (q : ControllerOutcome) → Shows c y q → (o : List ℕ) (x : ℕ) → Answered q b o x → Exported c y b o x
+    outcome : length (sentIn y) ≤ mostBytes → (q : ControllerOutcome) → OutcomeOf c y q → (o : List ℕ) (x : ℕ) → Answered q b o x → Exported c y b o x
     outcome short q s o x a =
         record {
           number = number;
@@ -112,8 +112,8 @@ module _ (n i : ℕ) (r f b : List ℕ) where
     no-event {s} q x e = event-exported (refusal (nodeOf r) result b room x (e ∙ sym (ap (λ (y : FieldRead). resultNumber (fieldStep n i (nodeOf r) y)) q)) (λ z. refuses s (sym e ∙ z)))
 
     -- q is the outcome of the event e
-    pub event-told : {e : LocalEvent} → eventIn f ≡ Got e → (q : ControllerOutcome) → Told n i (nodeOf r) (event e) q → (o : List ℕ) (x : ℕ) → Answered q b o x → EventExported n i r f b o x
-    event-told {e} w q t o x a =
+    pub event-stepped : {e : LocalEvent} → eventIn f ≡ Got e → (q : ControllerOutcome) → ControllerStepped n i (nodeOf r) (event e) q → (o : List ℕ) (x : ℕ) → Answered q b o x → EventExported n i r f b o x
+    event-stepped {e} w q t o x a =
         let y = ap (fieldStep n i (nodeOf r)) w in
         event-exported (outcome (nodeOf r) result b room (rw y (sent-short n i (nodeOf r) (event e))) q (shows y t) o x a)
 
@@ -130,5 +130,5 @@ module _ (n i : ℕ) (r l b : List ℕ) where
   pub message-short : length b < outcomeSize → MessageExported n i r l b b 255
   message-short h = message-exported (too-short (nodeOf r) step b h)
 
-  pub message-told : outcomeSize ≤ length b → (q : ControllerOutcome) → Told n i (nodeOf r) (message l) q → (o : List ℕ) (x : ℕ) → Answered q b o x → MessageExported n i r l b o x
-  message-told room q t o x a = message-exported (outcome (nodeOf r) step b room (sent-short n i (nodeOf r) (message l)) q t o x a)
+  pub message-stepped : outcomeSize ≤ length b → (q : ControllerOutcome) → ControllerStepped n i (nodeOf r) (message l) q → (o : List ℕ) (x : ℕ) → Answered q b o x → MessageExported n i r l b o x
+  message-stepped room q t o x a = message-exported (outcome (nodeOf r) step b room (sent-short n i (nodeOf r) (message l)) q t o x a)

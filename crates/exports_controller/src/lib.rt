@@ -137,7 +137,7 @@ pub extern "C" fn nevraspu_controller_event(
     match event_in(field) {
         FieldRead::Stopped(s) => event_list::stop_number(s),
         FieldRead::Got(event) => {
-            let o = controller::told_event(n, own, table_bytes::node_of(record), event);
+            let o = controller::on_event(n, own, table_bytes::node_of(record), event);
             answered(o, out)
         }
     }
@@ -165,6 +165,6 @@ pub extern "C" fn nevraspu_controller_message(
     if out.len() < OUTCOME_SIZE {
         return 255;
     }
-    let o = controller::told_message(n, own, table_bytes::node_of(record), message);
+    let o = controller::on_message(n, own, table_bytes::node_of(record), message);
     answered(o, out)
 }

@@ -23,7 +23,7 @@ use Rattle.message_fields.specs.declared.MessageRead.the-variants.{Wrong
 use Rattle.message_fields.specs.Fields.{field, groupField, taskField, yesField, carriesTask, carriesYes, fields, messageIn, sameBytes, isMessage, reading, carried}
 use Rattle.message_fields.specs.Parts.{callFields}
 use Rattle.message_fields.specs.Claims.{OneForm}
-use Rattle.message_fields.proofs.Forms.{Kind, low, middle, five, six, high, kind-of, no-group-low, no-group-high, a-group, plain-low, plain-high, grouped, ready, reply, same-self, same-is}
+use Rattle.message_fields.proofs.Forms.{Kind, low, middle, five, six, high, kind-of, no-group-low, no-group-high, a-group, plain-low, plain-high, grouped, ready, reply, at-most, same-self, same-is}
 
 -- ── read back ──
 
@@ -234,6 +234,7 @@ one-form =
       one-message = λ n m k h e f q. got-same (sym (fields-read n m h e) ∙ ap (reading n) q ∙ fields-read n k h f);
       no-other = λ n l m h w e q. true≢false (sym (fields-message n m h e) ∙ sym (ap (isMessage n) q) ∙ wrong-is n l w);
       nothing-behind = behind;
+      most = at-most;
       length-one = λ m h. plain-low m (omega (arith, h)) .length;
       length-group = λ m h l. grouped m h l .length;
       length-ready = λ m h. ready m h .length;

@@ -9,7 +9,7 @@ use Rattle.model.specs.Range.{messageInRange}
 use Rattle.model.specs.Node.{asks, calls, readies, replies}
 use Rattle.model.specs.declared.Message.{Message}
 use Rattle.message_fields.specs.declared.MessageRead.the-variants.{Wrong, Got}
-use Rattle.message_fields.specs.Fields.{fields, isMessage, reading, carried}
+use Rattle.message_fields.specs.Fields.{fields, mostBytes, isMessage, reading, carried}
 
 -- Of messages among n nodes, n up to 16, and any bytes l.
 pub record OneForm : Type 0 where
@@ -29,7 +29,8 @@ pub record OneForm : Type 0 where
   pub no-other : (n : ℕ) (l : List ℕ) (m : Message) → n ≤ 16 → reading n l ≡ Wrong → messageInRange n m ≡ true → l ≡ fields m → ⊥
   -- bytes behind a message's make none, and neither do a message's with the last of them missing
   pub nothing-behind : (n : ℕ) (l k : List ℕ) → isMessage n l ≡ true → isMessage n (l ++ k) ≡ true → k ≡ []
-  -- how many bytes a message has: by its kind 13, 20, 25 or 17
+  -- how many bytes a message has: by its kind 13, 20, 25 or 17, and no more than 25, whatever its numbers are
+  pub most : (m : Message) → length (fields m) ≤ mostBytes
   pub length-one : (m : Message) → m .kind ≡ 1 → length (fields m) ≡ 13
   pub length-group : (m : Message) → 2 ≤ m .kind → m .kind ≤ 4 → length (fields m) ≡ 20
   pub length-ready : (m : Message) → m .kind ≡ 5 → length (fields m) ≡ 25
@@ -39,7 +40,9 @@ pub record OneForm : Type 0 where
 pub record FieldCases : Type 0 where
   -- a message of each form
   pub one : reading 3 (0x20 ∷ 0 ∷ 3 ∷ 2 ∷ 1 ∷ 1 ∷ 0x21 ∷ 0 ∷ 4 ∷ 0 ∷ 0 ∷ 0 ∷ 1 ∷ []) ≡ Got (asks 2 1 (record { number = 1 }))
+  pub two : reading 3 (0x20 ∷ 0 ∷ 3 ∷ 1 ∷ 2 ∷ 2 ∷ 0x21 ∷ 0 ∷ 4 ∷ 0 ∷ 0 ∷ 0 ∷ 4 ∷ 0x22 ∷ 0 ∷ 4 ∷ 0 ∷ 0 ∷ 0 ∷ 33 ∷ []) ≡ Got (calls 1 2 2 (record { number = 4 }) (record { number = 33 }))
   pub three : reading 3 (0x20 ∷ 0 ∷ 3 ∷ 2 ∷ 1 ∷ 3 ∷ 0x21 ∷ 0 ∷ 4 ∷ 0 ∷ 0 ∷ 1 ∷ 2 ∷ 0x22 ∷ 0 ∷ 4 ∷ 0 ∷ 0 ∷ 0 ∷ 33 ∷ []) ≡ Got (calls 2 3 1 (record { number = 258 }) (record { number = 33 }))
+  pub four : reading 3 (0x20 ∷ 0 ∷ 3 ∷ 1 ∷ 2 ∷ 4 ∷ 0x21 ∷ 0 ∷ 4 ∷ 0 ∷ 0 ∷ 0 ∷ 1 ∷ 0x22 ∷ 0 ∷ 4 ∷ 0 ∷ 0 ∷ 0 ∷ 33 ∷ []) ≡ Got (calls 1 4 2 (record { number = 1 }) (record { number = 33 }))
   pub five : reading 3 (0x20 ∷ 0 ∷ 3 ∷ 2 ∷ 1 ∷ 5 ∷ 0x21 ∷ 0 ∷ 4 ∷ 0 ∷ 0 ∷ 0 ∷ 3 ∷ 0x22 ∷ 0 ∷ 4 ∷ 0 ∷ 0 ∷ 0 ∷ 33 ∷ 0x23 ∷ 0 ∷ 2 ∷ 1 ∷ 44 ∷ []) ≡ Got (readies 2 1 (record { number = 3 }) (record { number = 33 }) (record { number = 300 }))
   pub six-yes : reading 3 (0x20 ∷ 0 ∷ 3 ∷ 1 ∷ 2 ∷ 6 ∷ 0x21 ∷ 0 ∷ 4 ∷ 0 ∷ 0 ∷ 0 ∷ 1 ∷ 0x24 ∷ 0 ∷ 1 ∷ 1 ∷ []) ≡ Got (replies 1 2 (record { number = 1 }) true)
   pub six-no : reading 3 (0x20 ∷ 0 ∷ 3 ∷ 1 ∷ 2 ∷ 6 ∷ 0x21 ∷ 0 ∷ 4 ∷ 0 ∷ 0 ∷ 0 ∷ 1 ∷ 0x24 ∷ 0 ∷ 1 ∷ 0 ∷ []) ≡ Got (replies 1 2 (record { number = 1 }) false)
@@ -50,28 +53,41 @@ pub record FieldCases : Type 0 where
   pub tag : reading 3 (0x30 ∷ 0 ∷ 3 ∷ 2 ∷ 1 ∷ 1 ∷ 0x21 ∷ 0 ∷ 4 ∷ 0 ∷ 0 ∷ 0 ∷ 1 ∷ []) ≡ Wrong
   pub order : reading 3 (0x21 ∷ 0 ∷ 4 ∷ 0 ∷ 0 ∷ 0 ∷ 1 ∷ 0x20 ∷ 0 ∷ 3 ∷ 2 ∷ 1 ∷ 1 ∷ []) ≡ Wrong
   pub order-behind : reading 3 (0x20 ∷ 0 ∷ 3 ∷ 2 ∷ 1 ∷ 5 ∷ 0x21 ∷ 0 ∷ 4 ∷ 0 ∷ 0 ∷ 0 ∷ 3 ∷ 0x23 ∷ 0 ∷ 2 ∷ 1 ∷ 44 ∷ 0x22 ∷ 0 ∷ 4 ∷ 0 ∷ 0 ∷ 0 ∷ 33 ∷ []) ≡ Wrong
-  -- a length that is not the field's, and the low byte first
+  -- a length that is not the field's, and one with its low byte first
   pub long : reading 3 (0x20 ∷ 0 ∷ 4 ∷ 2 ∷ 1 ∷ 1 ∷ 0x21 ∷ 0 ∷ 4 ∷ 0 ∷ 0 ∷ 0 ∷ 1 ∷ []) ≡ Wrong
-  pub low-first : reading 3 (0x20 ∷ 3 ∷ 0 ∷ 2 ∷ 1 ∷ 1 ∷ 0x21 ∷ 4 ∷ 0 ∷ 1 ∷ 0 ∷ 0 ∷ 0 ∷ []) ≡ Wrong
-  -- a field too few: an invitation without a group, Ready without a task
+  pub low-first : reading 3 (0x20 ∷ 3 ∷ 0 ∷ 2 ∷ 1 ∷ 1 ∷ 0x21 ∷ 0 ∷ 4 ∷ 0 ∷ 0 ∷ 0 ∷ 1 ∷ []) ≡ Wrong
+  -- a field too few: an invitation without a group, Ready without a task, a reply without its yes or no
   pub no-group : reading 3 (0x20 ∷ 0 ∷ 3 ∷ 2 ∷ 1 ∷ 3 ∷ 0x21 ∷ 0 ∷ 4 ∷ 0 ∷ 0 ∷ 0 ∷ 2 ∷ []) ≡ Wrong
   pub no-task : reading 3 (0x20 ∷ 0 ∷ 3 ∷ 2 ∷ 1 ∷ 5 ∷ 0x21 ∷ 0 ∷ 4 ∷ 0 ∷ 0 ∷ 0 ∷ 3 ∷ 0x22 ∷ 0 ∷ 4 ∷ 0 ∷ 0 ∷ 0 ∷ 33 ∷ []) ≡ Wrong
+  pub no-yes : reading 3 (0x20 ∷ 0 ∷ 3 ∷ 1 ∷ 2 ∷ 6 ∷ 0x21 ∷ 0 ∷ 4 ∷ 0 ∷ 0 ∷ 0 ∷ 1 ∷ []) ≡ Wrong
   -- a field that the kind does not carry, and one twice
   pub group-too : reading 3 (0x20 ∷ 0 ∷ 3 ∷ 2 ∷ 1 ∷ 1 ∷ 0x21 ∷ 0 ∷ 4 ∷ 0 ∷ 0 ∷ 0 ∷ 1 ∷ 0x22 ∷ 0 ∷ 4 ∷ 0 ∷ 0 ∷ 0 ∷ 33 ∷ []) ≡ Wrong
+  pub group-in-reply : reading 3 (0x20 ∷ 0 ∷ 3 ∷ 1 ∷ 2 ∷ 6 ∷ 0x21 ∷ 0 ∷ 4 ∷ 0 ∷ 0 ∷ 0 ∷ 1 ∷ 0x22 ∷ 0 ∷ 4 ∷ 0 ∷ 0 ∷ 0 ∷ 33 ∷ []) ≡ Wrong
   pub twice : reading 3 (0x20 ∷ 0 ∷ 3 ∷ 1 ∷ 2 ∷ 6 ∷ 0x21 ∷ 0 ∷ 4 ∷ 0 ∷ 0 ∷ 0 ∷ 1 ∷ 0x24 ∷ 0 ∷ 1 ∷ 1 ∷ 0x24 ∷ 0 ∷ 1 ∷ 1 ∷ []) ≡ Wrong
   -- bytes behind
   pub behind : reading 3 (0x20 ∷ 0 ∷ 3 ∷ 2 ∷ 1 ∷ 1 ∷ 0x21 ∷ 0 ∷ 4 ∷ 0 ∷ 0 ∷ 0 ∷ 1 ∷ 0 ∷ []) ≡ Wrong
-  -- numbers out of range: a yes or no of 2, kinds 0 and 7, no call number, one too high, a node 4 of three, a group that is none, one of node 4, and a task of 99
+  -- numbers out of range: a yes or no of 2; kinds 0 and 7
   pub neither : reading 3 (0x20 ∷ 0 ∷ 3 ∷ 1 ∷ 2 ∷ 6 ∷ 0x21 ∷ 0 ∷ 4 ∷ 0 ∷ 0 ∷ 0 ∷ 1 ∷ 0x24 ∷ 0 ∷ 1 ∷ 2 ∷ []) ≡ Wrong
   pub kind-none : reading 3 (0x20 ∷ 0 ∷ 3 ∷ 2 ∷ 1 ∷ 0 ∷ 0x21 ∷ 0 ∷ 4 ∷ 0 ∷ 0 ∷ 0 ∷ 1 ∷ []) ≡ Wrong
   pub kind-seven : reading 3 (0x20 ∷ 0 ∷ 3 ∷ 2 ∷ 1 ∷ 7 ∷ 0x21 ∷ 0 ∷ 4 ∷ 0 ∷ 0 ∷ 0 ∷ 1 ∷ []) ≡ Wrong
+  -- no call number, and one above 16,777,215, which is the last
   pub call-none : reading 3 (0x20 ∷ 0 ∷ 3 ∷ 2 ∷ 1 ∷ 1 ∷ 0x21 ∷ 0 ∷ 4 ∷ 0 ∷ 0 ∷ 0 ∷ 0 ∷ []) ≡ Wrong
-  pub call-last : reading 3 (0x20 ∷ 0 ∷ 3 ∷ 2 ∷ 1 ∷ 1 ∷ 0x21 ∷ 0 ∷ 4 ∷ 0 ∷ 255 ∷ 255 ∷ 255 ∷ []) ≡ Got (asks 2 1 (record { number = 16777215 }))
   pub call-high : reading 3 (0x20 ∷ 0 ∷ 3 ∷ 2 ∷ 1 ∷ 1 ∷ 0x21 ∷ 0 ∷ 4 ∷ 1 ∷ 0 ∷ 0 ∷ 0 ∷ []) ≡ Wrong
-  pub node-four : reading 3 (0x20 ∷ 0 ∷ 3 ∷ 4 ∷ 1 ∷ 1 ∷ 0x21 ∷ 0 ∷ 4 ∷ 0 ∷ 0 ∷ 0 ∷ 1 ∷ []) ≡ Wrong
-  pub node-none : reading 3 (0x20 ∷ 0 ∷ 3 ∷ 2 ∷ 0 ∷ 1 ∷ 0x21 ∷ 0 ∷ 4 ∷ 0 ∷ 0 ∷ 0 ∷ 1 ∷ []) ≡ Wrong
-  pub group-none : reading 3 (0x20 ∷ 0 ∷ 3 ∷ 2 ∷ 1 ∷ 3 ∷ 0x21 ∷ 0 ∷ 4 ∷ 0 ∷ 0 ∷ 1 ∷ 2 ∷ 0x22 ∷ 0 ∷ 4 ∷ 0 ∷ 0 ∷ 0 ∷ 1 ∷ []) ≡ Wrong
-  pub group-four : reading 3 (0x20 ∷ 0 ∷ 3 ∷ 2 ∷ 1 ∷ 3 ∷ 0x21 ∷ 0 ∷ 4 ∷ 0 ∷ 0 ∷ 1 ∷ 2 ∷ 0x22 ∷ 0 ∷ 4 ∷ 0 ∷ 0 ∷ 0 ∷ 35 ∷ []) ≡ Wrong
+  -- a sender or receiver that is none of the three
+  pub sender-none : reading 3 (0x20 ∷ 0 ∷ 3 ∷ 0 ∷ 1 ∷ 1 ∷ 0x21 ∷ 0 ∷ 4 ∷ 0 ∷ 0 ∷ 0 ∷ 1 ∷ []) ≡ Wrong
+  pub sender-four : reading 3 (0x20 ∷ 0 ∷ 3 ∷ 4 ∷ 1 ∷ 1 ∷ 0x21 ∷ 0 ∷ 4 ∷ 0 ∷ 0 ∷ 0 ∷ 1 ∷ []) ≡ Wrong
+  pub receiver-none : reading 3 (0x20 ∷ 0 ∷ 3 ∷ 2 ∷ 0 ∷ 1 ∷ 0x21 ∷ 0 ∷ 4 ∷ 0 ∷ 0 ∷ 0 ∷ 1 ∷ []) ≡ Wrong
+  pub receiver-four : reading 3 (0x20 ∷ 0 ∷ 3 ∷ 2 ∷ 4 ∷ 1 ∷ 0x21 ∷ 0 ∷ 4 ∷ 0 ∷ 0 ∷ 0 ∷ 1 ∷ []) ≡ Wrong
+  -- group 0, one of counter 0, one of node 4, and one of counter 1,048,576
+  pub group-zero : reading 3 (0x20 ∷ 0 ∷ 3 ∷ 2 ∷ 1 ∷ 3 ∷ 0x21 ∷ 0 ∷ 4 ∷ 0 ∷ 0 ∷ 0 ∷ 1 ∷ 0x22 ∷ 0 ∷ 4 ∷ 0 ∷ 0 ∷ 0 ∷ 0 ∷ []) ≡ Wrong
+  pub group-low : reading 3 (0x20 ∷ 0 ∷ 3 ∷ 2 ∷ 1 ∷ 3 ∷ 0x21 ∷ 0 ∷ 4 ∷ 0 ∷ 0 ∷ 0 ∷ 1 ∷ 0x22 ∷ 0 ∷ 4 ∷ 0 ∷ 0 ∷ 0 ∷ 1 ∷ []) ≡ Wrong
+  pub group-four : reading 3 (0x20 ∷ 0 ∷ 3 ∷ 2 ∷ 1 ∷ 3 ∷ 0x21 ∷ 0 ∷ 4 ∷ 0 ∷ 0 ∷ 0 ∷ 1 ∷ 0x22 ∷ 0 ∷ 4 ∷ 0 ∷ 0 ∷ 0 ∷ 35 ∷ []) ≡ Wrong
+  pub group-high : reading 3 (0x20 ∷ 0 ∷ 3 ∷ 2 ∷ 1 ∷ 3 ∷ 0x21 ∷ 0 ∷ 4 ∷ 0 ∷ 0 ∷ 0 ∷ 1 ∷ 0x22 ∷ 0 ∷ 4 ∷ 1 ∷ 0 ∷ 0 ∷ 0 ∷ []) ≡ Wrong
+  -- a task of 99
   pub task-low : reading 3 (0x20 ∷ 0 ∷ 3 ∷ 2 ∷ 1 ∷ 5 ∷ 0x21 ∷ 0 ∷ 4 ∷ 0 ∷ 0 ∷ 0 ∷ 3 ∷ 0x22 ∷ 0 ∷ 4 ∷ 0 ∷ 0 ∷ 0 ∷ 33 ∷ 0x23 ∷ 0 ∷ 2 ∷ 0 ∷ 99 ∷ []) ≡ Wrong
+  -- the ends of these ranges pass
+  pub call-last : reading 3 (0x20 ∷ 0 ∷ 3 ∷ 2 ∷ 1 ∷ 1 ∷ 0x21 ∷ 0 ∷ 4 ∷ 0 ∷ 255 ∷ 255 ∷ 255 ∷ []) ≡ Got (asks 2 1 (record { number = 16777215 }))
+  pub group-last : reading 3 (0x20 ∷ 0 ∷ 3 ∷ 2 ∷ 1 ∷ 3 ∷ 0x21 ∷ 0 ∷ 4 ∷ 0 ∷ 0 ∷ 0 ∷ 1 ∷ 0x22 ∷ 0 ∷ 4 ∷ 0 ∷ 255 ∷ 255 ∷ 242 ∷ []) ≡ Got (calls 2 3 1 (record { number = 1 }) (record { number = 16777202 }))
+  pub task-first : reading 3 (0x20 ∷ 0 ∷ 3 ∷ 2 ∷ 1 ∷ 5 ∷ 0x21 ∷ 0 ∷ 4 ∷ 0 ∷ 0 ∷ 0 ∷ 3 ∷ 0x22 ∷ 0 ∷ 4 ∷ 0 ∷ 0 ∷ 0 ∷ 33 ∷ 0x23 ∷ 0 ∷ 2 ∷ 0 ∷ 100 ∷ []) ≡ Got (readies 2 1 (record { number = 3 }) (record { number = 33 }) (record { number = 100 }))
   -- the same sender and receiver
   pub to-itself : reading 3 (0x20 ∷ 0 ∷ 3 ∷ 2 ∷ 2 ∷ 1 ∷ 0x21 ∷ 0 ∷ 4 ∷ 0 ∷ 0 ∷ 0 ∷ 1 ∷ []) ≡ Wrong

@@ -1,7 +1,7 @@
 -- Too little room, no event, or the step's outcome in bytes.
 use borrow.Author.Needs.{needs}
 use mathlib.Core.Path.{sym, _∙_}
-use Rattle.exports_controller.proofs.Promises.{event-short, no-event, event-told}
+use Rattle.exports_controller.proofs.Promises.{event-short, no-event, event-stepped}
 use Rattle.exports_controller.proofs.nevraspu_controller_event.Statement.{statement}
 use Rattle.exports_controller.proofs.nevraspu_controller_event.Tie as tie
 
@@ -18,7 +18,7 @@ returns-3 c =
     let d = t .before in
     let m = d .before .before in
     let v = m .before .before in
-    event-told _ _ _ _ _ (v .before .if1 .left) (sym (v .event-in .ensures) ∙ m .event .given .1) (t .told-event .result) (rw (d .node-of .ensures) at (t .told-event .ensures)) _ _ (a .answered .ensures)
+    event-stepped _ _ _ _ _ (v .before .if1 .left) (sym (v .event-in .ensures) ∙ m .event .given .1) (t .on-event .result) (rw (d .node-of .ensures) at (t .on-event .ensures)) _ _ (a .answered .ensures)
 
 pub nevraspu-controller-event-spec : {M : Type 1} → statement M
 nevraspu-controller-event-spec =

@@ -1,6 +1,6 @@
 -- Too little room, or the step's outcome in bytes.
 use borrow.Author.Needs.{needs}
-use Rattle.exports_controller.proofs.Promises.{message-short, message-told}
+use Rattle.exports_controller.proofs.Promises.{message-short, message-stepped}
 use Rattle.exports_controller.proofs.nevraspu_controller_message.Statement.{statement}
 use Rattle.exports_controller.proofs.nevraspu_controller_message.Tie as tie
 
@@ -9,7 +9,7 @@ returns-2 c =
     let a = c .before .before in
     let t = a .before .before in
     let d = t .before in
-    message-told _ _ _ _ _ (d .before .if1 .left) (t .told-message .result) (rw (d .node-of .ensures) at (t .told-message .ensures)) _ _ (a .answered .ensures)
+    message-stepped _ _ _ _ _ (d .before .if1 .left) (t .on-message .result) (rw (d .node-of .ensures) at (t .on-message .ensures)) _ _ (a .answered .ensures)
 
 pub nevraspu-controller-message-spec : {M : Type 1} → statement M
 nevraspu-controller-message-spec =

@@ -4,8 +4,8 @@ use mathlib.Core.Path.{refl, sym, _∙_}
 use borrow.Author.Tests.{not-true, not-false}
 use Rattle.model.proofs.Answers.{accepted-zero}
 use Rattle.controller.proofs.Steps.{out-of-range, fits, wrong-numbers, other-event, own-event, event-fits, shows, some-number}
-use Rattle.controller.proofs.told_event.Statement.{statement}
-use Rattle.controller.proofs.told_event.Tie as tie
+use Rattle.controller.proofs.on_event.Statement.{statement}
+use Rattle.controller.proofs.on_event.Tie as tie
 
 returns : tie.Need-returns
 returns c =
@@ -59,8 +59,8 @@ returns-4 c =
     let clear = sym h ∙ accepted-zero (a .result) (sym (t .is-accepted .ensures) ∙ not-false (t .is-accepted .result) (o .before .if2 .left)) in
     shows (own-event (s .n) (s .own) (s .node) (s .e) ok clear (sym (o .node-of .ensures) ∙ n .before .if3 .left)) (rw (← w .as-event .ensures, ← n .input-of .ensures) (c .act .ensures))
 
-pub told-event-spec : {M : Type 1} → statement M
-told-event-spec =
+pub on-event-spec : {M : Type 1} → statement M
+on-event-spec =
     tie.close
     (tie.spec
     (λ c κs. search needs)

@@ -5,8 +5,8 @@ use borrow.Author.Tests.{not-true, not-false}
 use Rattle.node_step.proofs.InRange.{message-fits}
 use Rattle.message_fields.proofs.RoundTrip.{one-form, got-is, wrong-is}
 use Rattle.controller.proofs.Steps.{out-of-range, small, fits, wrong-bytes, good-bytes, shows}
-use Rattle.controller.proofs.told_message.Statement.{statement}
-use Rattle.controller.proofs.told_message.Tie as tie
+use Rattle.controller.proofs.on_message.Statement.{statement}
+use Rattle.controller.proofs.on_message.Tie as tie
 
 returns : tie.Need-returns
 returns c =
@@ -41,8 +41,8 @@ returns-3 c =
     let g = got-is (s .n) _ _ (sym (d .decode .ensures) ∙ c .before .before .m .given .1) in
     shows (good-bytes (s .n) (s .own) (s .node) _ ok (g .0)) (rw (g .1) (c .received .ensures))
 
-pub told-message-spec : {M : Type 1} → statement M
-told-message-spec =
+pub on-message-spec : {M : Type 1} → statement M
+on-message-spec =
     tie.close
     (tie.spec
     (λ c κs. search needs)
