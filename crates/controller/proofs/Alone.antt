@@ -35,10 +35,10 @@ use Rattle.controller.specs.Controller.{Incoming, event, message, asEven
 use Rattle.controller.specs.Claims.{ControllerRefuses, ControllerStaysInRange}
 
 -- ── results ──
-apart : {d : Node} {l : List ℕ} {r : ℕ} → accepted d l ≡ refused r → ⊥
+pub apart : {d : Node} {l : List ℕ} {r : ℕ} → accepted d l ≡ refused r → ⊥
 apart q = let z : _≡_ {A = ℕ} 0 1 = cc in omega arith
 
-refused-same : (a b : ℕ) → refused a ≡ refused b → a ≡ b
+pub refused-same : (a b : ℕ) → refused a ≡ refused b → a ≡ b
 refused-same a b q = cc
 
 accepted-same : {c d : Node} {k l : List ℕ} → accepted c k ≡ accepted d l → (c ≡ d) × (k ≡ l)

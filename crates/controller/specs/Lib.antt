@@ -4,3 +4,5 @@ pub mod Stepped
 pub mod Parts
 pub mod Network
 pub mod Claims
+pub mod Cases
+pub mod Mutants

@@ -1,7 +1,7 @@
 -- Laws of the answers' numbers: 0 is that of Accepted, and of no other.
 use Prim.Native.Nat.{_≤_}
 use native.Mathlib.Omega.{arith}
-use mathlib.Core.Path.{_≡_, refl, sym}
+use mathlib.Core.Path.{_≡_, refl, sym, _∙_}
 use mathlib.Core.Bool.{true, false, true≢false}
 use lib.Dec.{eqb}
 use Rattle.model.specs.Answers.{answerNumber, isAccepted}
@@ -59,3 +59,23 @@ refused-some CounterAtEnd q = omega arith
 refused-some CallsAtEnd q = omega arith
 refused-some QueueFull q = omega arith
 refused-some SentAtEnd q = omega arith
+
+pub zero-is : (a : Answer) → answerNumber a ≡ 0 → a ≡ Accepted
+zero-is a h = only a (sym (zero-accepted a) ∙ rw h)
+  where
+    only : (b : Answer) → isAccepted b ≡ true → b ≡ Accepted
+    only Accepted q = refl
+    only NotInRange q = absurd (true≢false (sym q))
+    only WrongNumber q = absurd (true≢false (sym q))
+    only WrongTask q = absurd (true≢false (sym q))
+    only WrongMessage q = absurd (true≢false (sym q))
+    only OtherNode q = absurd (true≢false (sym q))
+    only WrongStatus q = absurd (true≢false (sym q))
+    only WrongActivity q = absurd (true≢false (sym q))
+    only NotCoordinator q = absurd (true≢false (sym q))
+    only NoMajority q = absurd (true≢false (sym q))
+    only NoMessage q = absurd (true≢false (sym q))
+    only CounterAtEnd q = absurd (true≢false (sym q))
+    only CallsAtEnd q = absurd (true≢false (sym q))
+    only QueueFull q = absurd (true≢false (sym q))
+    only SentAtEnd q = absurd (true≢false (sym q))
