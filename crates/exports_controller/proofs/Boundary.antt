@@ -1,27 +1,31 @@
 -- What is claimed of the controller on bytes.
 use Prim.Native.Nat.{ℕ, _≤_, _<_}
 use native.Mathlib.Omega.{arith}
-use mathlib.Core.Bool.{false}
+use mathlib.Core.Bool.{true, false}
 use mathlib.Core.Path.{_≡_, refl, _∙_, ap}
 use mathlib.Core.List.{List, [], _∷_, _++_}
-use lib.ListN.{length, drop}
+use lib.ListN.{length, drop, replicate}
 use Rattle.model.specs.Pick.{pick}
+use Rattle.model.specs.Grounds.{first}
+use Rattle.model.specs.State.{startingNode}
+use Rattle.model.specs.Step.{actor, wrongNumber, wrongTask}
 use Rattle.model.specs.declared.Node.{Node}
-use Rattle.event_list.specs.Format.{cutShort, checked}
+use Rattle.event_list.specs.Format.{stopNumber, between, tagAt, lengthOf, eventOf, cutShort, checked}
 use Rattle.event_list.specs.declared.Stop.{Stop}
 use Rattle.event_list.specs.declared.Stop.the-variants.{TooLong, CutShort, WrongTag, WrongLength, WrongCount}
 use Rattle.number_bytes.proofs.Lent.{short-in, long-in, only-short-in, keeps-in, behind-in}
-use Rattle.table_bytes.specs.Bytes.{nodeOf}
-use Rattle.message_fields.specs.Fields.{mostBytes}
+use Rattle.number_bytes.specs.Bytes.{number, statusOf}
+use Rattle.table_bytes.specs.Bytes.{activityOf, nodeOf}
+use Rattle.message_fields.specs.Fields.{mostBytes, messageIn}
 use Rattle.controller.specs.declared.LocalEvent.{LocalEvent}
-use Rattle.controller.specs.Controller.{event, message, inRangeFor, Result, controllerStep, resultNumber, nodeAfter, sentIn}
-use Rattle.controller.proofs.Steps.{out-of-range, wrong-bytes}
+use Rattle.controller.specs.Controller.{event, message, asEvent, inRangeFor, Result, controllerStep, resultNumber, nodeAfter, sentIn}
+use Rattle.controller.proofs.Steps.{out-of-range, other-event, wrong-bytes, good-bytes, other-message}
 use Rattle.controller.proofs.Alone.{controller-small, sent-short}
 use Rattle.exports_controller.specs.declared.FieldRead.{FieldRead}
 use Rattle.exports_controller.specs.declared.FieldRead.the-variants.{Stopped, Got}
 use Rattle.exports_controller.specs.Field.{eventIn}
 use Rattle.exports_controller.specs.Boundary.{outcomeSize, outcomeBytes, fieldStep, eventNumber, eventBytes, messageNumber, messageBytes, ControllerEventClaims, ControllerMessageClaims}
-use Rattle.exports_controller.proofs.Reading.{field-grounds, field-alone}
+use Rattle.exports_controller.proofs.Reading.{field-grounds, field-alone, queue-tag}
 use Rattle.exports_controller.proofs.Outcomes.{given-long}
 
 -- ── nevraspu_controller_event ──
@@ -70,8 +74,15 @@ module _ (n i : ℕ) (r f b : List ℕ) where
   by-field : (x : FieldRead) → outcomeSize ≤ length b → eventIn f ≡ x → eventNumber n i r f b ≡ resultNumber (fieldStep n i (nodeOf r) x)
   by-field x h q = long h ∙ ap (λ (y : FieldRead). resultNumber (fieldStep n i (nodeOf r) y)) q
 
-  no-event : (s : Stop) → outcomeSize ≤ length b → eventIn f ≡ Stopped s → (3 ≤ eventNumber n i r f b) × (eventNumber n i r f b ≤ 5)
-  no-event s h q = rw (by-field (Stopped s) h q) (field-grounds f s q)
+  no-event : (s : Stop) → outcomeSize ≤ length b → eventIn f ≡ Stopped s → eventNumber n i r f b ≡ stopNumber s
+  no-event s h q = by-field (Stopped s) h q
+
+  queue-events : outcomeSize ≤ length b → cutShort f 0 ≡ false → between 0x17 0x18 (tagAt f 0) ≡ true → eventNumber n i r f b ≡ 4
+  queue-events h w t = by-field (Stopped WrongTag) h (queue-tag f w t)
+
+  other-node : (e : LocalEvent) → outcomeSize ≤ length b → eventIn f ≡ Got e → inRangeFor n i (nodeOf r) ≡ true → wrongNumber n (asEvent e) ≡ false → wrongTask (asEvent e) ≡ false → (actor (asEvent e) ≡ i → ⊥) → eventNumber n i r f b ≡ 21
+  unfolding first pick
+  other-node e h q ok a t o = by-field (Got e) h q ∙ ap resultNumber (other-event n i (nodeOf r) e ok (rw (a, t)) o)
 
   not-in-range : (e : LocalEvent) → outcomeSize ≤ length b → eventIn f ≡ Got e → inRangeFor n i (nodeOf r) ≡ false → eventNumber n i r f b ≡ 1
   not-in-range e h q away = by-field (Got e) h q ∙ ap resultNumber (out-of-range n i (nodeOf r) (event e) away)
@@ -85,8 +96,12 @@ module _ (n i : ℕ) (r f g b : List ℕ) (h : cutShort f 0 ≡ false) where
   unfolding eventBytes
   same-bytes = rw (same-number, field-alone f g h)
 
+starts : nodeOf (replicate 29 0) ≡ startingNode
+unfolding number statusOf activityOf nodeOf pick
+starts = refl
+
 pub controller-event-claims : ControllerEventClaims
-unfolding eventIn checked cutShort pick
+unfolding lengthOf eventOf eventIn checked cutShort pick
 controller-event-claims =
     record {
       short = short;
@@ -95,9 +110,17 @@ controller-event-claims =
       behind = behind;
       empty = λ n i r b h. by-field n i r [] b (Stopped CutShort) h refl;
       no-event = no-event;
-      deliver = λ n i x y r b h. by-field n i r (0x17 ∷ 0 ∷ 2 ∷ x ∷ y ∷ []) b (Stopped WrongTag) h refl;
-      lose = λ n i x y r b h. by-field n i r (0x18 ∷ 0 ∷ 2 ∷ x ∷ y ∷ []) b (Stopped WrongTag) h refl;
-      deliver-short = λ n i x r b h. by-field n i r (0x17 ∷ 0 ∷ 1 ∷ x ∷ []) b (Stopped WrongTag) h refl;
+      field-grounds = field-grounds;
+      queue-events = queue-events;
+      crash = λ i. refl;
+      recover = λ i. refl;
+      check = λ i. refl;
+      timeout = λ i. refl;
+      tick = λ i. refl;
+      expire = λ i. refl;
+      finish = λ i high low. refl;
+      starts = starts;
+      other-node = other-node;
       not-in-range = not-in-range;
       first-alone = λ n i r f g b h. (same-number n i r f g b h, same-bytes n i r f g b h);
     }
@@ -122,4 +145,5 @@ controller-message-claims =
       behind = λ n i r l b. behind-in outcomeSize b (messageNumber n i r l b) (outcomeBytes (nodeOf r) (step n i r l b)) (λ _. given-long (nodeAfter (nodeOf r) (step n i r l b)) (sentIn (step n i r l b)) (sent-short n i (nodeOf r) (message l)));
       not-in-range = λ n i r l b h away. message-long n i r l b h ∙ ap resultNumber (out-of-range n i (nodeOf r) (message l) away);
       no-message = λ n i r l b h ok wrong. message-long n i r l b h ∙ ap resultNumber (wrong-bytes n i (nodeOf r) l ok wrong);
+      other-node = λ n i r l b h ok m o. message-long n i r l b h ∙ ap resultNumber (good-bytes n i (nodeOf r) l ok m ∙ other-message n i (nodeOf r) (messageIn l) o);
     }

@@ -5,11 +5,13 @@ use mathlib.Core.Bool.{Bool, true, false}
 use mathlib.Core.Path.{_≡_, refl}
 use mathlib.Core.List.{List, _++_}
 use lib.ListN.{length}
-use borrow.Author.Tests.{le-leb, lt-leb}
+use lib.Dec.{leb}
+use borrow.Author.Tests.{le-leb, lt-leb, leb-true}
 use Rattle.model.specs.Pick.{pick, pick-false, by-test}
+use Rattle.model.proofs.Local.{both-left}
 use Rattle.model.specs.declared.Event.{Event}
 use Rattle.model.specs.declared.Event.the-variants.{Crash, Recover, Check, Timeout, Tick, Expire, Finish, Deliver, Lose}
-use Rattle.event_list.specs.Format.{stopNumber, tagAt, contentsAt, lengthOf, cutShort, checked, eventOf, nextAt}
+use Rattle.event_list.specs.Format.{stopNumber, between, tagAt, contentsAt, lengthOf, cutShort, checked, eventOf, nextAt}
 use Rattle.event_list.specs.declared.Stop.{Stop}
 use Rattle.event_list.specs.declared.Stop.the-variants.{CutShort, WrongTag, WrongLength}
 use Rattle.event_list.specs.declared.Next.the-variants as Next
@@ -73,3 +75,10 @@ field-grounds f s e = rw e at (bad-in f)
 pub field-alone : (f g : List ℕ) → cutShort f 0 ≡ false → eventIn (f ++ g) ≡ eventIn f
 unfolding eventIn
 field-alone f g h = checked-alone localTag lengthOf Stopped (λ t c _. localOf (eventOf t c)) f g h
+
+-- deliver and lose are no events of a controller, whatever the length is
+pub queue-tag : (f : List ℕ) → cutShort f 0 ≡ false → between 0x17 0x18 (tagAt f 0) ≡ true → eventIn f ≡ Stopped WrongTag
+unfolding eventIn checked pick
+queue-tag f w t =
+    let k = leb-true 0x17 (tagAt f 0) (both-left (leb 0x17 (tagAt f 0)) (leb (tagAt f 0) 0x18) t) in
+    rw (w, not-between 0x10 0x16 (tagAt f 0) (λ low high. omega (arith, k, high)))
