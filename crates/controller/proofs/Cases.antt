@@ -1,6 +1,5 @@
 -- The single steps and the story, computed over the definitions.
 use mathlib.Core.Path.{refl}
-use lib.Bits.{bitAnd, bitOr}
 use lib.Count.{onesIn, ones, leadingZeros}
 use Rattle.model.specs.Pick.{pick}
 use Rattle.model.specs.Grounds.{judged}
@@ -14,7 +13,7 @@ use Rattle.controller.specs.Network.{waitsIn, oldestIn, withoutIn, stepB
 use Rattle.controller.specs.Cases.{ControllerCases}
 
 pub controller-cases : ControllerCases
-unfolding number bytes onesIn ones leadingZeros bitAnd bitOr pick judged inviteNext merges handNext finishes forwardNext askedAll askAt askAfter checked timedOut ticked expired resumed onAreYouCoordinator onAreYouThere onInvitation onAccept onReady onReply received react activityInRange nodeInRange messageInRange fields messageIn sameBytes isMessage reactionIn controllerGrounds controllerStep waitsIn oldestIn withoutIn stepBy runBy
+unfolding number bytes onesIn ones leadingZeros pick judged inviteNext merges handNext finishes forwardNext askedAll askAt askAfter checked timedOut ticked expired resumed onAreYouCoordinator onAreYouThere onInvitation onAccept onReady onReply received react activityInRange nodeInRange messageInRange fields messageIn sameBytes isMessage reactionIn controllerGrounds controllerStep waitsIn oldestIn withoutIn stepBy runBy
 controller-cases =
     record {
       n-none = refl;
