@@ -14,6 +14,7 @@ use crate::machine::{
 use crate::majority_corners::{FinishBefore, MajorityCorners};
 use crate::proved::tag;
 use crate::recovery_corners::{Call, RecoveryCorners};
+use crate::tally::Book;
 use crate::traffic_corners::{TrafficBefore, TrafficCorners};
 use std::fmt::Write;
 
@@ -612,9 +613,10 @@ impl Corners {
         corners.extend(self.limits.corners());
         corners
     }
+}
 
-    /// What was met though the papers have no place for it.
-    pub fn impossible(&self) -> Vec<String> {
+impl Book for Corners {
+    fn impossible(&self) -> Vec<String> {
         let mut found = Vec::new();
         let met = |count: Count| count != [0, 0];
         for (event, name) in EVENTS.iter().enumerate() {
@@ -644,13 +646,12 @@ impl Corners {
         found
     }
 
-    /// The counts in lines.
-    pub fn text(&self) -> String {
+    fn text(&self) -> String {
         counts_text(&self.corners())
     }
 
-    /// The corners that were met less often than so many times, in runs and tables together.
-    pub fn seldom(&self, times: u64) -> Vec<String> {
+    /// In runs and tables together.
+    fn seldom(&self, times: u64) -> Vec<String> {
         let corners = self.corners().into_iter();
         let seldom = corners.filter(|(_, [runs, tables])| runs + tables < times);
         seldom.map(|(name, [runs, tables])| format!("{name}: {}", runs + tables)).collect()

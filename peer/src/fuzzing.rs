@@ -11,53 +11,18 @@ use crate::drive::{
     any_event, any_manner, any_node, full_queue, member, pick, run, run_with_full_peals,
     run_with_wrong_checks, Ready,
 };
+use crate::fuzz_loop::{Fuzzer, Outcome};
 use crate::limit_corners::BROKEN as BROKEN_LIMITS;
 use crate::limit_tables::{any_limits, to_break, to_fill, wrong_pair};
 use crate::list::{first_event, read_list, write_event, write_list, MAX_LIST};
 use crate::machine::{advance, step, Event, Limits, Table};
 use crate::numbers::Numbers;
 use crate::print::run_list;
-use crate::proved::{Library, Proved, RECORDS_BYTES, TABLE_BYTES};
+use crate::proved::{Library, RECORDS_BYTES, TABLE_BYTES};
 use crate::tables::{in_range, move_to_ends, scramble, spoil, to_check, to_finish, to_recover};
+use crate::tally::Book;
 use crate::traffic_corners::BROKEN;
 use crate::traffic_tables::{break_counts, raise_to_calls, to_send, to_take_last};
-use std::time::{Duration, Instant};
-
-/// After so many differences it ends.
-pub const ENOUGH: u64 = 5;
-
-const SEED: u64 = 20_260;
-
-/// What each fuzzing program does: `fuzz` is given the library, the seed, the time, and how often each corner must be
-/// met, and gives how many comparisons passed and how many failed. With fewer seconds than `enough` no corner must.
-pub fn fuzzed(
-    program: &str,
-    enough: u64,
-    fuzz: impl FnOnce(Proved, u64, Duration, u64) -> (u64, u64),
-) -> Result<(u64, u64), String> {
-    let (seconds, seed) = seconds_and_seed(program)?;
-    let library = Proved::linked()?;
-    println!("seed {seed}");
-    let least = if seconds < enough { 0 } else { 1000 };
-    Ok(fuzz(library, seed, Duration::from_secs(seconds), least))
-}
-
-/// What a program is given that goes on for so long: SECONDS [SEED].
-fn seconds_and_seed(program: &str) -> Result<(u64, u64), String> {
-    let arguments: Vec<String> = std::env::args().skip(1).collect();
-    let numbers: Option<Vec<u64>> = arguments.iter().map(|word| word.parse().ok()).collect();
-    match numbers.as_deref() {
-        Some(&[seconds]) => Ok((seconds, SEED)),
-        Some(&[seconds, seed]) => Ok((seconds, seed)),
-        _ => Err(format!("{program} SECONDS [SEED]")),
-    }
-}
-
-/// Whether a fuzzer goes on: for the time asked, and then while it has met a corner too seldom, for no longer
-/// than four times the time asked in all.
-pub fn goes_on(asked: Duration, passed: Duration, too_seldom: impl FnOnce() -> bool) -> bool {
-    passed < asked || (passed < 4 * asked && too_seldom())
-}
 
 pub struct Fuzz<L> {
     library: L,
@@ -71,9 +36,7 @@ pub struct Fuzz<L> {
     table_events: u64,
     fields: u64,
     recoveries: u64,
-    passed: u64,
-    failed: u64,
-    seconds: f64,
+    outcome: Outcome,
 }
 
 impl<L: Library> Fuzz<L> {
@@ -90,111 +53,92 @@ impl<L: Library> Fuzz<L> {
             table_events: 0,
             fields: 0,
             recoveries: 0,
-            passed: 0,
-            failed: 0,
-            seconds: 0.0,
+            outcome: Outcome::default(),
+        }
+    }
+}
+
+impl<L: Library> Fuzzer for Fuzz<L> {
+    fn part(&mut self) {
+        self.run();
+        for _ in 0..200 {
+            self.table();
+        }
+        for _ in 0..220 {
+            self.sends();
+        }
+        for _ in 0..60 {
+            self.broken_counts();
+        }
+        for _ in 0..20 {
+            self.within_calls();
+        }
+        for _ in 0..8 {
+            let (table, event) = to_take_last(&mut self.numbers);
+            self.walk(&table, &[event]);
+        }
+        for _ in 0..4 {
+            self.list_with_checks();
+        }
+        for _ in 0..205 {
+            let (table, event) = to_fill(&mut self.numbers);
+            self.walk(&table, &[event]);
+        }
+        for _ in 0..40 {
+            self.broken_limits();
+        }
+        for _ in 0..66 {
+            self.limits_first();
+        }
+        for _ in 0..3 {
+            self.full_queue();
+        }
+        for _ in 0..150 {
+            let (table, event) = to_check(&mut self.numbers);
+            self.walk(&table, &[event]);
+        }
+        for _ in 0..160 {
+            let (table, events) = to_finish(&mut self.numbers);
+            self.walk(&table, &events);
+        }
+        for _ in 0..3 {
+            self.full_peals();
+        }
+        for _ in 0..10 {
+            self.field();
+        }
+        for _ in 0..118 {
+            let (table, i) = to_recover(&mut self.numbers);
+            self.recovery(Source::Table, &table, i);
         }
     }
 
-    /// Compares for so long, and longer while a corner was met less often than so many times (`goes_on`), or
-    /// until there are enough differences, which it prints.
-    pub fn go_on(&mut self, time: Duration, least: u64) {
-        let start = Instant::now();
-        let mut told = 0;
-        while self.failed < ENOUGH
-            && goes_on(time, start.elapsed(), || !self.corners.seldom(least).is_empty())
-        {
-            self.run();
-            for _ in 0..200 {
-                self.table();
-            }
-            for _ in 0..220 {
-                self.sends();
-            }
-            for _ in 0..60 {
-                self.broken_counts();
-            }
-            for _ in 0..20 {
-                self.within_calls();
-            }
-            for _ in 0..8 {
-                let (table, event) = to_take_last(&mut self.numbers);
-                self.walk(&table, &[event]);
-            }
-            for _ in 0..4 {
-                self.list_with_checks();
-            }
-            for _ in 0..205 {
-                let (table, event) = to_fill(&mut self.numbers);
-                self.walk(&table, &[event]);
-            }
-            for _ in 0..40 {
-                self.broken_limits();
-            }
-            for _ in 0..66 {
-                self.limits_first();
-            }
-            for _ in 0..3 {
-                self.full_queue();
-            }
-            for _ in 0..150 {
-                let (table, event) = to_check(&mut self.numbers);
-                self.walk(&table, &[event]);
-            }
-            for _ in 0..160 {
-                let (table, events) = to_finish(&mut self.numbers);
-                self.walk(&table, &events);
-            }
-            for _ in 0..3 {
-                self.full_peals();
-            }
-            for _ in 0..10 {
-                self.field();
-            }
-            for _ in 0..118 {
-                let (table, i) = to_recover(&mut self.numbers);
-                self.recovery(Source::Table, &table, i);
-            }
-            let seconds = start.elapsed().as_secs();
-            if seconds / 30 > told {
-                told = seconds / 30;
-                let events = self.run_events + self.list_events + self.table_events;
-                eprintln!("{seconds} s, {events} events, {} differences", self.failed);
-            }
-        }
-        self.seconds = start.elapsed().as_secs_f64();
+    fn outcome(&mut self) -> &mut Outcome {
+        &mut self.outcome
     }
 
-    /// Prints the counts and gives how many comparisons passed and how many failed. What was met less often
-    /// than so many times is a failure too.
-    pub fn tell(&mut self, least: u64) -> (u64, u64) {
-        print!("{}", self.corners.text());
-        for words in self.corners.impossible() {
-            self.failed += 1;
-            println!("the papers have no place for this: {words}");
-        }
-        for words in self.corners.seldom(least) {
-            self.failed += 1;
-            println!("met fewer than {least} times: {words}");
-        }
-        let events = self.run_events + self.list_events + self.table_events;
+    fn book(&self) -> &dyn Book {
+        &self.corners
+    }
+
+    fn compared(&self) -> (u64, &'static str) {
+        (self.run_events + self.list_events + self.table_events, "events")
+    }
+
+    fn tell_kinds(&mut self) {
         println!("runs: {}, {} events", self.runs, self.run_events);
         println!("lists printed and folded: {}, {} events", self.lists, self.list_events);
         println!("tables: {}, {} events; fields: {}", self.tables, self.table_events, self.fields);
         println!("recoveries: {}", self.recoveries);
-        println!(
-            "{events} events in {:.1} s, {:.0} a second",
-            self.seconds,
-            events as f64 / self.seconds
-        );
-        (self.passed, self.failed)
     }
 
-    fn difference(&mut self, words: String) {
-        self.failed += 1;
-        println!("difference {}: {words}", self.failed);
+    fn under_way(&self, seconds: u64) {
+        let (events, _) = self.compared();
+        eprintln!("{seconds} s, {events} events, {} differences", self.outcome.failed);
     }
+}
 
+impl<L: Library> Fuzz<L> {
     /// A run, event by event; its list, printed; and lists that damage makes of it.
     fn run(&mut self) {
         // Half of the tower's are small, where groups form and meet sooner.
@@ -234,19 +178,19 @@ impl<L: Library> Fuzz<L> {
 
     /// The events of a run, one after another; whether there is no difference.
     fn each_event(&mut self, n: u8, limits: Limits, events: &[Event]) -> bool {
-        if self.failed >= ENOUGH {
+        if self.outcome.enough() {
             return false;
         }
         self.runs += 1;
         self.run_events += events.len() as u64;
         let found = run_difference(&self.library, n, limits, events, Some(&mut self.corners));
         if let Some(found) = found {
-            self.passed += found.events as u64 - 1;
+            self.outcome.passed += found.events as u64 - 1;
             let words = tell_run(&self.library, n, limits, events);
-            self.difference(words);
+            self.outcome.difference(words);
             return false;
         }
-        self.passed += events.len() as u64;
+        self.outcome.passed += events.len() as u64;
         true
     }
 
@@ -276,7 +220,7 @@ impl<L: Library> Fuzz<L> {
 
     /// The records of a recovery, into a buffer that is long enough, or just so, or too short.
     fn recovery(&mut self, source: Source, table: &Table, i: u8) {
-        if self.failed >= ENOUGH {
+        if self.outcome.enough() {
             return;
         }
         let room = match self.numbers.below(16) {
@@ -291,21 +235,21 @@ impl<L: Library> Fuzz<L> {
         let corners = Some((&mut self.corners, source));
         if recovery_difference(&self.library, table, i, room, noise, corners).is_some() {
             let words = tell_recovery(&self.library, table, i, room, noise);
-            return self.difference(words);
+            return self.outcome.difference(words);
         }
-        self.passed += 1;
+        self.outcome.passed += 1;
     }
 
     /// A list of any bytes, printed and folded.
     fn list(&mut self, list: &[u8]) {
-        if self.failed >= ENOUGH {
+        if self.outcome.enough() {
             return;
         }
         self.lists += 1;
         let text = run_list(list);
         if text_and_fold_difference(&self.library, list, &text).is_some() {
             let words = tell_list(list, |list| list_difference(&self.library, list));
-            return self.difference(words);
+            return self.outcome.difference(words);
         }
         self.corners.fields(list, &text);
         match read_list(list) {
@@ -318,7 +262,7 @@ impl<L: Library> Fuzz<L> {
                 self.corners.printed(&list, &text);
             }
         }
-        self.passed += 1;
+        self.outcome.passed += 1;
     }
 
     /// Refusal 15: buffers too small for the text of a short list, and one that is just right.
@@ -340,9 +284,9 @@ impl<L: Library> Fuzz<L> {
                 let words = tell_list(list, |list| {
                     printed_difference(&self.library, list, &run_list(list), room)
                 });
-                return self.difference(words);
+                return self.outcome.difference(words);
             }
-            self.passed += 1;
+            self.outcome.passed += 1;
         }
     }
 
@@ -497,7 +441,7 @@ impl<L: Library> Fuzz<L> {
 
     /// Events on a table, one after another; whether there is no difference.
     fn walk(&mut self, table: &Table, events: &[Event]) -> bool {
-        if self.failed >= ENOUGH {
+        if self.outcome.enough() {
             return false;
         }
         // In most cases random bytes stand in what is no part of the tables.
@@ -507,12 +451,12 @@ impl<L: Library> Fuzz<L> {
         self.table_events += events.len() as u64;
         let found = walk_difference(&self.library, table, events, noise, Some(&mut self.corners));
         if let Some(found) = found {
-            self.passed += found.events as u64 - 1;
+            self.outcome.passed += found.events as u64 - 1;
             let words = tell_walk(&self.library, table, events, noise);
-            self.difference(words);
+            self.outcome.difference(words);
             return false;
         }
-        self.passed += events.len() as u64;
+        self.outcome.passed += events.len() as u64;
         true
     }
 
@@ -566,9 +510,9 @@ impl<L: Library> Fuzz<L> {
         };
         let noise = self.numbers.bits();
         if let Some(words) = field_difference(&self.library, &table, &field, room, noise) {
-            return self.difference(words);
+            return self.outcome.difference(words);
         }
-        self.passed += 1;
+        self.outcome.passed += 1;
         match first_event(&field) {
             _ if room < TABLE_BYTES => {}
             Err(number) => {

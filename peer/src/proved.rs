@@ -163,6 +163,10 @@ mod linked {
 /// had then.
 #[cfg(not(proved))]
 mod linked {
+    // Functions of the same form.
+    pub use nevraspu_controller_event as nevraspu_controller_message;
+    pub use nevraspu_step as nevraspu_bully_step;
+
     pub unsafe fn nevraspu_print(_: *const u8, _: usize, _: *mut u8, _: usize) -> u64 {
         unreachable!()
     }
@@ -182,34 +186,11 @@ mod linked {
     pub unsafe fn nevraspu_recovery(_: *const u8, _: usize, _: u8, _: *mut u8, _: usize) -> u8 {
         unreachable!()
     }
-    pub unsafe fn nevraspu_bully_step(
-        _: *const u8,
-        _: usize,
-        _: *const u8,
-        _: usize,
-        _: *mut u8,
-        _: usize,
-    ) -> u8 {
-        unreachable!()
-    }
     pub unsafe fn nevraspu_turn(_: *const u8, _: usize, _: u8, _: u8, _: *mut u8, _: usize) -> u8 {
         unreachable!()
     }
     #[allow(clippy::too_many_arguments)]
     pub unsafe fn nevraspu_controller_event(
-        _: u8,
-        _: u8,
-        _: *const u8,
-        _: usize,
-        _: *const u8,
-        _: usize,
-        _: *mut u8,
-        _: usize,
-    ) -> u8 {
-        unreachable!()
-    }
-    #[allow(clippy::too_many_arguments)]
-    pub unsafe fn nevraspu_controller_message(
         _: u8,
         _: u8,
         _: *const u8,

@@ -8,6 +8,7 @@ use functions::Functions;
 use other_forms::in_another_form;
 use peer::compare::{field_difference, printed_difference, walk_difference, Lent};
 use peer::drive::any_event;
+use peer::fuzz_loop::Fuzzer;
 use peer::list::{first_event, write_event, write_list};
 use peer::machine::*;
 use peer::numbers::Numbers;

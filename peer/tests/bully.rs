@@ -411,5 +411,5 @@ fn every_table_of_three_nodes() {
         }
         assert_eq!(seen.len(), tables);
     }
-    assert_eq!(corners.impossible(), [""; 0]);
+    assert_eq!(corners.book().impossible(), [""; 0]);
 }

@@ -13,7 +13,7 @@ use peer::numbers::Numbers;
 fn told(source: Source, before: &Table, event: &Event, answer: u8, after: &Table) -> Vec<String> {
     let mut corners = Corners::default();
     corners.event(source, before, event, answer, after);
-    corners.impossible()
+    corners.book().impossible()
 }
 
 /// Another record, in one thing.
@@ -92,7 +92,7 @@ fn a_broken_rule_must_be_refused_1() {
     for answer in [0, 1, 7, 9] {
         let mut corners = Corners::default();
         corners.broken("n 0", &Event::Crash(1), answer);
-        assert_eq!(corners.impossible().is_empty(), answer == 1, "{answer}");
+        assert_eq!(corners.book().impossible().is_empty(), answer == 1, "{answer}");
     }
 }
 
@@ -115,7 +115,7 @@ fn calls_are_judged_by_buffer_field_and_range() {
             let mut corners = Corners::default();
             corners.call(in_range, field, room, answer);
             let words = format!("{in_range} {field:?} {room} {answer}");
-            assert_eq!(corners.impossible().is_empty(), right.contains(&answer), "{words}");
+            assert_eq!(corners.book().impossible().is_empty(), right.contains(&answer), "{words}");
         }
     }
 }

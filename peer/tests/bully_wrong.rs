@@ -11,7 +11,7 @@ use peer::bully::fuzzing::Fuzz;
 use peer::bully::machine::*;
 use peer::bully::runs::run;
 use peer::corners::Source;
-use peer::fuzzing::ENOUGH;
+use peer::fuzz_loop::{Fuzzer, ENOUGH};
 use peer::machine::{highest, only, Set, Status};
 use peer::numbers::Numbers;
 use peer::proved::{Library, Own, TOO_SHORT};

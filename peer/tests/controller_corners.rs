@@ -120,7 +120,7 @@ impl Judged {
     /// The names of what was met.
     fn met(&mut self, room: usize) -> Vec<String> {
         self.by(room, |_, _| (), None, None).unwrap();
-        let text = self.corners.text();
+        let text = self.corners.book().text();
         let lines = text.lines().filter_map(|line| line.trim_start().strip_prefix("0 "));
         let mut met: Vec<String> = lines
             .filter_map(|line| line.trim_start().split_once("  "))
@@ -226,18 +226,18 @@ fn what_was_done_says_what_is_answered() {
 fn seldom_and_impossible() {
     let mut numbers = Numbers::new(4);
     let mut corners = Corners::default();
-    let all = corners.seldom(1).len();
+    let all = corners.book().seldom(1).len();
     for _ in 0..40_000 {
         let (given, made, room) = any_call(&mut numbers);
         let mut judged = Judged { given, corners };
         judged.by(room, |_, _| (), made.damage, made.broken).unwrap();
         corners = judged.corners;
     }
-    let seldom = corners.seldom(1);
+    let seldom = corners.book().seldom(1);
     assert!(all > 980 && seldom.len() < 60, "{} of {all}", seldom.len());
     assert!(seldom.iter().any(|words| words == "queue, deliver, in runs: 0"), "{seldom:?}");
-    assert_eq!(corners.impossible(), Vec::<String>::new());
+    assert_eq!(corners.book().impossible(), Vec::<String>::new());
     corners.queue_event(Source::Run, TOWER, &Event::Tick(1), 17);
     corners.queue_event(Source::Table, TOWER, &Event::Tick(1), 6);
-    assert_eq!(corners.impossible(), ["queue, refused 17, in a run", "queue, refused 6"]);
+    assert_eq!(corners.book().impossible(), ["queue, refused 17, in a run", "queue, refused 6"]);
 }

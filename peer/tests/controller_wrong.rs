@@ -16,7 +16,7 @@ use peer::controller::reading::{Given, Input};
 use peer::controller::records::record_bytes;
 use peer::controller::share::Cabinet;
 use peer::corners::Source;
-use peer::fuzzing::ENOUGH;
+use peer::fuzz_loop::{Fuzzer, ENOUGH};
 use peer::machine::*;
 use peer::numbers::Numbers;
 use peer::proved::{step_by, Library, Own, NODE_BYTES, TOO_SHORT};
@@ -694,7 +694,7 @@ fn found_soon(library: impl Library, parts: u64) -> bool {
     let mut fuzz = Fuzz::new(library, 1);
     (0..parts).any(|_| {
         fuzz.part();
-        fuzz.differences() > 0
+        fuzz.outcome().failed > 0
     })
 }
 

@@ -16,6 +16,7 @@ use peer::numbers::Numbers;
 use peer::print::run_list;
 use peer::proved::{recovery_by, table_to_bytes, Library, Own, TABLE_BYTES, TOO_SHORT};
 use peer::recovery_corners::Call;
+use peer::tally::Book;
 use peer::traffic_tables::count_waiting;
 use Event::*;
 

@@ -1,6 +1,7 @@
 //! How long the fuzzers go on.
 
-use peer::fuzzing::{goes_on, Fuzz};
+use peer::fuzz_loop::{goes_on, Fuzzer};
+use peer::fuzzing::Fuzz;
 use peer::proved::Own;
 use std::time::{Duration, Instant};
 

@@ -11,6 +11,7 @@ use peer::machine::*;
 use peer::print::run_list;
 use peer::proved::{table_to_bytes, Own, TABLE_BYTES};
 use peer::recovery_corners::Call;
+use peer::tally::Book;
 use peer::traffic_tables::count_waiting;
 use Event::*;
 

@@ -9,6 +9,7 @@ mod wrong_libraries;
 use functions::Functions;
 use peer::compare::{list_difference, run_difference, shortest_run, tell_walk, walk_difference};
 use peer::drive::{fill, full_queue, run, Run};
+use peer::fuzz_loop::Fuzzer;
 use peer::fuzzing::Fuzz;
 use peer::history::check_run;
 use peer::limit_corners::{BROKEN, PAIRS, TOO_MANY_FROM, WRONG_N_FROM};

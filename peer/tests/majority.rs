@@ -18,6 +18,7 @@ use peer::numbers::Numbers;
 use peer::print::{run_list, run_list_by};
 use peer::proved::Own;
 use peer::tables::to_finish;
+use peer::tally::Book;
 use peer::traffic_tables::pairs;
 use peer::vectors::{read_lists, read_steps};
 use printing::{by_all, Prints};

@@ -9,6 +9,7 @@ mod other_forms;
 use functions::Functions;
 use other_forms::in_another_form;
 use peer::compare::{recovery_difference, tell_recovery};
+use peer::fuzz_loop::Fuzzer;
 use peer::fuzzing::Fuzz;
 use peer::list::write_event;
 use peer::machine::*;

@@ -14,6 +14,7 @@ use peer::round::bytes::TURN_BYTES;
 use peer::round::corners::{Call, Corners};
 use peer::round::driver::{next, turn, Done, Place};
 use peer::round::tables::{any_place, to_turn};
+use peer::tally::Book;
 use peer::traffic_tables::count_waiting;
 use std::ops::Range;
 

@@ -6,7 +6,7 @@ mod functions;
 use functions::Functions;
 use peer::compare::Lent;
 use peer::corners::Source;
-use peer::fuzzing::ENOUGH;
+use peer::fuzz_loop::{Fuzzer, ENOUGH};
 use peer::machine::*;
 use peer::numbers::Numbers;
 use peer::proved::{fill_unused, step_by, table_to_bytes, Library, Own, TABLE_BYTES, TOO_SHORT};
@@ -268,7 +268,7 @@ fn found_soon(library: impl Library, parts: u64) -> bool {
     let mut fuzz = Fuzz::new(library, 1);
     (0..parts).any(|_| {
         fuzz.part();
-        fuzz.differences() > 0
+        fuzz.outcome().failed > 0
     })
 }
 

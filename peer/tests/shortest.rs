@@ -9,6 +9,7 @@ use peer::compare::{
     list_difference, run_difference, shortest_run, tell_list, tell_run, tell_walk, walk_difference,
 };
 use peer::drive::run;
+use peer::fuzz_loop::Fuzzer;
 use peer::fuzzing::Fuzz;
 use peer::list::{read_list, write_list};
 use peer::machine::*;

@@ -5,13 +5,10 @@
 //! times, up to four times as long in all; such a corner is then a failure. The exit code is 1 on a failure.
 
 use peer::ending::ended;
-use peer::fuzzing::{fuzzed, Fuzz};
+use peer::fuzz_loop::fuzzed;
+use peer::fuzzing::Fuzz;
 use std::process::ExitCode;
 
 fn main() -> ExitCode {
-    ended(fuzzed("fuzz", 60, |library, seed, time, least| {
-        let mut fuzz = Fuzz::new(library, seed);
-        fuzz.go_on(time, least);
-        fuzz.tell(least)
-    }))
+    ended(fuzzed("fuzz", 60, Fuzz::new))
 }

@@ -6,14 +6,10 @@
 //! corner is then a failure. The exit code is 1 on a failure.
 
 use peer::ending::ended;
-use peer::fuzzing::fuzzed;
+use peer::fuzz_loop::fuzzed;
 use peer::round::fuzzing::Fuzz;
 use std::process::ExitCode;
 
 fn main() -> ExitCode {
-    ended(fuzzed("round-fuzz", 10, |library, seed, time, least| {
-        let mut fuzz = Fuzz::new(library, seed);
-        fuzz.go_on(time, least);
-        fuzz.tell(least)
-    }))
+    ended(fuzzed("round-fuzz", 10, Fuzz::new))
 }

@@ -5,21 +5,14 @@
 use crate::bully::bytes::{first_event, TABLE_BYTES};
 use crate::bully::machine::{Event, Node, Place, Table};
 use crate::bully::tables::rule_names;
-use crate::corners::{counts_text, Count, Source};
+use crate::corners::Source;
 use crate::machine::{only, Set, Status, MAX_NODES, MIN_TASK};
 use crate::proved::TOO_SHORT;
-use std::collections::HashMap;
+use crate::tally::Where::{self, Both, Tables};
+use crate::tally::{Book, Tally};
 
 /// What is met, in words: of what, what, and how.
 type Corner = [&'static str; 3];
-
-/// Where a corner can be met: in runs from all Down and on tables made up, or on these alone.
-#[derive(Clone, Copy, Debug, PartialEq, Eq)]
-pub enum Where {
-    Both,
-    Tables,
-}
-use Where::{Both, Tables};
 
 const EVENTS: [&str; 6] = ["crash", "recover", "check", "timeout", "go on", "finish"];
 
@@ -501,12 +494,18 @@ impl Follows {
 }
 
 /// How often each corner was met, in runs and on tables.
-#[derive(Clone, Debug, Default)]
-pub struct Corners(HashMap<Corner, Count>);
+#[derive(Clone, Debug)]
+pub struct Corners(Tally<Corner>);
+
+impl Default for Corners {
+    fn default() -> Corners {
+        Corners(Tally::new(possible, words))
+    }
+}
 
 impl Corners {
     fn add(&mut self, source: Source, corner: Corner) {
-        self.0.entry(corner).or_default()[source as usize] += 1;
+        self.0.add(source, corner);
     }
 
     /// Counts an event on a table in range, with what followed. What must not follow is a corner that is not
@@ -602,45 +601,9 @@ impl Corners {
         self.add(Source::Table, ["bytes", "as table", refused]);
     }
 
-    fn count(&self, corner: &Corner) -> Count {
-        self.0.get(corner).copied().unwrap_or_default()
-    }
-
-    /// The counts in lines, as those of document 01's machine.
-    pub fn text(&self) -> String {
-        let named = |(corner, _): &(Corner, Where)| (words(corner), self.count(corner));
-        counts_text(&possible().iter().map(named).collect::<Vec<_>>())
-    }
-
-    /// What was met though the papers have no place for it, or no run can meet it.
-    pub fn impossible(&self) -> Vec<String> {
-        let possible: HashMap<Corner, Where> = possible().into_iter().collect();
-        let mut found: Vec<String> = self
-            .0
-            .iter()
-            .filter_map(|(corner, [runs, _])| match possible.get(corner) {
-                None => Some(words(corner)),
-                Some(Tables) if *runs > 0 => Some(format!("{}, in a run", words(corner))),
-                Some(_) => None,
-            })
-            .collect();
-        found.sort();
-        found
-    }
-
-    /// What was met less often than so many times, in runs or on tables, where it can be met.
-    pub fn seldom(&self, times: u64) -> Vec<String> {
-        let mut found = Vec::new();
-        for (corner, at) in possible() {
-            let [runs, tables] = self.count(&corner);
-            if tables < times {
-                found.push(format!("{}, on tables: {tables}", words(&corner)));
-            }
-            if runs < times && at == Both {
-                found.push(format!("{}, in runs: {runs}", words(&corner)));
-            }
-        }
-        found
+    /// What was met, as a fuzzer tells it.
+    pub fn book(&self) -> &dyn Book {
+        &self.0
     }
 }
 

@@ -10,10 +10,10 @@ use crate::bully::tables::{break_rule, in_another_form, to_step};
 use crate::compare::Lent;
 use crate::corners::Source;
 use crate::damage::no_event;
-use crate::fuzzing::{goes_on, ENOUGH};
+use crate::fuzz_loop::{Fuzzer, Outcome};
 use crate::numbers::Numbers;
 use crate::proved::Library;
-use std::time::{Duration, Instant};
+use crate::tally::Book;
 
 pub struct Fuzz<L> {
     library: L,
@@ -23,9 +23,7 @@ pub struct Fuzz<L> {
     run_events: u64,
     tables: u64,
     calls: u64,
-    passed: u64,
-    failed: u64,
-    seconds: f64,
+    outcome: Outcome,
 }
 
 impl<L: Library> Fuzz<L> {
@@ -38,61 +36,47 @@ impl<L: Library> Fuzz<L> {
             run_events: 0,
             tables: 0,
             calls: 0,
-            passed: 0,
-            failed: 0,
-            seconds: 0.0,
+            outcome: Outcome::default(),
+        }
+    }
+}
+
+impl<L: Library> Fuzzer for Fuzz<L> {
+    fn part(&mut self) {
+        self.run();
+        for _ in 0..80 {
+            self.table();
+        }
+        for _ in 0..20 {
+            self.broken();
+        }
+        for _ in 0..10 {
+            self.field();
+        }
+        for _ in 0..4 {
+            self.any_bytes();
         }
     }
 
-    /// Compares for so long, and longer while a corner was met less often than so many times (`goes_on`), or
-    /// until there are enough differences, which it prints.
-    pub fn go_on(&mut self, time: Duration, least: u64) {
-        let start = Instant::now();
-        while self.failed < ENOUGH
-            && goes_on(time, start.elapsed(), || !self.corners.seldom(least).is_empty())
-        {
-            self.run();
-            for _ in 0..80 {
-                self.table();
-            }
-            for _ in 0..20 {
-                self.broken();
-            }
-            for _ in 0..10 {
-                self.field();
-            }
-            for _ in 0..4 {
-                self.any_bytes();
-            }
-        }
-        self.seconds = start.elapsed().as_secs_f64();
+    fn outcome(&mut self) -> &mut Outcome {
+        &mut self.outcome
     }
 
-    /// Prints the counts and gives how many comparisons passed and how many failed. What was met less often
-    /// than so many times, where it can be met, is a failure too.
-    pub fn tell(&mut self, least: u64) -> (u64, u64) {
-        print!("{}", self.corners.text());
-        for words in self.corners.impossible() {
-            self.failed += 1;
-            println!("the papers have no place for this: {words}");
-        }
-        for words in self.corners.seldom(least) {
-            self.failed += 1;
-            println!("met fewer than {least} times: {words}");
-        }
-        let events = self.run_events + self.tables + self.calls;
+    fn book(&self) -> &dyn Book {
+        self.corners.book()
+    }
+
+    fn compared(&self) -> (u64, &'static str) {
+        (self.run_events + self.tables + self.calls, "events")
+    }
+
+    fn tell_kinds(&mut self) {
         println!("runs: {}, {} events", self.runs, self.run_events);
         println!("tables: {}, an event each; calls of any bytes: {}", self.tables, self.calls);
-        let speed = events as f64 / self.seconds;
-        println!("{events} events in {:.1} s, {speed:.0} a second", self.seconds);
-        (self.passed, self.failed)
     }
+}
 
-    fn difference(&mut self, words: String) {
-        self.failed += 1;
-        println!("difference {}: {words}", self.failed);
-    }
-
+impl<L: Library> Fuzz<L> {
     /// Now and then a seed for other forms of the tables' bytes.
     fn noise(&mut self) -> Option<u64> {
         let noise = self.numbers.bits();
@@ -100,15 +84,15 @@ impl<L: Library> Fuzz<L> {
     }
 
     fn walk(&mut self, walk: &Walk) {
-        if self.failed >= ENOUGH {
+        if self.outcome.enough() {
             return;
         }
         if let Some(found) = walk_difference(&self.library, walk, Some(&mut self.corners)) {
-            self.passed += found.events as u64 - 1;
+            self.outcome.passed += found.events as u64 - 1;
             let words = tell_walk(&self.library, walk);
-            return self.difference(words);
+            return self.outcome.difference(words);
         }
-        self.passed += walk.events.len() as u64;
+        self.outcome.passed += walk.events.len() as u64;
     }
 
     /// A run from all Down.
@@ -130,18 +114,18 @@ impl<L: Library> Fuzz<L> {
 
     /// A call into so many bytes with random ones in them; the answer, if there is no difference.
     fn call(&mut self, table: &[u8], field: &[u8], room: usize) -> Option<u8> {
-        if self.failed >= ENOUGH {
+        if self.outcome.enough() {
             return None;
         }
         self.calls += 1;
         let mut lent = Lent::new(room, &mut self.numbers);
         match call(&self.library, table, field, &mut lent) {
             Ok(answer) => {
-                self.passed += 1;
+                self.outcome.passed += 1;
                 Some(answer)
             }
             Err(words) => {
-                self.difference(format!(
+                self.outcome.difference(format!(
                     "table {table:02x?}\nfield {field:02x?}\ninto {room} bytes: {words}"
                 ));
                 None

@@ -10,11 +10,12 @@ use crate::controller::reading::{
     TICK, TIMEOUT, WHATS,
 };
 use crate::controller::records::{record_bytes, rule_names};
-use crate::corners::{counts_text, event_name, Count, Source, ACTIVITIES, EVENTS};
+use crate::corners::{event_name, Source, ACTIVITIES, EVENTS};
 use crate::list::first_field;
 use crate::machine::{Body, Event, Limits, Message, MAX_NODES, STAND};
 use crate::proved::{tag, NODE_BYTES, TOO_SHORT};
-use std::collections::HashMap;
+use crate::tally::Where::{self, Both, Either, Tables};
+use crate::tally::{Book, Tally};
 
 /// What is met.
 #[derive(Clone, Copy, Debug, PartialEq, Eq, Hash)]
@@ -42,16 +43,6 @@ enum Corner {
     QueueRefused(u8),
 }
 use Corner::*;
-
-/// Where a corner must be met: in runs from the starting table and on tables made up, each by itself; in either,
-/// together; or on these tables alone, since no run can meet it.
-#[derive(Clone, Copy, Debug, PartialEq, Eq)]
-enum Where {
-    Both,
-    Either,
-    Tables,
-}
-use Where::{Both, Either, Tables};
 
 /// What goes out: nothing, or a kind; a reply that says no stands last.
 const SENT: [&str; 8] = [
@@ -212,12 +203,18 @@ pub struct Call<'a> {
 }
 
 /// How often each corner was met, in runs and on tables.
-#[derive(Clone, Debug, Default)]
-pub struct Corners(HashMap<Corner, Count>);
+#[derive(Clone, Debug)]
+pub struct Corners(Tally<Corner>);
+
+impl Default for Corners {
+    fn default() -> Corners {
+        Corners(Tally::new(possible, words))
+    }
+}
 
 impl Corners {
     fn add(&mut self, source: Source, corner: Corner) {
-        self.0.entry(corner).or_default()[source as usize] += 1;
+        self.0.add(source, corner);
     }
 
     /// Counts a call with what followed. The error says in words what must not follow.
@@ -326,45 +323,9 @@ impl Corners {
         self.add(source, Queue(QUEUE[1]));
     }
 
-    fn count(&self, corner: &Corner) -> Count {
-        self.0.get(corner).copied().unwrap_or_default()
-    }
-
-    /// The counts in lines, as those of document 01's machine.
-    pub fn text(&self) -> String {
-        let named = |(corner, _): &(Corner, Where)| (words(corner), self.count(corner));
-        counts_text(&possible().iter().map(named).collect::<Vec<_>>())
-    }
-
-    /// What was met though the papers have no place for it, or no run can meet it.
-    pub fn impossible(&self) -> Vec<String> {
-        let possible: HashMap<Corner, Where> = possible().into_iter().collect();
-        let told = |(corner, [runs, _]): (&Corner, &Count)| match possible.get(corner) {
-            None => Some(words(corner)),
-            Some(Tables) if *runs > 0 => Some(format!("{}, in a run", words(corner))),
-            Some(_) => None,
-        };
-        let mut found: Vec<String> = self.0.iter().filter_map(told).collect();
-        found.sort();
-        found
-    }
-
-    /// What was met less often than so many times where it must be met.
-    pub fn seldom(&self, times: u64) -> Vec<String> {
-        let mut found = Vec::new();
-        for (corner, at) in possible() {
-            let ([runs, tables], words) = (self.count(&corner), words(&corner));
-            if at == Either && runs + tables < times {
-                found.push(format!("{words}: {}", runs + tables));
-            }
-            if at != Either && tables < times {
-                found.push(format!("{words}, on tables: {tables}"));
-            }
-            if at == Both && runs < times {
-                found.push(format!("{words}, in runs: {runs}"));
-            }
-        }
-        found
+    /// What was met, as a fuzzer tells it.
+    pub fn book(&self) -> &dyn Book {
+        &self.0
     }
 }
 

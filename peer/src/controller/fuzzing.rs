@@ -13,14 +13,14 @@ use crate::drive::{
     any_event, any_manner, any_node, full_queue, pick, run, run_with_full_peals,
     run_with_wrong_checks,
 };
-use crate::fuzzing::{goes_on, ENOUGH};
+use crate::fuzz_loop::{Fuzzer, Outcome};
 use crate::limit_tables::{any_limits, to_fill};
 use crate::machine::{advance, Event, Table};
 use crate::numbers::Numbers;
 use crate::proved::Library;
 use crate::tables::{in_range, move_to_ends, to_check};
+use crate::tally::Book;
 use crate::traffic_tables::to_send;
-use std::time::{Duration, Instant};
 
 pub struct Fuzz<L> {
     library: L,
@@ -30,9 +30,7 @@ pub struct Fuzz<L> {
     runs: u64,
     tables: u64,
     events: u64,
-    passed: u64,
-    failed: u64,
-    seconds: f64,
+    outcome: Outcome,
 }
 
 impl<L: Library> Fuzz<L> {
@@ -45,26 +43,13 @@ impl<L: Library> Fuzz<L> {
             runs: 0,
             tables: 0,
             events: 0,
-            passed: 0,
-            failed: 0,
-            seconds: 0.0,
+            outcome: Outcome::default(),
         }
     }
+}
 
-    /// Compares for so long, and longer while a corner was met less often than so many times (`goes_on`), or
-    /// until there are enough differences, which it prints.
-    pub fn go_on(&mut self, time: Duration, least: u64) {
-        let start = Instant::now();
-        while self.failed < ENOUGH
-            && goes_on(time, start.elapsed(), || !self.corners.seldom(least).is_empty())
-        {
-            self.part();
-        }
-        self.seconds += start.elapsed().as_secs_f64();
-    }
-
-    /// So much of each kind as stands in one part of the time.
-    pub fn part(&mut self) {
+impl<L: Library> Fuzzer for Fuzz<L> {
+    fn part(&mut self) {
         for _ in 0..2 {
             self.run();
         }
@@ -77,64 +62,54 @@ impl<L: Library> Fuzz<L> {
         }
     }
 
-    /// Prints the counts and gives how many comparisons passed and how many failed. What was met less often than
-    /// so many times, where it must be met, is a failure too.
-    pub fn tell(&mut self, least: u64) -> (u64, u64) {
-        print!("{}", self.corners.text());
-        for words in self.corners.impossible() {
-            self.failed += 1;
-            println!("the papers have no place for this: {words}");
-        }
-        for words in self.corners.seldom(least) {
-            self.failed += 1;
-            println!("met fewer than {least} times: {words}");
-        }
+    fn outcome(&mut self) -> &mut Outcome {
+        &mut self.outcome
+    }
+
+    fn book(&self) -> &dyn Book {
+        self.corners.book()
+    }
+
+    fn compared(&self) -> (u64, &'static str) {
+        (self.calls + self.events, "calls and events")
+    }
+
+    fn tell_kinds(&mut self) {
         let (runs, tables) = (self.runs, self.tables);
         println!("calls: {}; n controllers from the starting table: {runs}, from tables: {tables}, events: {}",
             self.calls, self.events);
-        let (sum, seconds) = (self.calls + self.events, self.seconds);
-        println!("{sum} calls and events in {seconds:.1} s, {:.0} a second", sum as f64 / seconds);
-        (self.passed, self.failed)
     }
+}
 
-    /// How many differences there were.
-    pub fn differences(&self) -> u64 {
-        self.failed
-    }
-
-    fn difference(&mut self, words: String) {
-        self.failed += 1;
-        println!("difference {}: {words}", self.failed);
-    }
-
+impl<L: Library> Fuzz<L> {
     /// A call into so many bytes with random ones in them.
     fn call(&mut self, given: &Given, made: Made, room: usize) {
-        if self.failed >= ENOUGH {
+        if self.outcome.enough() {
             return;
         }
         self.calls += 1;
         let mut lent = Lent::new(room, &mut self.numbers);
         let corners = &mut self.corners;
         match call(&self.library, Source::Table, given, made, &mut lent, corners) {
-            Ok(_) => self.passed += 1,
+            Ok(_) => self.outcome.passed += 1,
             Err(words) => {
                 let words = tell_call(&self.library, given, room, &words);
-                self.difference(words);
+                self.outcome.difference(words);
             }
         }
     }
 
     fn walk(&mut self, walk: &Walk) {
-        if self.failed >= ENOUGH {
+        if self.outcome.enough() {
             return;
         }
         let found = walk_difference(&self.library, walk, &mut self.corners);
         let events = found.as_ref().map_or(walk.events.len(), |found| found.events);
         self.events += events as u64;
-        self.passed += events as u64 - u64::from(found.is_some());
+        self.outcome.passed += events as u64 - u64::from(found.is_some());
         if found.is_some() {
             let words = tell_walk(&self.library, walk);
-            self.difference(words);
+            self.outcome.difference(words);
         }
     }
 

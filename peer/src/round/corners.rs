@@ -3,7 +3,7 @@
 //! library's own steps deliver and lose on the same bytes, and which pair comes next in the list of all.
 
 use crate::compare::{two_tables, Lent};
-use crate::corners::{counts_text, event_name, Count, Source, EVENTS};
+use crate::corners::{event_name, Source, EVENTS};
 use crate::list::write_event;
 use crate::machine::{count_of, Event, PairCounts, Status, Table, MAX_NODES, STAND};
 use crate::proved::{
@@ -13,21 +13,12 @@ use crate::proved::{
 use crate::round::bound::{line, Gone};
 use crate::round::bytes::{written, TURN_BYTES};
 use crate::round::driver::Place;
+use crate::tally::Where::{self, Both, Either, Tables};
+use crate::tally::{Book, Tally};
 use crate::traffic_tables::pairs;
-use std::collections::HashMap;
 
 /// What is met, in words: of what, and how.
 type Corner = [&'static str; 2];
-
-/// Where a corner must be met: in schedules from the starting table and on tables made up, each by itself; in
-/// either, together; or on these tables alone, since no run can meet it.
-#[derive(Clone, Copy, Debug, PartialEq, Eq)]
-enum Where {
-    Both,
-    Either,
-    Tables,
-}
-use Where::{Both, Either, Tables};
 
 /// What was done, by its number.
 const DONE: [&str; 3] = ["nothing", "delivered", "lost"];
@@ -129,17 +120,23 @@ pub struct Call<'a> {
 }
 
 /// How often each corner was met, in schedules from the starting table and on tables made up.
-#[derive(Clone, Debug, Default)]
+#[derive(Clone, Debug)]
 pub struct Corners {
-    counts: HashMap<Corner, Count>,
+    tally: Tally<Corner>,
     /// Of the followed messages that went in a turn: the turns that one waited and those that it could, where the
     /// one is the largest share of the other, and of equal shares the longest.
     largest: Option<(u64, u64)>,
 }
 
+impl Default for Corners {
+    fn default() -> Corners {
+        Corners { tally: Tally::new(possible, words), largest: None }
+    }
+}
+
 impl Corners {
     fn add(&mut self, source: Source, corner: Corner) {
-        self.counts.entry(corner).or_default()[source as usize] += 1;
+        self.tally.add(source, corner);
     }
 
     /// Counts a turn with what followed. The error says in words what must not follow.
@@ -352,20 +349,16 @@ impl Corners {
         }
     }
 
-    fn count(&self, corner: &Corner) -> Count {
-        self.counts.get(corner).copied().unwrap_or_default()
-    }
-
     /// How often a followed message went in the last turn that the bound allows.
     pub fn bound_met(&self) -> u64 {
-        EQUAL.iter().flat_map(|corner| self.count(corner)).sum()
+        EQUAL.iter().flat_map(|corner| self.tally.count(corner)).sum()
     }
+}
 
-    /// The counts in lines, as those of document 01's machine, and then how near the bound the followed messages
-    /// came.
-    pub fn text(&self) -> String {
-        let named = |(corner, _): &(Corner, Where)| (words(corner), self.count(corner));
-        let counts = counts_text(&possible().iter().map(named).collect::<Vec<_>>());
+impl Book for Corners {
+    /// The counts, and then how near the bound the followed messages came.
+    fn text(&self) -> String {
+        let counts = self.tally.text();
         let largest = match self.largest {
             None => "no followed message went".to_string(),
             Some((turns, allowed)) => {
@@ -376,35 +369,12 @@ impl Corners {
         format!("{counts}{largest}; met in its last turn {} times\n", self.bound_met())
     }
 
-    /// What was met though the papers have no place for it, or no run can meet it.
-    pub fn impossible(&self) -> Vec<String> {
-        let possible: HashMap<Corner, Where> = possible().into_iter().collect();
-        let told = |(corner, [runs, _]): (&Corner, &Count)| match possible.get(corner) {
-            None => Some(words(corner)),
-            Some(Tables) if *runs > 0 => Some(format!("{}, in a run", words(corner))),
-            Some(_) => None,
-        };
-        let mut found: Vec<String> = self.counts.iter().filter_map(told).collect();
-        found.sort();
-        found
+    fn impossible(&self) -> Vec<String> {
+        self.tally.impossible()
     }
 
-    /// What was met less often than so many times where it must be met.
-    pub fn seldom(&self, times: u64) -> Vec<String> {
-        let mut found = Vec::new();
-        for (corner, at) in possible() {
-            let ([runs, tables], words) = (self.count(&corner), words(&corner));
-            if at == Either && runs + tables < times {
-                found.push(format!("{words}: {}", runs + tables));
-            }
-            if at != Either && tables < times {
-                found.push(format!("{words}, on tables: {tables}"));
-            }
-            if at == Both && runs < times {
-                found.push(format!("{words}, in runs: {runs}"));
-            }
-        }
-        found
+    fn seldom(&self, times: u64) -> Vec<String> {
+        self.tally.seldom(times)
     }
 }
 

@@ -3,7 +3,7 @@
 
 use crate::compare::Lent;
 use crate::corners::Source;
-use crate::fuzzing::{goes_on, ENOUGH};
+use crate::fuzz_loop::{Fuzzer, Outcome};
 use crate::machine::Table;
 use crate::numbers::Numbers;
 use crate::proved::{table_to_bytes, Library, TABLE_BYTES};
@@ -13,8 +13,8 @@ use crate::round::corners::Corners;
 use crate::round::driver::Place;
 use crate::round::schedules::{from_start, from_table, Schedule};
 use crate::round::tables::{any_place, cut_short, in_another_form, no_pair, not_in_range, to_turn};
+use crate::tally::Book;
 use crate::vectors::write_hex;
-use std::time::{Duration, Instant};
 
 pub struct Fuzz<L> {
     library: L,
@@ -24,9 +24,7 @@ pub struct Fuzz<L> {
     tables: u64,
     moves: u64,
     calls: u64,
-    passed: u64,
-    failed: u64,
-    seconds: f64,
+    outcome: Outcome,
 }
 
 impl<L: Library> Fuzz<L> {
@@ -39,26 +37,13 @@ impl<L: Library> Fuzz<L> {
             tables: 0,
             moves: 0,
             calls: 0,
-            passed: 0,
-            failed: 0,
-            seconds: 0.0,
+            outcome: Outcome::default(),
         }
     }
+}
 
-    /// Compares for so long, and longer while a corner was met less often than so many times (`goes_on`), or
-    /// until there are enough differences, which it prints.
-    pub fn go_on(&mut self, time: Duration, least: u64) {
-        let start = Instant::now();
-        while self.failed < ENOUGH
-            && goes_on(time, start.elapsed(), || !self.corners.seldom(least).is_empty())
-        {
-            self.part();
-        }
-        self.seconds += start.elapsed().as_secs_f64();
-    }
-
-    /// So much of each kind as stands in one part of the time.
-    pub fn part(&mut self) {
+impl<L: Library> Fuzzer for Fuzz<L> {
+    fn part(&mut self) {
         self.runs += 1;
         let schedule = from_start(&mut self.numbers);
         self.schedule(&schedule);
@@ -75,68 +60,59 @@ impl<L: Library> Fuzz<L> {
         }
     }
 
-    /// Prints the counts and gives how many comparisons passed and how many failed. What was met less often than
-    /// so many times, where it must be met, is a failure too; and so is a bound that was never met in its last
-    /// turn.
-    pub fn tell(&mut self, least: u64) -> (u64, u64) {
-        print!("{}", self.corners.text());
-        for words in self.corners.impossible() {
-            self.failed += 1;
-            println!("the papers have no place for this: {words}");
-        }
-        for words in self.corners.seldom(least) {
-            self.failed += 1;
-            println!("met fewer than {least} times: {words}");
-        }
+    fn outcome(&mut self) -> &mut Outcome {
+        &mut self.outcome
+    }
+
+    fn book(&self) -> &dyn Book {
+        &self.corners
+    }
+
+    fn compared(&self) -> (u64, &'static str) {
+        (self.moves + self.calls, "turns and events")
+    }
+
+    /// A bound that was never met in its last turn is a failure too.
+    fn tell_kinds(&mut self) {
         if self.corners.bound_met() == 0 {
-            self.failed += 1;
-            println!("no followed message went in the last turn that the bound allows");
+            let words = "no followed message went in the last turn that the bound allows";
+            self.outcome.fails(words.to_string());
         }
         println!("schedules from the starting table: {}, from tables: {}", self.runs, self.tables);
         println!("turns and events: {}; turns of any bytes: {}", self.moves, self.calls);
-        let (sum, seconds) = (self.moves + self.calls, self.seconds);
-        println!("{sum} turns and events in {seconds:.1} s, {:.0} a second", sum as f64 / seconds);
-        (self.passed, self.failed)
     }
+}
 
-    /// How many differences there were.
-    pub fn differences(&self) -> u64 {
-        self.failed
-    }
-
-    fn difference(&mut self, words: String) {
-        self.failed += 1;
-        println!("difference {}: {words}", self.failed);
-    }
-
+impl<L: Library> Fuzz<L> {
     fn schedule(&mut self, schedule: &Schedule) {
-        if self.failed >= ENOUGH {
+        if self.outcome.enough() {
             return;
         }
         let found = schedule_difference(&self.library, schedule, &mut self.corners);
         let moves = found.as_ref().map_or(schedule.moves.len(), |found| found.events);
         self.moves += moves as u64;
-        self.passed += moves as u64 - u64::from(found.is_some());
+        self.outcome.passed += moves as u64 - u64::from(found.is_some());
         if found.is_some() {
             let words = tell_schedule(&self.library, schedule);
-            self.difference(words);
+            self.outcome.difference(words);
         }
     }
 
     /// A turn into so many bytes with random ones in them.
     fn call(&mut self, table: &[u8], place: Place, room: usize) {
-        if self.failed >= ENOUGH {
+        if self.outcome.enough() {
             return;
         }
         self.calls += 1;
         let mut lent = Lent::new(room, &mut self.numbers);
         let corners = &mut self.corners;
         match call(&self.library, Source::Table, table, place, &mut lent, corners) {
-            Ok(_) => self.passed += 1,
+            Ok(_) => self.outcome.passed += 1,
             Err(words) => {
                 let (table, (a, b)) = (write_hex(table), place);
                 // As the vectors write it.
-                self.difference(format!("nevraspu_turn {table} {a} {b} out {room}\n{words}"));
+                self.outcome
+                    .difference(format!("nevraspu_turn {table} {a} {b} out {room}\n{words}"));
             }
         }
     }

@@ -1,6 +1,7 @@
 //! The corners that were met, read from the lines of their counts.
 
 use peer::corners::Corners;
+use peer::tally::Book;
 
 /// With their counts in runs and in tables.
 pub fn met_corners(corners: &Corners) -> Vec<(String, u64, u64)> {

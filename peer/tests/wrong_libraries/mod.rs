@@ -1,6 +1,7 @@
 //! Libraries whose step or text is wrong on purpose, for the tests of the fuzzer and of the comparison.
 
 use crate::functions::Functions;
+use peer::fuzz_loop::Fuzzer;
 use peer::fuzzing::Fuzz;
 use peer::machine::{Event, Table};
 use peer::proved::{fitting, step_by, Library};
