@@ -1,7 +1,7 @@
 //! Drivers and boundaries of T-09 that are wrong on purpose: the fuzzer finds each of them soon, the judgement of
 //! turns finds each by itself, and the bound by itself those that break it.
 
-mod functions;
+use crate::functions;
 
 use functions::Functions;
 use peer::compare::Lent;

@@ -1,7 +1,7 @@
 //! The comparison finds machines that are wrong on purpose, and the search shortens what they show.
 
-mod common;
-mod functions;
+use crate::common;
+use crate::functions;
 
 use common::{invited_twice, LATE, NODES};
 use functions::Functions;

@@ -1,10 +1,9 @@
 //! T-10 of document 02, "Full peal only by a majority": ground 19 by hand and its order, what is printed, the random
 //! tables and runs of the fuzzer, what is counted and told of finishes, and machines that are wrong on purpose.
 
-mod functions;
-mod met_corners;
-mod printing;
-mod wrong_libraries;
+use crate::met_corners;
+use crate::printing;
+use crate::wrong_libraries;
 
 use met_corners::met_corners;
 use peer::bully;

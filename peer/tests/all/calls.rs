@@ -1,7 +1,7 @@
 //! The vectors' calls: how a line is read, what is compared, and the calls of T-04, T-07, T-09 and T-11 on
 //! this program's own machines and controllers.
 
-mod functions;
+use crate::functions;
 
 use functions::Functions;
 use peer::calls::{

@@ -1,7 +1,7 @@
 //! Controllers and boundaries of T-11 that are wrong on purpose: the fuzzer finds each of them soon, and the judgement
 //! of calls finds each by itself.
 
-mod functions;
+use crate::functions;
 
 use functions::Functions;
 use peer::compare::Lent;

@@ -1,8 +1,8 @@
 //! What the library's functions answer and what they leave in the buffer, at every edge: this program's
 //! own machine behind the boundary, and the proved library where it is linked.
 
-mod functions;
-mod other_forms;
+use crate::functions;
+use crate::other_forms;
 
 use functions::Functions;
 use other_forms::in_another_form;

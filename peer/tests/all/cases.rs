@@ -1,7 +1,7 @@
 //! Document 01's named cases K1 to K13, on the machine and on the printed text, and cases of T-02 of
 //! document 02, "Higher numbers first", and T-03, "An invitation that arrives twice".
 
-mod common;
+use crate::common;
 
 use common::{invited_twice, LATE, NODES};
 use peer::list::write_list;

@@ -1,9 +1,8 @@
 //! T-06 of document 02, "Checks only by a coordinator": ground 18 by hand and its order, what is printed, the
 //! random tables of the fuzzer, and libraries that are wrong on purpose.
 
-mod functions;
-mod printing;
-mod wrong_libraries;
+use crate::printing;
+use crate::wrong_libraries;
 
 use peer::check_corners::lowest_other;
 use peer::compare::list_difference;

@@ -1,7 +1,7 @@
 //! Bully machines and boundaries that are wrong on purpose: the fuzzer finds each of them, and the claims
 //! alone find those that break them.
 
-mod functions;
+use crate::functions;
 
 use functions::Functions;
 use peer::bully::bytes::{bully_step_by, first_event, TABLE_BYTES};

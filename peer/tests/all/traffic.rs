@@ -3,8 +3,7 @@
 //! purpose. The boundary is that of this program's own machine, and of the proved library where it is
 //! linked.
 
-mod functions;
-mod wrong_libraries;
+use crate::wrong_libraries;
 
 use peer::compare::{list_difference, run_difference, walk_difference};
 use peer::drive::{any_manner, pick};

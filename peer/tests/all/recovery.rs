@@ -3,8 +3,8 @@
 //! purpose. The boundary is that of this program's own machine, and of the proved library where it is
 //! linked.
 
-mod functions;
-mod other_forms;
+use crate::functions;
+use crate::other_forms;
 
 use functions::Functions;
 use other_forms::in_another_form;

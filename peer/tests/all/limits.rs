@@ -2,9 +2,9 @@
 //! that read the limits, the bytes of a table, the random tables of the fuzzer, and libraries that are wrong on
 //! purpose. The boundary is that of this program's own machine, and of the proved library where it is linked.
 
-mod functions;
-mod printing;
-mod wrong_libraries;
+use crate::functions;
+use crate::printing;
+use crate::wrong_libraries;
 
 use functions::Functions;
 use peer::compare::{list_difference, run_difference, shortest_run, tell_walk, walk_difference};

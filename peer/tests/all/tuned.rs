@@ -1,7 +1,7 @@
 //! The program written for speed prints what the machine prints: on random runs, damaged lists, short ones
 //! of every n, and into every room. The fuzzer compares it on each of its lists too.
 
-mod common;
+use crate::common;
 
 use common::{invited_twice, LATE, NODES};
 use peer::compare::printed_difference;

@@ -1,7 +1,7 @@
 //! The judgement of turns and the bound of T-09: whatever must not follow is told, though there is nothing to
 //! compare it with.
 
-mod functions;
+use crate::functions;
 
 use functions::Functions;
 use peer::compare::Lent;

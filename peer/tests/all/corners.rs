@@ -2,8 +2,8 @@
 //! comes to its receiver, those of T-04 where the records of a recovery are asked for, those of T-05 where
 //! messages are counted, and those of T-06 where a node checks or a list with checks is printed.
 
-mod common;
-mod met_corners;
+use crate::common;
+use crate::met_corners;
 
 use common::{invited_twice, LATE, NODES};
 use met_corners::met_corners;

@@ -1,7 +1,7 @@
 //! The corners of T-08 are counted where they are met, and nowhere else, and what the papers have no place for is
 //! told.
 
-mod met_corners;
+use crate::met_corners;
 
 use met_corners::met_corners;
 use peer::compare::{recovery_difference, run_difference, walk_difference};
