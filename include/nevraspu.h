@@ -20,8 +20,7 @@
  *   - a field is read alone: bytes behind it are not looked at;
  *   - a message has nothing behind it, else it is none;
  *   - with a length of 0 no byte is read or written there, and the call is answered like any
- *     other: no bytes at all are a field cut short (3), no message (20), an `out` that is too
- *     short (255). NULL with a length of 0 was tried with every function, with these answers.
+ *     other: no bytes at all are a field cut short and no message.
  *
  * Where a function answers a number of enum nevraspu_answer, any number but 0 leaves `out` as it
  * was, and what `out` has behind the bytes that are named here is never changed.
@@ -81,7 +80,7 @@ enum nevraspu_answer {
     NEVRASPU_ACCEPTED = 0,
     NEVRASPU_NOT_IN_RANGE = 1,     /* the table, or a controller's n, own number or record */
     NEVRASPU_CUT_SHORT = 3,        /* a field has fewer bytes than it says, or there are none */
-    NEVRASPU_WRONG_TAG = 4,        /* the field's tag is no event's */
+    NEVRASPU_WRONG_TAG = 4,        /* the field's tag is no event of this function */
     NEVRASPU_WRONG_LENGTH = 5,     /* the field's length is wrong for its tag */
     NEVRASPU_WRONG_NUMBER = 7,     /* a cabinet outside 1 to n, or sender equals receiver */
     NEVRASPU_WRONG_TASK = 8,       /* finish with a task outside 100 to 65,535 */

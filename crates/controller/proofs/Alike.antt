@@ -4,41 +4,41 @@ use native.Mathlib.Omega.{arith}
 use mathlib.Core.Bool.{Bool, true, false, not, _&&_, true≢false}
 use mathlib.Core.Path.{_≡_, refl, sym, _∙_, ap}
 use mathlib.Core.Logic.{_⊎_, inl, inr, ⊎-elim}
-use mathlib.Core.List.{List, [], _∷_, _++_, map, append-nil}
+use mathlib.Core.List.{List, [], _∷_, map, append-nil}
 use lib.Dec.{eqb, leb}
-use lib.ListN.{length, set}
+use lib.ListN.{length}
 use lib.Seq.{set-getD}
-use borrow.Author.Tests.{eqb-true, eq-eqb, le-leb, leb-true, not-true, not-false}
+use borrow.Author.Tests.{eqb-true, eq-eqb, le-leb, leb-true, not-false}
 use Rattle.model.specs.Pick.{pick, pick-true, pick-false}
 use Rattle.model.specs.Limits.{counterEnd, callEnd}
 use Rattle.model.specs.Grounds.{Ground, ground, judged, NoneApplies}
 use Rattle.model.specs.Node.{isDown}
-use Rattle.model.specs.Range.{isNode, isPair, isOther, nodeInRange, messageInRange}
+use Rattle.model.specs.Range.{isNode, isPair, messageInRange}
 use Rattle.model.specs.React.{react}
-use Rattle.model.specs.State.{State, startingNode, nodeAt, goes, waits, oldest, withoutOldest, inRange}
+use Rattle.model.specs.State.{State, nodeAt, waits, oldest, withoutOldest, inRange}
 use Rattle.model.specs.Step as table
 use Rattle.model.specs.Step.{actor, reactionTo, remaining, sent, effect, wrongNumber, wrongTask, wrongStatus, wrongActivity, notCoordinator, noMajority, noneWaits, forms, isCalling, isSending, pairAtEnd, grounds, step}
 use Rattle.model.proofs.Grounds.{judged-map, judged-none, judged-same}
 use Rattle.model.proofs.Judged.{met, passed, ended-clear}
+use Rattle.model.proofs.Lists.{map-append}
 use Rattle.model.proofs.Local.{both-left, both-right}
 use Rattle.model.proofs.Range.{is-other}
 use Rattle.model.proofs.Fields.{message-facts, in-range-node, in-range-size, in-range-queue, in-range-oldest, oldest-goes}
-use Rattle.model.specs.declared.Node.{Node}
 use Rattle.model.specs.declared.Message.{Message}
 use Rattle.model.specs.declared.Outgoing.{Outgoing}
 use Rattle.model.specs.declared.Outgoing.the-variants.{Nothing, Send}
 use Rattle.model.specs.declared.Input.the-variants.{Receive}
 use Rattle.model.specs.declared.Event.{Event}
 use Rattle.model.specs.declared.Event.the-variants as Event
-use Rattle.message_fields.specs.Fields.{fields, messageIn, isMessage, carried}
+use Rattle.message_fields.specs.Fields.{fields, messageIn, carried}
 use Rattle.message_fields.proofs.RoundTrip.{widths, message-back, fields-message}
 use Rattle.controller.specs.declared.LocalEvent.{LocalEvent}
 use Rattle.controller.specs.declared.LocalEvent.the-variants.{Crash, Recover, Check, Timeout, Tick, Expire, Finish}
 use Rattle.controller.specs.Controller as controller
-use Rattle.controller.specs.Controller.{Incoming, event, message, asEvent, eventOf, inputOf, inputIn, reactionIn, sentBytes, inRangeFor, wrongNumberIn, wrongTaskIn, wrongMessage, isForOther, controllerGrounds, controllerStep}
-use Rattle.controller.specs.Network.{Controllers, atController, Network, recordAt, networkOf, waitsIn, oldestIn, withoutIn, asQueued, Result, refused, accepted, stored, isFull, answeredBy, controllerFor, stepBy, networkStep}
+use Rattle.controller.specs.Controller.{Incoming, event, message, asEvent, eventOf, inputOf, reactionIn, sentBytes, inRangeFor, wrongNumberIn, wrongTaskIn, wrongMessage, isForOther, controllerGrounds, controllerStep}
+use Rattle.controller.specs.Network.{Controllers, atController, Network, networkOf, waitsIn, withoutIn, Result, refused, accepted, stored, answeredBy, stepBy, networkStep}
 use Rattle.controller.specs.Claims.{resultOf, belongsToQueue, incomingAt, answerAt, AnswersAsTable}
-use Rattle.controller.proofs.Queue.{waits-bytes, oldest-bytes, without-bytes, queued-sent, map-append, full-is}
+use Rattle.controller.proofs.Queue.{waits-bytes, oldest-bytes, without-bytes, queued-sent, full-is}
 use Rattle.controller.proofs.Carried.{react-carried}
 
 -- the record of a node of a table in range is in range for its controller
@@ -100,7 +100,7 @@ module _ (s : State) (e : Event) where
     -- the network with the controller's record and message is that of the table after the event
     stored-is : stored (networkOf s) (actor e) (map fields (remaining s e)) (reactionTo s e .node) (sentBytes (reactionTo s e .outgoing)) ≡ networkOf (effect s e)
     unfolding effect
-    stored-is = rw (map-append (remaining s e) (sent (reactionTo s e .outgoing)), queued-sent (reactionTo s e .outgoing))
+    stored-is = rw (map-append fields (remaining s e) (sent (reactionTo s e .outgoing)), queued-sent (reactionTo s e .outgoing))
 
     module _ (free : step s e ≡ table.refused 17 → ⊥) where
       behind : NoneApplies shared → answeredBy (networkOf s) (actor e) (map fields (remaining s e)) acts ≡ resultOf queued

@@ -8,30 +8,28 @@ use mathlib.Core.List.{List, [], _∷_, map}
 use lib.Dec.{eqb, leb}
 use lib.ListN.{length}
 use borrow.Author.Tests.{eqb-true, eqb-false, leb-true, not-true, not-false}
-use Rattle.model.specs.Pick.{pick}
 use Rattle.model.specs.Limits.{nodeLimit, counterEnd, callEnd}
-use Rattle.model.specs.Grounds.{NoneApplies, judged}
-use Rattle.model.specs.Range.{isNode, nodeInRange, messageInRange, isGivenTask}
+use Rattle.model.specs.Grounds.{NoneApplies}
+use Rattle.model.specs.Range.{isNode, isGivenTask}
 use Rattle.model.specs.State.{isCount}
 use Rattle.model.specs.Claims.{FirstApplies}
 use Rattle.model.specs.React.{react}
-use Rattle.model.specs.Step.{actor, wrongTask, wrongStatus, forms, isCalling}
+use Rattle.model.specs.Step.{wrongTask, wrongStatus}
 use Rattle.model.proofs.Fields.{given-is, node-facts, message-facts}
 use Rattle.model.proofs.Grounds.{judged-none, judged-each, first-refuses, first-applies, not-refused}
 use Rattle.model.proofs.Local.{both-left, both-right}
-use Rattle.model.proofs.Range.{Numbered, ReactionIn, OutgoingIn, InputIn, Room, react-in, both}
+use Rattle.model.proofs.Range.{Numbered, ReactionIn, OutgoingIn, InputIn, react-in, both}
 use Rattle.model.proofs.Due.{From, react-within}
 use Rattle.model.specs.declared.Node.{Node}
 use Rattle.model.specs.declared.Message.{Message}
 use Rattle.model.specs.declared.Outgoing.{Outgoing}
 use Rattle.model.specs.declared.Outgoing.the-variants.{Nothing, Send}
-use Rattle.model.specs.declared.Reaction.{Reaction}
-use Rattle.message_fields.specs.Fields.{fields, mostBytes, messageIn, isMessage, carried}
+use Rattle.message_fields.specs.Fields.{mostBytes, messageIn, isMessage, carried}
 use Rattle.message_fields.proofs.Forms.{at-most}
 use Rattle.message_fields.proofs.RoundTrip.{widths, message-back, fields-message, its-range}
 use Rattle.controller.specs.declared.LocalEvent.{LocalEvent}
 use Rattle.controller.specs.declared.LocalEvent.the-variants.{Crash, Recover, Check, Timeout, Tick, Expire, Finish}
-use Rattle.controller.specs.Controller.{Incoming, event, message, asEvent, eventOf, inputOf, inputIn, reactionIn, sentBytes, inRangeFor, isForOther, controllerGrounds, Result, refused, accepted, controllerStep, resultNumber, sentIn}
+use Rattle.controller.specs.Controller.{Incoming, event, message, asEvent, inputOf, inputIn, reactionIn, sentBytes, inRangeFor, controllerGrounds, Result, refused, accepted, controllerStep, resultNumber, sentIn}
 use Rattle.controller.specs.Claims.{ControllerRefuses, ControllerStaysInRange}
 
 -- ── results ──
@@ -45,8 +43,8 @@ accepted-same : {c d : Node} {k l : List ℕ} → accepted c k ≡ accepted d l 
 accepted-same q = (cc, cc)
 
 -- not 11, 14 or 17, nor 0
-abbrev notQueues : ℕ → Bool
-notQueues k = not (eqb k 11) && (not (eqb k 14) && (not (eqb k 17) && not (eqb k 0)))
+abbrev isNoQueueNumber : ℕ → Bool
+isNoQueueNumber k = not (eqb k 11) && (not (eqb k 14) && (not (eqb k 17) && not (eqb k 0)))
 
 module _ (n i : ℕ) (c : Node) (x : Incoming) where
   abbrev acts : Result
@@ -91,7 +89,7 @@ module _ (n i : ℕ) (c : Node) (x : Incoming) where
       differs : (k j : ℕ) → not (eqb k j) ≡ true → refused k ≡ refused r → r ≡ j → ⊥
       differs k j h q z = eqb-false k j (not-true (eqb k j) h) (refused-same k r q ∙ z)
 
-      other : (k : ℕ) → notQueues k ≡ true → refused k ≡ refused r → (r ≡ 11 → ⊥) × ((r ≡ 14 → ⊥) × ((r ≡ 17 → ⊥) × (r ≡ 0 → ⊥)))
+      other : (k : ℕ) → isNoQueueNumber k ≡ true → refused k ≡ refused r → (r ≡ 11 → ⊥) × ((r ≡ 14 → ⊥) × ((r ≡ 17 → ⊥) × (r ≡ 0 → ⊥)))
       other k h q =
           let a = both-right (not (eqb k 11)) _ h in
           let b = both-right (not (eqb k 14)) _ a in

@@ -1,4 +1,4 @@
--- What a node does with a message depends on nothing that its kind does not carry; and what it sends holds nothing of the kind.
+-- What a node does with a message depends on nothing that its kind does not carry; and what a node sends has 0, or no, there.
 use Prim.Native.Nat.{ℕ, _+_}
 use mathlib.Core.Bool.{Bool, true, false}
 use mathlib.Core.Path.{_≡_, refl}

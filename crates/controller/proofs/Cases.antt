@@ -1,4 +1,4 @@
--- The single steps and the story, computed over the definitions.
+-- The single steps and K10, computed over the definitions.
 use mathlib.Core.Path.{refl}
 use lib.Count.{onesIn, ones, leadingZeros}
 use Rattle.model.specs.Pick.{pick}

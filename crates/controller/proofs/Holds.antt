@@ -1,25 +1,26 @@
 -- Demand 3 of every run of n controllers over one queue, and its range: by composition of the theorem with what is shown of the table's runs.
 use Prim.Native.Nat.{ℕ, _+_, _≤_}
 use native.Mathlib.Omega.{arith}
-use mathlib.Core.Bool.{Bool, true, false, true≢false}
+use mathlib.Core.Bool.{Bool, true, false}
 use mathlib.Core.Path.{_≡_, refl, sym, _∙_, ap, subst}
-use mathlib.Core.Logic.{_⊎_, inl, inr, ⊎-elim}
+use mathlib.Core.Logic.{_⊎_, ⊎-elim}
 use mathlib.Core.List.{List, [], _∷_, _++_, map}
-use lib.ListN.{length}
+use lib.ListN.{length-map}
 use borrow.Author.Tests.{le-leb, not-false}
-use Rattle.model.specs.Pick.{pick, pick-true}
+use Rattle.model.specs.Pick.{pick}
 use Rattle.model.specs.Limits.{nodeLimit}
 use Rattle.model.specs.Range.{LeftOut, nodeInRange, messageInRange}
-use Rattle.model.specs.State.{State, startBy, nodeAt, goes, waits, oldest, withoutOldest, every, inRange}
+use Rattle.model.specs.State.{State, startBy, nodeAt, goes, waits, withoutOldest, every, inRange}
 use Rattle.model.specs.Step as table
-use Rattle.model.specs.Step.{actor, reactionTo, remaining, sent, effect, noneWaits, forms, step, after, runFrom}
+use Rattle.model.specs.Step.{actor, reactionTo, remaining, sent, effect, forms, step, after, runFrom}
 use Rattle.model.specs.Claims.{Unsent, Lacks, EachGroup, MayStart, RunHolds}
 use Rattle.model.proofs.Fields.{in-range-size, in-range-own, in-range-queue, in-range-node}
 use Rattle.model.proofs.InRange.{stays-in-range}
-use Rattle.model.proofs.Judged.{Clear, Accepted, accepted-is, accepted-apart, by-reaction, by-step}
+use Rattle.model.proofs.Judged.{Clear, accepted-is, by-reaction, by-step}
 use Rattle.model.proofs.Local.{both-left, both-right}
 use Rattle.model.proofs.Refusals.{refuses-by-ground}
 use Rattle.model.proofs.TowerAndStand.{tower-and-stand}
+use Rattle.model.proofs.Whole.{effect-n}
 use Rattle.model.proofs.Traffic.{run-n, run-limits}
 use Rattle.model.specs.declared.Limits.{Limits}
 use Rattle.model.specs.declared.Node.{Node}
@@ -30,15 +31,15 @@ use Rattle.model.specs.declared.Mark.{Mark}
 use Rattle.model.specs.declared.Reaction.{Reaction}
 use Rattle.model.specs.declared.Event.{Event}
 use Rattle.model.specs.declared.Event.the-variants as Event
-use Rattle.message_fields.specs.Fields.{fields, messageIn, isMessage, carried}
+use Rattle.message_fields.specs.Fields.{fields, messageIn, carried}
 use Rattle.message_fields.proofs.RoundTrip.{widths, message-back, fields-message}
 use Rattle.controller.specs.Controller.{Incoming, reactionIn, controllerStep}
-use Rattle.controller.specs.Network.{Network, recordAt, startNetwork, networkOf, oldestIn, Result, refused, accepted, Controllers, stepBy, networkAfter, runBy, networkStep, networkRun}
-use Rattle.controller.specs.Claims.{resultOf, belongsToQueue, formsAt, EachGroupIn, UnsentIn, LacksIn, historyOf, NetworkFixes, EachMessage, NetworkInRange}
-use Rattle.controller.proofs.Queue.{oldest-bytes, map-length}
+use Rattle.controller.specs.Network.{Network, startNetwork, networkOf, Result, refused, accepted, Controllers, stepBy, networkAfter, runBy, networkStep}
+use Rattle.controller.specs.Claims.{resultOf, formsAt, EachGroupIn, UnsentIn, LacksIn, NetworkFixes, EachMessage, NetworkInRange}
+use Rattle.controller.proofs.Queue.{oldest-bytes}
 use Rattle.controller.proofs.Carried.{SentCarried, sends-carried}
-use Rattle.controller.proofs.Alike.{same, deliver-reacts, answers-as-table}
-use Rattle.controller.proofs.Runs.{runs, run-range, run-free}
+use Rattle.controller.proofs.Alike.{deliver-reacts}
+use Rattle.controller.proofs.Runs.{network-or, runs, run-range, run-free}
 
 -- ── in a run every message holds what its kind carries, and nothing else ──
 abbrev AllCarried : List Message → Type 0
@@ -143,28 +144,8 @@ module _ (s : State) (e : Event) (u : Network) where
   as-table : networkStep (networkOf s) e ≡ resultOf (step s e) → networkStep (networkOf s) e ≡ accepted u → AcceptedAs s e u
   as-table q h = by-table (step s e) refl (sym q ∙ h)
 
--- the network answers as the table, or, where nothing waits, its queue refuses with 11
-network-or : (s : State) → inRange s ≡ true → (e : Event) → (step s e ≡ table.refused 17 → ⊥) → (networkStep (networkOf s) e ≡ resultOf (step s e)) ⊎ (networkStep (networkOf s) e ≡ refused 11)
-network-or s ok (Event.Crash i) f = inl (same s ok (Event.Crash i) refl f)
-network-or s ok (Event.Recover i) f = inl (same s ok (Event.Recover i) refl f)
-network-or s ok (Event.Check i) f = inl (same s ok (Event.Check i) refl f)
-network-or s ok (Event.Timeout i) f = inl (same s ok (Event.Timeout i) refl f)
-network-or s ok (Event.Tick i) f = inl (same s ok (Event.Tick i) refl f)
-network-or s ok (Event.Expire i) f = inl (same s ok (Event.Expire i) refl f)
-network-or s ok (Event.Finish i t) f = inl (same s ok (Event.Finish i t) refl f)
-network-or s ok (Event.Deliver a b) f = by (waits a b (s .queue)) refl
-  where
-    by : (t : Bool) → waits a b (s .queue) ≡ t → (networkStep (networkOf s) (Event.Deliver a b) ≡ resultOf (step s (Event.Deliver a b))) ⊎ (networkStep (networkOf s) (Event.Deliver a b) ≡ refused 11)
-    by true w = inl (same s ok (Event.Deliver a b) (rw w) f)
-    by false w = inr (answers-as-table .none-waits s a b ok w .0)
-network-or s ok (Event.Lose a b) f = by (waits a b (s .queue)) refl
-  where
-    by : (t : Bool) → waits a b (s .queue) ≡ t → (networkStep (networkOf s) (Event.Lose a b) ≡ resultOf (step s (Event.Lose a b))) ⊎ (networkStep (networkOf s) (Event.Lose a b) ≡ refused 11)
-    by true w = inl (answers-as-table .lose s a b ok w)
-    by false w = inr (answers-as-table .none-waits s a b ok w .1)
-
 accepted-as : (s : State) → inRange s ≡ true → (e : Event) → (step s e ≡ table.refused 17 → ⊥) → (u : Network) → networkStep (networkOf s) e ≡ accepted u → AcceptedAs s e u
-accepted-as s ok e f u h = ⊎-elim (λ q. as-table s e u q h) (λ q. absurd (refused-accepted (sym q ∙ h))) (network-or s ok e f)
+accepted-as s ok e f u h = ⊎-elim (λ q. as-table s e u q h) (λ q. absurd (refused-accepted (sym (q .network) ∙ h))) (network-or s ok e f)
 
 -- and forms a group in the one where it does in the other
 forms-by : (s : State) (e : Event) → Clear s e → formsAt (networkOf s) e ≡ forms (reactionTo s e .mark)
@@ -184,10 +165,6 @@ forms-by s (Event.Lose a b) c = refl
 
 forms-is : (s : State) (e : Event) (v : State) (k : Mark) → step s e ≡ table.accepted v k → formsAt (networkOf s) e ≡ forms k
 forms-is s e v k q = let a = accepted-is s e v k q in forms-by s e (a .clear) ∙ ap forms (sym (a .mark))
-
-effect-n : (s : State) (e : Event) → effect s e .n ≡ s .n
-unfolding effect
-effect-n s e = refl
 
 -- the number of a refusal by the table
 number-of : {r q : ℕ} → refused r ≡ refused q → r ≡ q
@@ -295,15 +272,12 @@ module _ (f : Controllers) (same-answer : (n i : ℕ) (c : Node) (x : Incoming) 
         (λ q.
         let t = table-refuses (step (tableOf es) e) (sym q ∙ h) in
         let m = refuses-by-ground .numbers (tableOf es) e r t in
-        (λ z. holds .never-one es e (t ∙ ap table.refused z), (λ z. too-high r z m, λ z. too-higher r z m)))
-        (λ q. let k = number-of (sym h ∙ q) in (λ z. omega (arith, k, z), (λ z. omega (arith, k, z), λ z. omega (arith, k, z))))
+        (λ z. holds .never-one es e (t ∙ ap table.refused z), (λ z. too-high r (omega (arith, z)) m, λ z. too-high r (omega (arith, z)) m)))
+        (λ q. let k = number-of (sym h ∙ q .network) in (λ z. omega (arith, k, z), (λ z. omega (arith, k, z), λ z. omega (arith, k, z))))
         (network-or (tableOf es) (ok es) e (free es e))
       where
-        too-high : (x : ℕ) → x ≡ 20 → (x ≡ 1) ⊎ (((7 ≤ x) × (x ≤ 14)) ⊎ ((17 ≤ x) × (x ≤ 19))) → ⊥
+        too-high : (x : ℕ) → 20 ≤ x → (x ≡ 1) ⊎ (((7 ≤ x) × (x ≤ 14)) ⊎ ((17 ≤ x) × (x ≤ 19))) → ⊥
         too-high x z = ⊎-elim (λ k. omega (arith, z, k)) (⊎-elim (λ k. omega (arith, z, k .1)) (λ k. omega (arith, z, k .1)))
-
-        too-higher : (x : ℕ) → x ≡ 21 → (x ≡ 1) ⊎ (((7 ≤ x) × (x ≤ 14)) ⊎ ((17 ≤ x) × (x ≤ 19))) → ⊥
-        too-higher x z = ⊎-elim (λ k. omega (arith, z, k)) (⊎-elim (λ k. omega (arith, z, k .1)) (λ k. omega (arith, z, k .1)))
 
     pub network-in-range : NetworkInRange f n limit
     network-in-range =
@@ -312,7 +286,7 @@ module _ (f : Controllers) (same-answer : (n i : ℕ) (c : Node) (x : Incoming) 
           same-limit = λ es. rw (run-is es) (ap (λ (l : Limits). l .messages) (run-limits (startBy LeftOut n lim) es));
           as-many = λ es. rw (run-is es) (in-range-size (tableOf es) (ok es) .2 ∙ same-n es);
           records = λ es i l h. rw (run-is es) (ap (λ (m : ℕ). nodeInRange m i (nodeAt (tableOf es) i)) (sym (same-n es)) ∙ in-range-node (tableOf es) i (ok es) l (omega (arith, h, same-n es)));
-          room = λ es. rw (run-is es) (omega (arith, map-length (tableOf es .queue), in-range-own (tableOf es) (ok es) .1, ap (λ (l : Limits). l .messages) (run-limits (startBy LeftOut n lim) es)));
+          room = λ es. rw (run-is es) (omega (arith, length-map (tableOf es .queue) fields, in-range-own (tableOf es) (ok es) .1, ap (λ (l : Limits). l .messages) (run-limits (startBy LeftOut n lim) es)));
           messages = λ es. rw (run-is es) (subst (λ (m : ℕ). EachMessage m (map fields (tableOf es .queue))) (same-n es) (each-message (tableOf es .n) (in-range-size (tableOf es) (ok es) .1) 1 (tableOf es .queue) (in-range-queue (tableOf es) (ok es))));
           never = λ es e r h. never-by es e r (sym (step-as (networkOf (tableOf es)) e) ∙ (rw (run-is es) at h));
         }

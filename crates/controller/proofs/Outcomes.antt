@@ -1,22 +1,17 @@
 -- An outcome that meets the promise is the definition's result, and there are such outcomes; and the corollary: the claims `ControllersHold`.
-use Prim.Native.Nat.{ℕ, _≤_}
-use mathlib.Core.Bool.{true, false}
-use mathlib.Core.Path.{_≡_, refl, sym, _∙_, ap}
-use mathlib.Core.List.{List, []}
+use Prim.Native.Nat.{ℕ}
+use mathlib.Core.Bool.{false}
+use mathlib.Core.Path.{_≡_, refl}
 use lib.Dec.{eqb}
 use lib.ListN.{length, take}
-use borrow.Author.Tests.{ne-eqb, eq-eqb}
 use Rattle.model.specs.Pick.{pick, pick-true, pick-false}
-use Rattle.model.specs.Answers.{answerNumber, isAccepted}
-use Rattle.model.proofs.Answers.{zero-accepted}
+use Rattle.model.specs.Answers.{answerNumber}
+use Rattle.model.proofs.Answers.{zero-accepted, answerOf}
 use Rattle.model.specs.declared.Node.{Node}
 use Rattle.model.specs.declared.Outgoing.{Outgoing}
 use Rattle.model.specs.declared.Outgoing.the-variants.{Nothing, Send}
-use Rattle.model.specs.declared.Answer.{Answer}
-use Rattle.model.specs.declared.Answer.the-variants.{Accepted, NotInRange, WrongNumber, WrongTask, WrongMessage, OtherNode, WrongStatus, WrongActivity, NotCoordinator, NoMajority, CounterAtEnd, CallsAtEnd}
-use Rattle.message_fields.specs.declared.Packet.{Packet}
 use Rattle.message_fields.specs.Fields.{padded}
-use Rattle.message_fields.specs.Parts.{Packed}
+use Rattle.message_fields.specs.Fields.{Packed}
 use Rattle.message_fields.proofs.Forms.{unpacked}
 use Rattle.controller.specs.declared.ControllerOutcome.{ControllerOutcome}
 use Rattle.controller.specs.Controller.{Incoming, reactionIn, sentBytes, Result, refused, accepted, controllerStep, resultNumber, nodeAfter, sentIn}
@@ -46,24 +41,9 @@ stepped-result n i c x r =
     (acceptance c r (reactionIn n i c x .node) (reactionIn n i c x .outgoing))
 
 -- ── there are such ──
-answerOf : ℕ → Answer
-answerOf k =
-    pick (eqb k 1) NotInRange
-    (pick (eqb k 7) WrongNumber
-    (pick (eqb k 8) WrongTask
-    (pick (eqb k 20) WrongMessage
-    (pick (eqb k 21) OtherNode
-    (pick (eqb k 9) WrongStatus
-    (pick (eqb k 10) WrongActivity
-    (pick (eqb k 18) NotCoordinator
-    (pick (eqb k 19) NoMajority
-    (pick (eqb k 12) CounterAtEnd
-    (pick (eqb k 13) CallsAtEnd
-    Accepted))))))))))
-
-answer-back : (n i : ℕ) (c : Node) (x : Incoming) → answerNumber (answerOf (resultNumber (controllerStep n i c x))) ≡ resultNumber (controllerStep n i c x)
+number-back : (n i : ℕ) (c : Node) (x : Incoming) → answerNumber (answerOf (resultNumber (controllerStep n i c x))) ≡ resultNumber (controllerStep n i c x)
 unfolding answerOf pick
-answer-back n i c x = by-number n i c x (λ (y : Result). answerNumber (answerOf (resultNumber y)) ≡ resultNumber y) refl refl refl refl refl refl refl refl refl refl refl refl
+number-back n i c x = by-number n i c x (λ (y : Result). answerNumber (answerOf (resultNumber y)) ≡ resultNumber y) refl refl refl refl refl refl refl refl refl refl refl refl
 
 some-outcome : Outcomes
 some-outcome n i c x =
@@ -75,7 +55,7 @@ some-outcome n i c x =
 
 some-meets : MeetsPromise some-outcome
 unfolding some-outcome
-some-meets n i c x = record { answer = answer-back n i c x; node = refl; packet = record { bytes = refl; length = refl } }
+some-meets n i c x = record { answer = number-back n i c x; node = refl; packet = record { bytes = refl; length = refl } }
 
 pub controllers-hold : ControllersHold
 controllers-hold =

@@ -1,11 +1,11 @@
 -- A queue of messages in bytes does as a queue of messages: who waits, the oldest, the queue without it; and what is sent.
-use Prim.Native.Nat.{ℕ, suc, _+_, _≤_}
+use Prim.Native.Nat.{ℕ, _+_, _≤_}
 use mathlib.Core.Bool.{Bool, true, false, _&&_, _||_, true≢false}
-use mathlib.Core.Path.{_≡_, refl, sym, _∙_, ap}
-use mathlib.Core.List.{List, [], _∷_, _++_, map}
+use mathlib.Core.Path.{_≡_, refl, sym, ap}
+use mathlib.Core.List.{List, [], _∷_, map}
 use lib.Dec.{eqb}
-use lib.ListN.{length}
-use Rattle.model.specs.Pick.{pick, pick-true, pick-false}
+use lib.ListN.{length, length-map}
+use Rattle.model.specs.Pick.{pick}
 use Rattle.model.specs.Range.{messageInRange}
 use Rattle.model.specs.State.{goes, waits, oldest, withoutOldest, every}
 use Rattle.model.specs.Step.{sent, isSending}
@@ -54,14 +54,6 @@ pub queued-sent : (o : Outgoing) → asQueued (sentBytes o) ≡ map fields (sent
 queued-sent Nothing = refl
 queued-sent (Send m) = has-bytes m (λ (l : List ℕ). asQueued l ≡ l ∷ []) (λ x l. refl)
 
-pub map-append : (p q : List Message) → map fields (p ++ q) ≡ map fields p ++ map fields q
-map-append [] q = refl
-map-append (m ∷ p) q = ap (λ (l : List (List ℕ)). fields m ∷ l) (map-append p q)
-
-pub map-length : (q : List Message) → length (map fields q) ≡ length q
-map-length [] = refl
-map-length (m ∷ q) = ap suc (map-length q)
-
 pub full-is : (limit : ℕ) (q : List Message) (o : Outgoing) → isFull limit (map fields q) (asQueued (sentBytes o)) ≡ isSending o && eqb (length q) limit
 full-is limit q Nothing = refl
-full-is limit q (Send m) = has-bytes m (λ (l : List ℕ). isFull limit (map fields q) (asQueued l) ≡ eqb (length q) limit) (λ x l. ap (λ (k : ℕ). eqb k limit) (map-length q))
+full-is limit q (Send m) = has-bytes m (λ (l : List ℕ). isFull limit (map fields q) (asQueued l) ≡ eqb (length q) limit) (λ x l. ap (λ (k : ℕ). eqb k limit) (length-map q fields))

@@ -1,8 +1,8 @@
 -- Lists of events lead n controllers over one queue to the records and messages of the table: the claims `RunsAsTable`.
 use Prim.Native.Nat.{ℕ}
 use mathlib.Core.Bool.{Bool, true, false}
-use mathlib.Core.Path.{_≡_, refl, sym, _∙_, ap}
-use mathlib.Core.Logic.{⊎-elim}
+use mathlib.Core.Path.{_≡_, refl}
+use mathlib.Core.Logic.{_⊎_, inl, inr, ⊎-elim}
 use mathlib.Core.List.{List, [], _∷_}
 use Rattle.model.specs.Range.{PairRule}
 use Rattle.model.specs.State.{State, startBy, waits, inRange}
@@ -16,57 +16,49 @@ use Rattle.model.specs.declared.Event.{Event}
 use Rattle.model.specs.declared.Event.the-variants as Event
 use Rattle.controller.specs.Controller.{controllerStep}
 use Rattle.controller.specs.Network.{networkOf, refused, networkAfter, runBy, networkStep, networkRun}
-use Rattle.controller.specs.Claims.{resultOf, belongsToQueue, NeverSeventeen, RunsAsTable}
+use Rattle.controller.specs.Claims.{resultOf, NeverSeventeen, RunsAsTable}
 use Rattle.controller.proofs.Alike.{same, answers-as-table}
 
-module _ (s : State) (ok : inRange s ≡ true) where
-  by-result : (x : table.Result) → networkAfter (networkOf s) (resultOf x) ≡ networkOf (table.kept s x)
-  by-result (table.refused r) = refl
-  by-result (table.accepted u k) = refl
+by-result : (s : State) (x : table.Result) → networkAfter (networkOf s) (resultOf x) ≡ networkOf (table.kept s x)
+by-result s (table.refused r) = refl
+by-result s (table.accepted u k) = refl
 
-  -- a refusal of both leaves both
-  both-refuse : (e : Event) {r q : ℕ} → networkStep (networkOf s) e ≡ refused r → step s e ≡ table.refused q → networkAfter (networkOf s) (networkStep (networkOf s) e) ≡ networkOf (after s e)
-  both-refuse e h k = rw (h, k)
+-- where nothing waits, the queue refuses with 11, and so does the table, by 7, 9 or 11
+pub record BothRefuse (s : State) (e : Event) : Type 0 where
+  pub network : networkStep (networkOf s) e ≡ refused 11
+  pub number : ℕ
+  pub refuses : step s e ≡ table.refused number
 
-  module _ (a b : ℕ) (w : waits a b (s .queue) ≡ false) where
-    none-deliver : networkAfter (networkOf s) (networkStep (networkOf s) (Event.Deliver a b)) ≡ networkOf (after s (Event.Deliver a b))
-    none-deliver =
+both-refuse : (s : State) (e : Event) (r : ℕ) → networkStep (networkOf s) e ≡ refused 11 → step s e ≡ table.refused r → BothRefuse s e
+both-refuse s e r h k = record { network = h; number = r; refuses = k }
+
+-- the network answers as the table, or nothing waits
+pub network-or : (s : State) → inRange s ≡ true → (e : Event) → (step s e ≡ table.refused 17 → ⊥) → (networkStep (networkOf s) e ≡ resultOf (step s e)) ⊎ BothRefuse s e
+network-or s ok (Event.Crash i) f = inl (same s ok (Event.Crash i) refl f)
+network-or s ok (Event.Recover i) f = inl (same s ok (Event.Recover i) refl f)
+network-or s ok (Event.Check i) f = inl (same s ok (Event.Check i) refl f)
+network-or s ok (Event.Timeout i) f = inl (same s ok (Event.Timeout i) refl f)
+network-or s ok (Event.Tick i) f = inl (same s ok (Event.Tick i) refl f)
+network-or s ok (Event.Expire i) f = inl (same s ok (Event.Expire i) refl f)
+network-or s ok (Event.Finish i t) f = inl (same s ok (Event.Finish i t) refl f)
+network-or s ok (Event.Deliver a b) f = by (waits a b (s .queue)) refl
+  where
+    by : (t : Bool) → waits a b (s .queue) ≡ t → (networkStep (networkOf s) (Event.Deliver a b) ≡ resultOf (step s (Event.Deliver a b))) ⊎ BothRefuse s (Event.Deliver a b)
+    by true w = inl (same s ok (Event.Deliver a b) (rw w) f)
+    by false w =
         let h = answers-as-table .none-waits s a b ok w .0 in
-        ⊎-elim (both-refuse (Event.Deliver a b) h) (⊎-elim (both-refuse (Event.Deliver a b) h) (both-refuse (Event.Deliver a b) h)) (answers-as-table .none-waits-deliver s a b ok w)
-
-    none-lose : networkAfter (networkOf s) (networkStep (networkOf s) (Event.Lose a b)) ≡ networkOf (after s (Event.Lose a b))
-    none-lose =
+        inr (⊎-elim (both-refuse s (Event.Deliver a b) 7 h) (⊎-elim (both-refuse s (Event.Deliver a b) 9 h) (both-refuse s (Event.Deliver a b) 11 h)) (answers-as-table .none-waits-deliver s a b ok w))
+network-or s ok (Event.Lose a b) f = by (waits a b (s .queue)) refl
+  where
+    by : (t : Bool) → waits a b (s .queue) ≡ t → (networkStep (networkOf s) (Event.Lose a b) ≡ resultOf (step s (Event.Lose a b))) ⊎ BothRefuse s (Event.Lose a b)
+    by true w = inl (answers-as-table .lose s a b ok w)
+    by false w =
         let h = answers-as-table .none-waits s a b ok w .1 in
-        ⊎-elim (both-refuse (Event.Lose a b) h) (both-refuse (Event.Lose a b) h) (answers-as-table .none-waits-lose s a b ok w)
+        inr (⊎-elim (both-refuse s (Event.Lose a b) 7 h) (both-refuse s (Event.Lose a b) 11 h) (answers-as-table .none-waits-lose s a b ok w))
 
-  as-table : (e : Event) → networkStep (networkOf s) e ≡ resultOf (step s e) → networkAfter (networkOf s) (networkStep (networkOf s) e) ≡ networkOf (after s e)
-  as-table e h = rw h (by-result (step s e))
-
-  deliver-after : (a b : ℕ) → (step s (Event.Deliver a b) ≡ table.refused 17 → ⊥) → networkAfter (networkOf s) (networkStep (networkOf s) (Event.Deliver a b)) ≡ networkOf (after s (Event.Deliver a b))
-  deliver-after a b free = by (waits a b (s .queue)) refl
-    where
-      by : (t : Bool) → waits a b (s .queue) ≡ t → networkAfter (networkOf s) (networkStep (networkOf s) (Event.Deliver a b)) ≡ networkOf (after s (Event.Deliver a b))
-      by true w = as-table (Event.Deliver a b) (same s ok (Event.Deliver a b) (rw w) free)
-      by false w = none-deliver a b w
-
-  lose-after : (a b : ℕ) → networkAfter (networkOf s) (networkStep (networkOf s) (Event.Lose a b)) ≡ networkOf (after s (Event.Lose a b))
-  lose-after a b = by (waits a b (s .queue)) refl
-    where
-      by : (t : Bool) → waits a b (s .queue) ≡ t → networkAfter (networkOf s) (networkStep (networkOf s) (Event.Lose a b)) ≡ networkOf (after s (Event.Lose a b))
-      by true w = as-table (Event.Lose a b) (answers-as-table .lose s a b ok w)
-      by false w = none-lose a b w
-
-  -- one event
-  pub after-is : (e : Event) → (step s e ≡ table.refused 17 → ⊥) → networkAfter (networkOf s) (networkStep (networkOf s) e) ≡ networkOf (after s e)
-  after-is (Event.Crash i) free = as-table (Event.Crash i) (same s ok (Event.Crash i) refl free)
-  after-is (Event.Recover i) free = as-table (Event.Recover i) (same s ok (Event.Recover i) refl free)
-  after-is (Event.Check i) free = as-table (Event.Check i) (same s ok (Event.Check i) refl free)
-  after-is (Event.Timeout i) free = as-table (Event.Timeout i) (same s ok (Event.Timeout i) refl free)
-  after-is (Event.Tick i) free = as-table (Event.Tick i) (same s ok (Event.Tick i) refl free)
-  after-is (Event.Expire i) free = as-table (Event.Expire i) (same s ok (Event.Expire i) refl free)
-  after-is (Event.Finish i t) free = as-table (Event.Finish i t) (same s ok (Event.Finish i t) refl free)
-  after-is (Event.Deliver a b) free = deliver-after a b free
-  after-is (Event.Lose a b) free = lose-after a b
+-- one event
+after-is : (s : State) → inRange s ≡ true → (e : Event) → (step s e ≡ table.refused 17 → ⊥) → networkAfter (networkOf s) (networkStep (networkOf s) e) ≡ networkOf (after s e)
+after-is s ok e f = ⊎-elim (λ h. rw h (by-result s (step s e))) (λ h. rw (h .network, h .refuses)) (network-or s ok e f)
 
 -- ── lists of events ──
 after-in : (s : State) (e : Event) → inRange s ≡ true → inRange (after s e) ≡ true

@@ -1,20 +1,20 @@
--- The controller's step by the tests of the code: which ground refuses, or what is left once none of the first does; and what outcome shows that.
+-- The controller's step by the tests of the code: which ground refuses, or what is left once none of the first does; and what outcome same-outcome that.
 use Prim.Native.Nat.{ℕ, _≤_}
 use native.Mathlib.Omega.{arith}
-use mathlib.Core.Bool.{Bool, true, false, not, _&&_}
-use mathlib.Core.Path.{_≡_, refl, sym, _∙_, ap}
-use mathlib.Core.List.{List, [], _∷_, _++_, append-nil}
+use mathlib.Core.Bool.{true, false, not}
+use mathlib.Core.Path.{_≡_, refl, _∙_, ap}
+use mathlib.Core.List.{List, _∷_, _++_}
 use lib.Dec.{eqb, leb}
 use borrow.Author.Tests.{eq-eqb, ne-eqb, leb-true}
 use Rattle.model.specs.Pick.{pick, pick-true, pick-false}
 use Rattle.model.specs.Limits.{nodeLimit}
 use Rattle.model.specs.Grounds.{Ground, ground, judged, first}
 use Rattle.model.specs.Answers.{answerNumber, isAccepted}
-use Rattle.model.specs.Range.{isNode, nodeInRange}
+use Rattle.model.specs.Range.{isNode}
 use Rattle.model.specs.React.{react}
 use Rattle.model.specs.State.{isCount}
 use Rattle.model.specs.Step.{actor}
-use Rattle.model.proofs.Answers.{accepted-zero, refused-some}
+use Rattle.model.proofs.Answers.{refused-some}
 use Rattle.model.proofs.Grounds.{first-met, judged-clear, judged-past, judged-first}
 use Rattle.model.proofs.Local.{both-left, both-right}
 use Rattle.model.specs.declared.Answer.{Answer}
@@ -115,9 +115,9 @@ module _ (n i : ℕ) (c : Node) where
 
 -- ── outcomes ──
 
--- one that shows a result shows what is equal to it
-pub shows : {c : Node} {y z : Result} {r : ControllerOutcome} → z ≡ y → OutcomeOf c y r → OutcomeOf c z r
-shows e s = rw e s
+-- one that same-outcome a result same-outcome what is equal to it
+pub same-outcome : {c : Node} {y z : Result} {r : ControllerOutcome} → z ≡ y → OutcomeOf c y r → OutcomeOf c z r
+same-outcome e s = rw e s
 
 -- the code's test of an answer that is not accepted
 pub some-number : (a : Answer) {x : ℕ} → isAccepted a ≡ false → answerNumber a ≡ x → 1 ≤ x

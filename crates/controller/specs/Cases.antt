@@ -3,7 +3,7 @@
 use Prim.Native.Nat.{ℕ}
 use mathlib.Core.Bool.{true, false}
 use mathlib.Core.Path.{_≡_}
-use mathlib.Core.List.{List, [], _∷_}
+use mathlib.Core.List.{[], _∷_}
 use Rattle.model.specs.Node.{asks, calls, replies}
 use Rattle.model.specs.State.{startingNode}
 use Rattle.model.specs.Cases.{setOf, none, node, k10, collecting}
@@ -14,9 +14,9 @@ use Rattle.model.specs.declared.GroupNo.{GroupNo}
 use Rattle.model.specs.declared.TaskNo.{TaskNo}
 use Rattle.model.specs.declared.Node.{Node}
 use Rattle.message_fields.specs.Fields.{fields}
-use Rattle.controller.specs.declared.LocalEvent.the-variants.{Recover, Check, Timeout, Tick, Finish}
+use Rattle.controller.specs.declared.LocalEvent.the-variants.{Recover, Check, Timeout, Finish}
 use Rattle.controller.specs.Controller.{event, message, refused, accepted, controllerStep}
-use Rattle.controller.specs.Network.{Network, networkRun}
+use Rattle.controller.specs.Network.{networkRun}
 
 abbrev callNo : ℕ → CallNo
 callNo k = record { number = k }

@@ -1,7 +1,7 @@
 -- What is claimed of controllers (02, T-11): that n of them over one queue answer as the whole table does, and so that demand 3 holds of every run of them; and of one by itself. The proofs are in
 -- proofs/Alike, proofs/Runs, proofs/Holds, proofs/Outcomes and proofs/Alone.
 use Prim.Native.Nat.{ℕ, _≤_}
-use mathlib.Core.Bool.{Bool, true, false, not}
+use mathlib.Core.Bool.{Bool, true, false, not, _&&_}
 use mathlib.Core.Path.{_≡_}
 use mathlib.Core.Logic.{_⊎_}
 use mathlib.Core.List.{List, [], _∷_, _++_, map}
@@ -51,17 +51,21 @@ belongsToQueue s (Finish i t) = false
 belongsToQueue s (Deliver a b) = not (waits a b (s .queue))
 belongsToQueue s (Lose a b) = true
 
--- what the controller of the event's node is told, from the table s: the event, or the bytes of the message that is delivered; lose tells no controller anything, and no claim asks what it is told
+-- what the controller of an event's node is told, where `o a b` are the bytes of the oldest message from a to b
+abbrev pub incomingOf : (ℕ → ℕ → List ℕ) → Event → Incoming
+incomingOf o (Crash i) = event (LocalEvent.Crash i)
+incomingOf o (Recover i) = event (LocalEvent.Recover i)
+incomingOf o (Check i) = event (LocalEvent.Check i)
+incomingOf o (Timeout i) = event (LocalEvent.Timeout i)
+incomingOf o (Tick i) = event (LocalEvent.Tick i)
+incomingOf o (Expire i) = event (LocalEvent.Expire i)
+incomingOf o (Finish i t) = event (LocalEvent.Finish i t)
+incomingOf o (Deliver a b) = message (o a b)
+incomingOf o (Lose a b) = message (o a b)
+
+-- from the table s: the event, or the bytes of the message that is delivered; lose tells no controller anything, and no claim depends on what stands for it here
 abbrev pub incomingAt : State → Event → Incoming
-incomingAt s (Crash i) = event (LocalEvent.Crash i)
-incomingAt s (Recover i) = event (LocalEvent.Recover i)
-incomingAt s (Check i) = event (LocalEvent.Check i)
-incomingAt s (Timeout i) = event (LocalEvent.Timeout i)
-incomingAt s (Tick i) = event (LocalEvent.Tick i)
-incomingAt s (Expire i) = event (LocalEvent.Expire i)
-incomingAt s (Finish i t) = event (LocalEvent.Finish i t)
-incomingAt s (Deliver a b) = message (fields (oldest a b (s .queue)))
-incomingAt s (Lose a b) = message (fields (oldest a b (s .queue)))
+incomingAt s e = incomingOf (λ a b. fields (oldest a b (s .queue))) e
 
 -- and what it answers
 abbrev pub answerAt : State → Event → controller.Result
@@ -103,17 +107,20 @@ pub record RunsAsTable : Type 0 where
 
 -- ── demand 3 of every run of n controllers over such a queue ──
 
+abbrev pub isLose : Event → Bool
+isLose (Crash i) = false
+isLose (Recover i) = false
+isLose (Check i) = false
+isLose (Timeout i) = false
+isLose (Tick i) = false
+isLose (Expire i) = false
+isLose (Finish i t) = false
+isLose (Deliver a b) = false
+isLose (Lose a b) = true
+
 -- Whether the event's node forms a group in it: by the definition of what a node does, with the record that its controller keeps and what it is told. It stands for the mark of a step of the table (`forms`).
 abbrev pub formsAt : Network → Event → Bool
-formsAt w (Crash i) = forms (reactionIn (w .n) i (recordAt w i) (event (LocalEvent.Crash i)) .mark)
-formsAt w (Recover i) = forms (reactionIn (w .n) i (recordAt w i) (event (LocalEvent.Recover i)) .mark)
-formsAt w (Check i) = forms (reactionIn (w .n) i (recordAt w i) (event (LocalEvent.Check i)) .mark)
-formsAt w (Timeout i) = forms (reactionIn (w .n) i (recordAt w i) (event (LocalEvent.Timeout i)) .mark)
-formsAt w (Tick i) = forms (reactionIn (w .n) i (recordAt w i) (event (LocalEvent.Tick i)) .mark)
-formsAt w (Expire i) = forms (reactionIn (w .n) i (recordAt w i) (event (LocalEvent.Expire i)) .mark)
-formsAt w (Finish i t) = forms (reactionIn (w .n) i (recordAt w i) (event (LocalEvent.Finish i t)) .mark)
-formsAt w (Deliver a b) = forms (reactionIn (w .n) b (recordAt w b) (message (oldestIn a b (w .queue))) .mark)
-formsAt w (Lose a b) = false
+formsAt w e = not (isLose e) && forms (reactionIn (w .n) (actor e) (recordAt w (actor e)) (incomingOf (λ a b. oldestIn a b (w .queue)) e) .mark)
 
 -- P holds of the group of each message that carries one
 abbrev pub EachGroupIn : (ℕ → Type 0) → List (List ℕ) → Type 0
@@ -233,7 +240,7 @@ pub record ControllerRefuses : Type 0 where
   -- and what none applies to is accepted
   pub none-accepts : (n i : ℕ) (c : Node) (x : Incoming) → NoneApplies (controllerGrounds n i c x)
       → controllerStep n i c x ≡ controller.accepted (reactionIn n i c x .node) (sentBytes (reactionIn n i c x .outgoing))
-  -- so no controller answers 11, 14 or 17, "which belong to the queue", nor 0
+  -- so no controller answers 11, 14 or 17, nor 0
   pub never-queues : (n i : ℕ) (c : Node) (x : Incoming) (r : ℕ) → controllerStep n i c x ≡ controller.refused r → (r ≡ 11 → ⊥) × ((r ≡ 14 → ⊥) × ((r ≡ 17 → ⊥) × (r ≡ 0 → ⊥)))
 
 -- what is accepted leaves a record in range for the same n and own number, so that it can be handed in again, and sends nothing, or the bytes of a message of its own

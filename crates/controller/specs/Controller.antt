@@ -93,7 +93,7 @@ wrongMessage n (message l) = not (isMessage n l)
 abbrev pub isForOther : ℕ → Incoming → Bool
 isForOther i x = not (eqb (actor (eventOf x)) i)
 
--- The table of grounds of controller i of n, with the record c. 9, 10, 18, 19, 12 and 13 are those of the whole machine, of this node; 11, 14 and 17 "belong to the queue".
+-- The table of grounds of controller i of n, with the record c. 9, 10, 18, 19, 12 and 13 are those of the whole machine, of this node; 11, of "deliver with nothing waiting", and "grounds 14 and 17 .. belong to the queue".
 unfoldable pub controllerGrounds : ℕ → ℕ → Node → Incoming → List Ground
 controllerGrounds n i c x =
     ground 1 (not (inRangeFor n i c))

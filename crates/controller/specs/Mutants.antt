@@ -2,16 +2,16 @@
 use Prim.Native.Nat.{ℕ}
 use mathlib.Core.Bool.{true, false}
 use mathlib.Core.Path.{_≡_}
-use mathlib.Core.List.{List, []}
+use mathlib.Core.List.{List}
 use lib.ListN.{take}
 use Rattle.model.specs.Node.{isDown}
 use Rattle.model.specs.Limits.{counterEnd}
-use Rattle.model.specs.Range.{isNode, isGivenTask}
+use Rattle.model.specs.Range.{isGivenTask}
 use Rattle.model.specs.declared.Node.{Node}
 use Rattle.model.specs.declared.TaskNo.{TaskNo}
 use Rattle.model.specs.declared.Answer.the-variants.{Accepted, OtherNode, WrongStatus, NoMessage, QueueFull, SentAtEnd}
 use Rattle.message_fields.specs.Fields.{messageIn, isMessage}
-use Rattle.controller.specs.declared.LocalEvent.the-variants.{Recover, Finish, Check}
+use Rattle.controller.specs.declared.LocalEvent.the-variants.{Recover, Finish}
 use Rattle.controller.specs.declared.ControllerOutcome.{ControllerOutcome}
 use Rattle.controller.specs.Controller.{Incoming, event, message, inRangeFor, isForOther}
 use Rattle.controller.specs.Stepped.{ControllerStepped}

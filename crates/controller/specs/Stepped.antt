@@ -3,7 +3,7 @@ use Prim.Native.Nat.{ℕ}
 use mathlib.Core.Path.{_≡_}
 use Rattle.model.specs.Answers.{answerNumber}
 use Rattle.model.specs.declared.Node.{Node}
-use Rattle.message_fields.specs.Parts.{Packed}
+use Rattle.message_fields.specs.Fields.{Packed}
 use Rattle.controller.specs.declared.ControllerOutcome.{ControllerOutcome}
 use Rattle.controller.specs.Controller.{Incoming, Result, controllerStep, resultNumber, nodeAfter, sentIn}
 

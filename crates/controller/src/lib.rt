@@ -1,6 +1,6 @@
 // The controller in the cabinet (02, T-11): one node's share of the machine. It takes n, its own number, its own record, and one event other than deliver and lose or the bytes of one message;
 // it gives the answer, the record after it and at most one message, in bytes. Nothing else is read or kept, and no function here takes a table.
-// What is answered is in specs/Controller and specs/ControllerStepped; what n of them over one queue of messages do is in specs/Network.
+// What is answered is in specs/Controller and specs/Stepped; what n of them over one queue of messages do is in specs/Network.
 use message_fields::MessageRead;
 use message_fields::Packet;
 use model::Answer;
@@ -11,7 +11,7 @@ use model::Node;
 use model::Outgoing;
 use model::TaskNo;
 ghost use mathlib.Core.Path.{_≡_};
-ghost use Rattle.message_fields.specs.Parts.{Packed};
+ghost use Rattle.message_fields.specs.Fields.{Packed};
 ghost use Rattle.model.specs.Answers.{answerNumber};
 ghost use Rattle.model.specs.Step.{actor};
 ghost use Rattle.node_step.specs.Fits.{Fits, FitsInput, FitsSender};
@@ -68,7 +68,7 @@ fn input_of(e: LocalEvent) -> Input
 }
 
 // Whose event it is.
-fn node_of(e: LocalEvent) -> u8
+fn actor_of(e: LocalEvent) -> u8
     ensures { λ r. ⌜ r ≡ actor (spec.asEvent e) ⌝ }
 {
     match e {
@@ -151,7 +151,7 @@ pub fn on_event(n: u8, own: u8, node: Node, e: LocalEvent) -> ControllerOutcome
     if !predicates::is_accepted(numbers) {
         return refused(numbers, node);
     }
-    if node_of(e) != own {
+    if actor_of(e) != own {
         return refused(Answer::OtherNode, node);
     }
     act(n, own, node, whole, input_of(e))

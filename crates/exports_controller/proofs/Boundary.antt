@@ -3,7 +3,7 @@ use Prim.Native.Nat.{ℕ, _≤_, _<_}
 use native.Mathlib.Omega.{arith}
 use mathlib.Core.Bool.{true, false}
 use mathlib.Core.Path.{_≡_, refl, _∙_, ap}
-use mathlib.Core.List.{List, [], _∷_, _++_}
+use mathlib.Core.List.{List, [], _++_}
 use lib.ListN.{length, drop, replicate}
 use Rattle.model.specs.Pick.{pick}
 use Rattle.model.specs.Grounds.{first}
@@ -100,6 +100,10 @@ starts : nodeOf (replicate 29 0) ≡ startingNode
 unfolding number statusOf activityOf nodeOf pick
 starts = refl
 
+starts-none : nodeOf [] ≡ startingNode
+unfolding number statusOf activityOf nodeOf pick
+starts-none = refl
+
 pub controller-event-claims : ControllerEventClaims
 unfolding lengthOf eventOf eventIn checked cutShort pick
 controller-event-claims =
@@ -120,6 +124,7 @@ controller-event-claims =
       expire = λ i. refl;
       finish = λ i high low. refl;
       starts = starts;
+      starts-none = starts-none;
       other-node = other-node;
       not-in-range = not-in-range;
       first-alone = λ n i r f g b h. (same-number n i r f g b h, same-bytes n i r f g b h);

@@ -20,7 +20,7 @@ use Rattle.controller.specs.declared.LocalEvent.{LocalEvent}
 use Rattle.controller.specs.declared.ControllerOutcome.{ControllerOutcome}
 use Rattle.controller.specs.Controller.{event, message, Result, controllerStep, resultNumber, nodeAfter, sentIn}
 use Rattle.controller.specs.Stepped.{OutcomeOf, ControllerStepped}
-use Rattle.controller.proofs.Steps.{shows}
+use Rattle.controller.proofs.Steps.{same-outcome}
 use Rattle.controller.proofs.Alone.{sent-short}
 use Rattle.exports_controller.specs.declared.FieldRead.{FieldRead}
 use Rattle.exports_controller.specs.declared.FieldRead.the-variants.{Stopped, Got}
@@ -115,7 +115,7 @@ module _ (n i : ℕ) (r f b : List ℕ) where
     pub event-stepped : {e : LocalEvent} → eventIn f ≡ Got e → (q : ControllerOutcome) → ControllerStepped n i (nodeOf r) (event e) q → (o : List ℕ) (x : ℕ) → Answered q b o x → EventExported n i r f b o x
     event-stepped {e} w q t o x a =
         let y = ap (fieldStep n i (nodeOf r)) w in
-        event-exported (outcome (nodeOf r) result b room (rw y (sent-short n i (nodeOf r) (event e))) q (shows y t) o x a)
+        event-exported (outcome (nodeOf r) result b room (rw y (sent-short n i (nodeOf r) (event e))) q (same-outcome y t) o x a)
 
 -- ── nevraspu_controller_message ──
 

@@ -99,6 +99,7 @@ pub record ControllerEventClaims : Type 0 where
   pub finish : (i high low : ℕ) → eventIn (0x16 ∷ 0 ∷ 3 ∷ i ∷ high ∷ low ∷ []) ≡ Got (Finish i (record { number = high * 256 + low }))
   -- 29 zero bytes, as no bytes at all, are the record of the start
   pub starts : nodeOf (replicate 29 0) ≡ startingNode
+  pub starts-none : nodeOf [] ≡ startingNode
   -- an event with an n, an own number or a record out of range is answered by 1
   pub not-in-range : (n i : ℕ) (r f b : List ℕ) (e : LocalEvent) → outcomeSize ≤ length b → eventIn f ≡ Got e → inRangeFor n i (nodeOf r) ≡ false → eventNumber n i r f b ≡ 1
   -- an event with good numbers for another node by 21

@@ -3,9 +3,9 @@
 //   uint8_t nevraspu_controller_message(uint8_t n, uint8_t own, const uint8_t *record, size_t record_len, const uint8_t *message, size_t message_len, uint8_t *out, size_t out_len);
 // Any numbers and bytes at all are answered. A caller has only to hand in pointers that are good for their lengths, out apart from the others.
 // What is answered, and what out then holds, is in specs/Boundary; which fields are events of a controller, in specs/Field.
-// That n of them over one queue do as the whole machine does (controller/specs/Claims) asks three things of whoever runs them: the record given out is the one handed in next, and 29 zero bytes are
-// the first; where the queue has no room for the message given out, the record that was handed in is kept instead, as if the event had been refused; and a message that is handed in is taken out of the
-// queue only where it is answered by 0.
+// That n of them over one queue do as the whole machine does (controller/specs/Claims) asks four things of whoever runs them: the record given out is kept, over a power cut too, and handed in next, and 29
+// zero bytes are the first; where the queue has no room for the message given out, the record that was handed in is kept instead, as if the event had been refused; a message that is handed in is taken
+// out of the queue only where it is answered by 0; and of the messages from one cabinet to another the oldest is handed in. They are (a) to (d) of include/nevraspu.h.
 use controller::ControllerOutcome;
 use controller::LocalEvent;
 use event_list::Field;

@@ -15,6 +15,7 @@ use Rattle.model.specs.Step.{effect, refused, accepted, step}
 use Rattle.model.specs.declared.Mark.{Mark}
 use Rattle.model.specs.declared.Event.{Event}
 use Rattle.model.specs.declared.Event.the-variants.{Crash}
+use Rattle.model.proofs.Lists.{map-append}
 use Rattle.model.proofs.Judged.{accepted-is}
 use Rattle.listing.specs.Printing.{joined}
 use Rattle.short_lists_text.specs.Lists.{alphabet, listsFrom}
@@ -48,10 +49,6 @@ turnsLeft r [] = 1
 turnsLeft r (f ∷ fs) = turnsOn r f + turnsLeft (suc r) fs
 
 -- ── laws of lists ──
-
-map-append : {A B : Type 0} (f : A → B) (xs ys : List A) → map f (xs ++ ys) ≡ map f xs ++ map f ys
-map-append f [] ys = refl
-map-append f (x ∷ xs) ys = ap (λ l. f x ∷ l) (map-append f xs ys)
 
 -- a path, an event and a list behind it
 map-behind : (p : List Event) (e : Event) (ls : List (List Event)) → map (λ l. p ++ l) (map (λ l. e ∷ l) ls) ≡ map (λ l. (p ++ (e ∷ [])) ++ l) ls

@@ -4,15 +4,14 @@ use native.Mathlib.Omega.{arith}
 use mathlib.Core.Path.{_≡_, refl, sym, _∙_, ap, subst}
 use mathlib.Core.List.{List, [], _++_}
 use mathlib.Core.Bool.{true, false}
-use lib.Dec.{eqb}
 use lib.ListN.{getD, replicate}
 use Rattle.model.specs.Range.{TwoPairs}
 use Rattle.model.specs.Limits.{nodeLimit, tower, stand}
-use Rattle.model.specs.Pick.{pick}
 use Rattle.model.specs.Counts.{countAt, total}
 use Rattle.model.specs.State.{State, startingNode, start, nodeAt, inRange, view, waiting}
 use Rattle.model.specs.Step.{actor, reactionTo, Result, refused, accepted, step, kept, runFrom, run}
 use Rattle.model.specs.Answers.{answerNumber, resultNumber}
+use Rattle.model.proofs.Answers.{answerOf, answer-back}
 use Rattle.model.specs.History.{Task, coming, history}
 use Rattle.model.specs.Node.{isDown, isActive, isCollecting}
 use Rattle.model.specs.Claims.{Lacks, Fixes, FullPeal, MoreThanHalf, PealStarted, CountedByBoth, MayStart, EachGroup}
@@ -30,7 +29,7 @@ use Rattle.model.specs.declared.Event.{Event}
 use Rattle.model.specs.declared.Mark.{Mark}
 use Rattle.model.specs.declared.Outcome.{Outcome}
 use Rattle.model.specs.declared.Answer.{Answer}
-use Rattle.model.specs.declared.Answer.the-variants.{Accepted, NotInRange, WrongNumber, WrongTask, WrongMessage, OtherNode, WrongStatus, WrongActivity, NotCoordinator, NoMajority, NoMessage, CounterAtEnd, CallsAtEnd, QueueFull, SentAtEnd}
+use Rattle.model.specs.declared.Answer.the-variants.{Accepted}
 use Rattle.machine.specs.Stepped.{Stepped}
 use Rattle.machine.specs.Folded.{Folded, none, more}
 use Rattle.machine.specs.Claims.{AcceptedAlike, SteppedAlike, isForming, Chain, Reached, CodeRuns, CodeFixes, CodeTraffic, CodePeals, CodeHolds, CodeTowerAndStand}
@@ -59,43 +58,6 @@ start-node (suc n) zero = refl
 start-node (suc n) (suc k) = start-node n k
 
 -- ── Accepted, of the code and of the model ──
-
--- an answer is known by its number
-answerOf : ℕ → Answer
-answerOf r =
-    pick (eqb r 1) NotInRange
-    (pick (eqb r 7) WrongNumber
-    (pick (eqb r 8) WrongTask
-    (pick (eqb r 20) WrongMessage
-    (pick (eqb r 21) OtherNode
-    (pick (eqb r 9) WrongStatus
-    (pick (eqb r 10) WrongActivity
-    (pick (eqb r 18) NotCoordinator
-    (pick (eqb r 19) NoMajority
-    (pick (eqb r 11) NoMessage
-    (pick (eqb r 12) CounterAtEnd
-    (pick (eqb r 13) CallsAtEnd
-    (pick (eqb r 14) QueueFull
-    (pick (eqb r 17) SentAtEnd
-    Accepted)))))))))))))
-
-answer-back : (a : Answer) → answerOf (answerNumber a) ≡ a
-unfolding answerOf pick
-answer-back Accepted = refl
-answer-back NotInRange = refl
-answer-back WrongNumber = refl
-answer-back WrongTask = refl
-answer-back WrongMessage = refl
-answer-back OtherNode = refl
-answer-back WrongStatus = refl
-answer-back WrongActivity = refl
-answer-back NotCoordinator = refl
-answer-back NoMajority = refl
-answer-back NoMessage = refl
-answer-back CounterAtEnd = refl
-answer-back CallsAtEnd = refl
-answer-back QueueFull = refl
-answer-back SentAtEnd = refl
 
 pub answer-known : (a b : Answer) → answerNumber a ≡ answerNumber b → a ≡ b
 answer-known a b e = sym (answer-back a) ∙ ap answerOf e ∙ answer-back b

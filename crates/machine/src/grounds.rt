@@ -1,5 +1,5 @@
-// The judgement of an event by its grounds, and what its node does: functions over one node, one message and numbers. The grounds that n, the event's numbers and the node's record decide are
-// node_step's.
+// The judgement of an event by its grounds, and what its node does: functions over one node, one message and numbers. The grounds that n, the event's numbers,
+// the node's record and what the node does decide are node_step's.
 ghost use mathlib.Core.Path.{_≡_};
 ghost use mathlib.Core.Bool.{true};
 ghost use Prim.Native.Nat.{ℕ, _-_, _≤_, _<_};

@@ -17,8 +17,8 @@ use Rattle.model.proofs.Local.{both-left, both-right, right-fails}
 use Rattle.number_bytes.specs.Bytes.{bytes}
 use Rattle.number_bytes.proofs.Numbers.{written-over}
 use Rattle.message_fields.specs.declared.Packet.{Packet}
-use Rattle.message_fields.specs.Fields.{groupField, taskField, yesField, carriesTask, carriesYes, onlyIf, fields, mostBytes, sameBytes}
-use Rattle.message_fields.specs.Parts.{callFields, Packed}
+use Rattle.message_fields.specs.Fields.{groupField, taskField, yesField, carriesTask, carriesYes, onlyIf, fields, mostBytes, sameBytes, Packed}
+use Rattle.message_fields.specs.Parts.{callFields}
 
 -- ── by the kind ──
 fields-by : (m : Message) {g t y : Bool} → carriesGroup (m .kind) ≡ g → carriesTask (m .kind) ≡ t → carriesYes (m .kind) ≡ y → fields m ≡ callFields m ++ (onlyIf g (groupField m) ++ (onlyIf t (taskField m) ++ onlyIf y (yesField m)))

@@ -1,5 +1,5 @@
 -- A message in range is read back from its bytes, as far as its kind carries it; and bytes that are read are those of what is read: the claims `OneForm`.
-use Prim.Native.Nat.{ℕ, zero, suc, _+_, _*_, _^_, _≤_, _<_}
+use Prim.Native.Nat.{ℕ, suc, _+_, _≤_, _<_}
 use native.Mathlib.Omega.{arith}
 use mathlib.Core.Bool.{Bool, true, false, _&&_, true≢false}
 use mathlib.Core.Path.{_≡_, refl, sym, _∙_, ap}
@@ -8,11 +8,9 @@ use lib.Dec.{eqb}
 use lib.ListN.{length, getD, length-append, List·getD-append}
 use borrow.Author.Tests.{eq-eqb, ne-eqb}
 use Rattle.model.specs.Pick.{pick, pick-true, pick-false, by-test}
-use Rattle.model.specs.Limits.{counterEnd, callEnd, taskEnd}
-use Rattle.model.specs.Node.{counterOf}
 use Rattle.model.specs.Range.{carriesGroup, messageInRange}
-use Rattle.model.proofs.Fields.{IsGroup, IsGivenTask, MessageFacts, message-facts}
-use Rattle.model.proofs.Range.{is-message, both}
+use Rattle.model.proofs.Fields.{IsGroup, message-facts}
+use Rattle.model.proofs.Range.{is-message}
 use Rattle.model.proofs.Local.{both-left, both-right}
 use Rattle.model.specs.declared.Message.{Message}
 use Rattle.number_bytes.specs.Bytes.{number, bytes, yesOf, yesNumber}
@@ -20,7 +18,7 @@ use Rattle.number_bytes.proofs.Numbers.{read, one-is}
 use Rattle.number_bytes.proofs.Records.{yes-back, yes-small}
 use Rattle.message_fields.specs.declared.MessageRead.{MessageRead}
 use Rattle.message_fields.specs.declared.MessageRead.the-variants.{Wrong, Got}
-use Rattle.message_fields.specs.Fields.{field, groupField, taskField, yesField, carriesTask, carriesYes, fields, messageIn, sameBytes, isMessage, reading, carried}
+use Rattle.message_fields.specs.Fields.{field, groupField, taskField, yesField, carriesTask, carriesYes, fields, messageIn, sameBytes, isMessage, readNumber, reading, carried}
 use Rattle.message_fields.specs.Parts.{callFields}
 use Rattle.message_fields.specs.Claims.{OneForm}
 use Rattle.message_fields.proofs.Forms.{Kind, low, middle, five, six, high, kind-of, no-group-low, no-group-high, a-group, plain-low, plain-high, grouped, ready, reply, at-most, same-self, same-is}
@@ -223,6 +221,14 @@ behind n l k h e =
     let s = same-kind (messageIn (l ++ k)) (messageIn l) (kind-kept l k (omega (arith, a, at-least (messageIn l)))) in
     no-more k (length l) (sym (length-append l k) ∙ b ∙ s ∙ sym a)
 
+number-is : (n : ℕ) (l : List ℕ) → readNumber (reading n l) ≡ pick (isMessage n l) 0 20
+unfolding reading pick
+number-is n l = by (isMessage n l)
+  where
+    by : (t : Bool) → readNumber (pick t (Got (messageIn l)) Wrong) ≡ pick t 0 20
+    by true = refl
+    by false = refl
+
 pub one-form : OneForm
 one-form =
     record {
@@ -233,6 +239,7 @@ one-form =
       one-form = λ n l k m h g. let x = got-is n l m h in let y = got-is n k m g in its-bytes n l (x .0) ∙ ap fields (x .1 ∙ sym (y .1)) ∙ sym (its-bytes n k (y .0));
       one-message = λ n m k h e f q. got-same (sym (fields-read n m h e) ∙ ap (reading n) q ∙ fields-read n k h f);
       no-other = λ n l m h w e q. true≢false (sym (fields-message n m h e) ∙ sym (ap (isMessage n) q) ∙ wrong-is n l w);
+      number = number-is;
       nothing-behind = behind;
       most = at-most;
       length-one = λ m h. plain-low m (omega (arith, h)) .length;

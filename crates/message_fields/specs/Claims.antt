@@ -5,11 +5,12 @@ use mathlib.Core.Bool.{true, false}
 use mathlib.Core.Path.{_≡_}
 use mathlib.Core.List.{List, [], _∷_, _++_}
 use lib.ListN.{length}
+use Rattle.model.specs.Pick.{pick}
 use Rattle.model.specs.Range.{messageInRange}
 use Rattle.model.specs.Node.{asks, calls, readies, replies}
 use Rattle.model.specs.declared.Message.{Message}
 use Rattle.message_fields.specs.declared.MessageRead.the-variants.{Wrong, Got}
-use Rattle.message_fields.specs.Fields.{fields, mostBytes, isMessage, reading, carried}
+use Rattle.message_fields.specs.Fields.{fields, mostBytes, isMessage, readNumber, reading, carried}
 
 -- Of messages among n nodes, n up to 16, and any bytes l.
 pub record OneForm : Type 0 where
@@ -25,8 +26,10 @@ pub record OneForm : Type 0 where
   pub one-form : (n : ℕ) (l k : List ℕ) (m : Message) → reading n l ≡ Got m → reading n k ≡ Got m → l ≡ k
   -- and one message for each form
   pub one-message : (n : ℕ) (m k : Message) → n ≤ 16 → messageInRange n m ≡ true → messageInRange n k ≡ true → fields m ≡ fields k → carried m ≡ carried k
-  -- anything else is 20: bytes that do not decode are those of no message in range
+  -- bytes that are refused are those of no message in range
   pub no-other : (n : ℕ) (l : List ℕ) (m : Message) → n ≤ 16 → reading n l ≡ Wrong → messageInRange n m ≡ true → l ≡ fields m → ⊥
+  -- by its number, bytes are refused exactly where they are no message
+  pub number : (n : ℕ) (l : List ℕ) → readNumber (reading n l) ≡ pick (isMessage n l) 0 20
   -- bytes behind a message's make none, and neither do a message's with the last of them missing
   pub nothing-behind : (n : ℕ) (l k : List ℕ) → isMessage n l ≡ true → isMessage n (l ++ k) ≡ true → k ≡ []
   -- how many bytes a message has: by its kind 13, 20, 25 or 17, and no more than 25, whatever its numbers are
@@ -36,7 +39,7 @@ pub record OneForm : Type 0 where
   pub length-ready : (m : Message) → m .kind ≡ 5 → length (fields m) ≡ 25
   pub length-reply : (m : Message) → m .kind ≡ 6 → length (fields m) ≡ 17
 
--- ── single messages, and each way in which bytes are none, among three nodes ──
+-- ── single messages, and ways in which bytes are none, among three nodes ──
 pub record FieldCases : Type 0 where
   -- a message of each form
   pub one : reading 3 (0x20 ∷ 0 ∷ 3 ∷ 2 ∷ 1 ∷ 1 ∷ 0x21 ∷ 0 ∷ 4 ∷ 0 ∷ 0 ∷ 0 ∷ 1 ∷ []) ≡ Got (asks 2 1 (record { number = 1 }))

@@ -2,6 +2,7 @@
 -- 0x24 yes or no as 1 or 0. They take three single bytes, then 4, 4, 2 and 1, high byte first. Fields come in that order, only those that the kind carries, and the kind
 -- number is one byte." What is claimed of these bytes is in Claims.
 use Prim.Native.Nat.{ℕ}
+use mathlib.Core.Path.{_≡_}
 use mathlib.Core.Bool.{Bool, true, false, _&&_}
 use mathlib.Core.List.{List, [], _∷_, _++_}
 use lib.Dec.{eqb}
@@ -10,6 +11,7 @@ use Rattle.model.specs.Pick.{pick}
 use Rattle.model.specs.Range.{carriesGroup, messageInRange}
 use Rattle.model.specs.declared.Message.{Message}
 use Rattle.number_bytes.specs.Bytes.{number, bytes, written, yesOf, yesNumber}
+use Rattle.message_fields.specs.declared.Packet.{Packet}
 use Rattle.message_fields.specs.declared.MessageRead.{MessageRead}
 use Rattle.message_fields.specs.declared.MessageRead.the-variants.{Wrong, Got}
 
@@ -92,6 +94,11 @@ sameBytes (x ∷ xs) (y ∷ ys) = eqb x y && sameBytes xs ys
 unfoldable pub isMessage : ℕ → List ℕ → Bool
 isMessage n l = sameBytes l (fields (messageIn l)) && messageInRange n (messageIn l)
 
+-- 02's number of what bytes are answered: 20 where they are no message; a message that is read is not refused
+abbrev pub readNumber : MessageRead → ℕ
+readNumber Wrong = 20
+readNumber (Got m) = 0
+
 -- what bytes say: the message, or that they are none
 unfoldable pub reading : ℕ → List ℕ → MessageRead
 reading n l = pick (isMessage n l) (Got (messageIn l)) Wrong
@@ -113,3 +120,8 @@ carried m = record {
 -- bytes at the start of such a room; behind them 0
 abbrev pub padded : List ℕ → List ℕ
 padded l = written (replicate mostBytes 0) 0 l
+
+-- the packet p is that of the bytes l, which are a message's, or none: nothing of it is free
+pub record Packed (p : Packet) (l : List ℕ) : Type 0 where
+  pub bytes : p .bytes ≡ padded l
+  pub length : p .length ≡ length l

@@ -24,10 +24,7 @@ ghost use Rattle.model.specs.Pick.{pick};
 ghost use Rattle.model.specs.Range.{carriesGroup};
 ghost use Rattle.number_bytes.specs.Bytes.{number, written};
 ghost use Rattle.message_fields.specs.Fields as spec;
-ghost use Rattle.message_fields.specs.Parts.{fieldHead, callFields, Packed};
-
-// How many bytes a message has at the most.
-pub const MOST_BYTES: usize = 25;
+ghost use Rattle.message_fields.specs.Parts.{fieldHead, callFields};
 
 // The bytes of a message, and how many they are; behind them stand zeros. No message: none.
 pub struct Packet {
@@ -141,7 +138,7 @@ pub fn encode(out: &mut [u8], m: Message) -> u8
 
 // The packet of a message.
 pub fn packet_of(m: Message) -> Packet
-    ensures { λ r. ⌜ Packed r (spec.fields m) ⌝ }
+    ensures { λ r. ⌜ spec.Packed r (spec.fields m) ⌝ }
 {
     let mut bytes: [u8; 25] = [0; 25];
     let length = encode(&mut bytes, m);
@@ -153,7 +150,7 @@ pub fn packet_of(m: Message) -> Packet
 
 // The packet of no message.
 pub fn no_packet() -> Packet
-    ensures { λ r. ⌜ Packed r [] ⌝ }
+    ensures { λ r. ⌜ spec.Packed r [] ⌝ }
 {
     Packet {
         bytes: [0; 25],

@@ -1,9 +1,10 @@
 -- Laws of the answers' numbers: 0 is that of Accepted, and of no other.
-use Prim.Native.Nat.{_≤_}
+use Prim.Native.Nat.{ℕ, _≤_}
 use native.Mathlib.Omega.{arith}
 use mathlib.Core.Path.{_≡_, refl, sym, _∙_}
 use mathlib.Core.Bool.{true, false, true≢false}
 use lib.Dec.{eqb}
+use Rattle.model.specs.Pick.{pick}
 use Rattle.model.specs.Answers.{answerNumber, isAccepted}
 use Rattle.model.specs.declared.Answer.{Answer}
 use Rattle.model.specs.declared.Answer.the-variants.{Accepted, NotInRange, WrongNumber, WrongTask, WrongMessage, OtherNode, WrongStatus, WrongActivity, NotCoordinator, NoMajority, NoMessage, CounterAtEnd, CallsAtEnd, QueueFull, SentAtEnd}
@@ -79,3 +80,40 @@ zero-is a h = only a (sym (zero-accepted a) ∙ rw h)
     only CallsAtEnd q = absurd (true≢false (sym q))
     only QueueFull q = absurd (true≢false (sym q))
     only SentAtEnd q = absurd (true≢false (sym q))
+
+-- an answer is known by its number
+unfoldable pub answerOf : ℕ → Answer
+answerOf r =
+    pick (eqb r 1) NotInRange
+    (pick (eqb r 7) WrongNumber
+    (pick (eqb r 8) WrongTask
+    (pick (eqb r 20) WrongMessage
+    (pick (eqb r 21) OtherNode
+    (pick (eqb r 9) WrongStatus
+    (pick (eqb r 10) WrongActivity
+    (pick (eqb r 18) NotCoordinator
+    (pick (eqb r 19) NoMajority
+    (pick (eqb r 11) NoMessage
+    (pick (eqb r 12) CounterAtEnd
+    (pick (eqb r 13) CallsAtEnd
+    (pick (eqb r 14) QueueFull
+    (pick (eqb r 17) SentAtEnd
+    Accepted)))))))))))))
+
+pub answer-back : (a : Answer) → answerOf (answerNumber a) ≡ a
+unfolding answerOf pick
+answer-back Accepted = refl
+answer-back NotInRange = refl
+answer-back WrongNumber = refl
+answer-back WrongTask = refl
+answer-back WrongMessage = refl
+answer-back OtherNode = refl
+answer-back WrongStatus = refl
+answer-back WrongActivity = refl
+answer-back NotCoordinator = refl
+answer-back NoMajority = refl
+answer-back NoMessage = refl
+answer-back CounterAtEnd = refl
+answer-back CallsAtEnd = refl
+answer-back QueueFull = refl
+answer-back SentAtEnd = refl

@@ -1,10 +1,10 @@
--- Laws of `firstOf` and `every`, for the loops over a table's arrays: the first k of a list, one element of it stored, and a test of each.
+-- Laws of `firstOf`, `map` and `every`, for the loops over a table's arrays: the first k of a list, one element of it stored, and a test of each.
 use Prim.Native.Nat.{ℕ, zero, suc, _+_, _≤_, _<_}
 use native.Mathlib.Nat.{not-suc-le-zero}
 use native.Mathlib.Numerals.{add-one}
 use native.Mathlib.Omega.{arith}
 use mathlib.Core.Path.{_≡_, refl, ap}
-use mathlib.Core.List.{List, [], _∷_}
+use mathlib.Core.List.{List, [], _∷_, _++_, map}
 use mathlib.Core.Bool.{Bool, true, false, _&&_}
 use lib.ListN.{length, getD, take, drop, set, length-set, replicate, drop-of-length-le}
 use lib.Seq.{drop-cons, take-set-lt, getD-take, length-take-le}
@@ -32,6 +32,11 @@ unfolding firstOf
 first-replicate zero w d = refl
 first-replicate {A} (suc k) zero d = ap (λ (r : List A). d ∷ r) (first-replicate k zero d)
 first-replicate {A} (suc k) (suc w) d = ap (λ (r : List A). d ∷ r) (first-replicate k w d)
+
+-- ── a function of each element ──
+pub map-append : {A B : Type 0} (f : A → B) (xs ys : List A) → map f (xs ++ ys) ≡ map f xs ++ map f ys
+map-append f [] ys = refl
+map-append {A} {B} f (x ∷ xs) ys = ap (λ (l : List B). f x ∷ l) (map-append f xs ys)
 
 -- ── loops over the first w elements of an array: what is left at k, by the element at k ──
 module _ {A : Type 0} (l : List A) (w : ℕ) (h : w ≤ length l) (k : ℕ) where

@@ -277,7 +277,7 @@ source-held s (Deliver a b) c l u g q x =
     ⊎-elim (λ z. x .in-nodes b l u (sym z)) (λ z. oldest-held a b (s .queue) g (not-false _ (c .waiting)) (x .in-messages) (sym z)) q
 source-held s (Lose a b) c l u g q x = x .in-nodes b l u (sym q)
 
-effect-n : (s : State) (e : Event) → effect s e .n ≡ s .n
+pub effect-n : (s : State) (e : Event) → effect s e .n ≡ s .n
 unfolding effect
 effect-n s e = refl
 

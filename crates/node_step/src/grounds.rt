@@ -1,4 +1,4 @@
-// The grounds of an event that n, its numbers and its node's record decide: 7 to 10, 12, 13, 18 and 19.
+// The grounds of an event that n, its numbers, its node's record and what the node does decide: 7 to 10, 12, 13, 18 and 19.
 ghost use mathlib.Core.Path.{_≡_};
 ghost use Rattle.model.specs.Answers.{answerNumber};
 ghost use Rattle.model.specs.Grounds.{first};

@@ -45,7 +45,7 @@ unfoldable pub written : List ℕ → ℕ → List ℕ → List ℕ
 written out at [] = out
 written out at (b ∷ l) = written (set out at b) (at + 1) l
 
--- ── what every exported function with a lent buffer has: it needs `size` bytes, and b is what it holds before ──
+-- ── what the exported functions have that answer 255 where a lent buffer is too short: they need `size` bytes, and b is what it holds before ──
 
 -- whether there is room for them is looked at first; else r is answered
 abbrev pub numberIn : ℕ → List ℕ → ℕ → ℕ

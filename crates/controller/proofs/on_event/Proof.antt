@@ -1,9 +1,9 @@
 -- By the tests, in the order of the grounds.
 use borrow.Author.Needs.{needs}
-use mathlib.Core.Path.{refl, sym, _∙_}
+use mathlib.Core.Path.{sym, _∙_}
 use borrow.Author.Tests.{not-true, not-false}
 use Rattle.model.proofs.Answers.{accepted-zero}
-use Rattle.controller.proofs.Steps.{out-of-range, fits, wrong-numbers, other-event, own-event, event-fits, shows, some-number}
+use Rattle.controller.proofs.Steps.{out-of-range, fits, wrong-numbers, other-event, own-event, event-fits, same-outcome, some-number}
 use Rattle.controller.proofs.on_event.Statement.{statement}
 use Rattle.controller.proofs.on_event.Tie as tie
 
@@ -11,7 +11,7 @@ returns : tie.Need-returns
 returns c =
     let i = c .before .before in
     let s = i .before .args in
-    shows (out-of-range (s .n) (s .own) (s .node) _ (sym (i .in-range .ensures) ∙ not-true (i .in-range .result) (c .before .if1 .taken))) (c .refused .ensures)
+    same-outcome (out-of-range (s .n) (s .own) (s .node) _ (sym (i .in-range .ensures) ∙ not-true (i .in-range .result) (c .before .if1 .taken))) (c .refused .ensures)
 
 returns-2 : tie.Need-returns-2
 returns-2 c =
@@ -23,7 +23,7 @@ returns-2 c =
     let ok = sym (i .in-range .ensures) ∙ not-false (i .in-range .result) (w .before .if1 .left) in
     let q = sym (t .is-accepted .ensures) ∙ not-true (t .is-accepted .result) (c .before .if2 .taken) in
     let h = rw (w .as-event .ensures) at (a .ensures) in
-    shows (wrong-numbers (s .n) (s .own) (s .node) (s .e) ok (some-number (a .result) q h)) (rw (← h) (c .refused2 .ensures))
+    same-outcome (wrong-numbers (s .n) (s .own) (s .node) (s .e) ok (some-number (a .result) q h)) (rw (← h) (c .refused2 .ensures))
 
 returns-3 : tie.Need-returns-3
 returns-3 c =
@@ -36,7 +36,7 @@ returns-3 c =
     let ok = sym (i .in-range .ensures) ∙ not-false (i .in-range .result) (w .before .if1 .left) in
     let h = rw (w .as-event .ensures) at (a .ensures) in
     let clear = sym h ∙ accepted-zero (a .result) (sym (t .is-accepted .ensures) ∙ not-false (t .is-accepted .result) (o .before .if2 .left)) in
-    shows (other-event (s .n) (s .own) (s .node) (s .e) ok clear (λ q. c .before .if3 .taken (o .node-of .ensures ∙ q))) (c .refused3 .ensures)
+    same-outcome (other-event (s .n) (s .own) (s .node) (s .e) ok clear (λ q. c .before .if3 .taken (o .actor-of .ensures ∙ q))) (c .refused3 .ensures)
 
 act-requires : tie.Need-act-requires
 act-requires c κs =
@@ -57,7 +57,7 @@ returns-4 c =
     let ok = sym (i .in-range .ensures) ∙ not-false (i .in-range .result) (w .before .if1 .left) in
     let h = rw (w .as-event .ensures) at (a .ensures) in
     let clear = sym h ∙ accepted-zero (a .result) (sym (t .is-accepted .ensures) ∙ not-false (t .is-accepted .result) (o .before .if2 .left)) in
-    shows (own-event (s .n) (s .own) (s .node) (s .e) ok clear (sym (o .node-of .ensures) ∙ n .before .if3 .left)) (rw (← w .as-event .ensures, ← n .input-of .ensures) (c .act .ensures))
+    same-outcome (own-event (s .n) (s .own) (s .node) (s .e) ok clear (sym (o .actor-of .ensures) ∙ n .before .if3 .left)) (rw (← w .as-event .ensures, ← n .input-of .ensures) (c .act .ensures))
 
 pub on-event-spec : {M : Type 1} → statement M
 on-event-spec =

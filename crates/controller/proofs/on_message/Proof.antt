@@ -4,7 +4,7 @@ use mathlib.Core.Path.{sym, _∙_}
 use borrow.Author.Tests.{not-true, not-false}
 use Rattle.node_step.proofs.InRange.{message-fits}
 use Rattle.message_fields.proofs.RoundTrip.{one-form, got-is, wrong-is}
-use Rattle.controller.proofs.Steps.{out-of-range, small, fits, wrong-bytes, good-bytes, shows}
+use Rattle.controller.proofs.Steps.{out-of-range, small, fits, wrong-bytes, good-bytes, same-outcome}
 use Rattle.controller.proofs.on_message.Statement.{statement}
 use Rattle.controller.proofs.on_message.Tie as tie
 
@@ -12,7 +12,7 @@ returns : tie.Need-returns
 returns c =
     let i = c .before .before in
     let s = i .before .before .args in
-    shows (out-of-range (s .n) (s .own) (s .node) _ (sym (i .in-range .ensures) ∙ not-true (i .in-range .result) (c .before .if1 .taken))) (c .refused .ensures)
+    same-outcome (out-of-range (s .n) (s .own) (s .node) _ (sym (i .in-range .ensures) ∙ not-true (i .in-range .result) (c .before .if1 .taken))) (c .refused .ensures)
 
 received-requires : tie.Need-received-requires
 received-requires c κs =
@@ -30,7 +30,7 @@ returns-2 c =
     let s = i .before .before .args in
     let ok = sym (i .in-range .ensures) ∙ not-false (i .in-range .result) (d .before .if1 .left) in
     let g = sym (d .decode .ensures) ∙ c .before .enum-told .given .1 in
-    shows (wrong-bytes (s .n) (s .own) (s .node) _ ok (wrong-is (s .n) _ g)) (c .refused2 .ensures)
+    same-outcome (wrong-bytes (s .n) (s .own) (s .node) _ ok (wrong-is (s .n) _ g)) (c .refused2 .ensures)
 
 returns-3 : tie.Need-returns-3
 returns-3 c =
@@ -39,7 +39,7 @@ returns-3 c =
     let s = i .before .before .args in
     let ok = sym (i .in-range .ensures) ∙ not-false (i .in-range .result) (d .before .if1 .left) in
     let g = got-is (s .n) _ _ (sym (d .decode .ensures) ∙ c .before .before .m .given .1) in
-    shows (good-bytes (s .n) (s .own) (s .node) _ ok (g .0)) (rw (g .1) (c .received .ensures))
+    same-outcome (good-bytes (s .n) (s .own) (s .node) _ ok (g .0)) (rw (g .1) (c .received .ensures))
 
 pub on-message-spec : {M : Type 1} → statement M
 on-message-spec =

@@ -1,6 +1,5 @@
 -- By the kind: the fields that are written are those that it carries.
 use native.Mathlib.Omega.{arith}
-use mathlib.Core.Path.{sym, _∙_}
 use borrow.Author.Needs.{needs}
 use Rattle.message_fields.proofs.Forms.{plain-low, plain-high, grouped, ready, reply}
 use Rattle.message_fields.proofs.encode.Statement.{statement}

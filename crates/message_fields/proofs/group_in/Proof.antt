@@ -1,6 +1,5 @@
 -- By its test.
 use borrow.Author.Needs.{needs}
-use mathlib.Core.Path.{_∙_, sym}
 use Rattle.model.specs.Pick.{pick-true, pick-false}
 use Rattle.message_fields.proofs.group_in.Statement.{statement}
 use Rattle.message_fields.proofs.group_in.Tie as tie
