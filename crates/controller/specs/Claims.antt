@@ -73,7 +73,7 @@ answerAt s e = controllerStep (s .n) (actor e) (nodeAt s (actor e)) (incomingAt 
 
 pub record AnswersAsTable : Type 0 where
   -- The answer is the table's, and so are the records and messages after it. 14 is the queue's, and the network's queue answers it where the table does. 17 is by the table's counts, which a network
-  -- has not; no run of the table meets it (TrafficAgrees.never-seventeen of crate model).
+  -- does not have; no run of the table meets it (TrafficAgrees.never-seventeen of crate model).
   pub same : (s : State) (e : Event) → inRange s ≡ true → belongsToQueue s e ≡ false → (step s e ≡ table.refused 17 → ⊥) → networkStep (networkOf s) e ≡ resultOf (step s e)
   -- "grounds 14 and 17, which belong to the queue": the controller itself accepts there, and gives what the node does
   pub queue-grounds : (s : State) (e : Event) → inRange s ≡ true → (step s e ≡ table.refused 14) ⊎ (step s e ≡ table.refused 17)
@@ -107,6 +107,7 @@ pub record RunsAsTable : Type 0 where
 
 -- ── demand 3 of every run of n controllers over such a queue ──
 
+-- lose, which tells no node anything
 abbrev pub isLose : Event → Bool
 isLose (Crash i) = false
 isLose (Recover i) = false
