@@ -1,5 +1,6 @@
 //! What the fuzzers have in common: what their programs are given, how long they go on, and what they tell.
 
+use crate::compare::Difference;
 use crate::proved::Proved;
 use crate::tally::Book;
 use std::time::{Duration, Instant};
@@ -54,6 +55,22 @@ impl Outcome {
     /// Whether there are enough differences.
     pub fn enough(&self) -> bool {
         self.failed >= ENOUGH
+    }
+
+    /// Counts the comparisons of a run of so many events, up to its difference if there is one, which is told in
+    /// these words. Gives how many were made.
+    pub fn count(
+        &mut self,
+        length: usize,
+        found: Option<&Difference>,
+        words: impl FnOnce() -> String,
+    ) -> u64 {
+        let events = found.map_or(length, |found| found.events) as u64;
+        self.passed += events - u64::from(found.is_some());
+        if found.is_some() {
+            self.difference(words());
+        }
+        events
     }
 
     pub fn difference(&mut self, words: String) {

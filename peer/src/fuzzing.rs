@@ -184,14 +184,9 @@ impl<L: Library> Fuzz<L> {
         self.runs += 1;
         self.run_events += events.len() as u64;
         let found = run_difference(&self.library, n, limits, events, Some(&mut self.corners));
-        if let Some(found) = found {
-            self.outcome.passed += found.events as u64 - 1;
-            let words = tell_run(&self.library, n, limits, events);
-            self.outcome.difference(words);
-            return false;
-        }
-        self.outcome.passed += events.len() as u64;
-        true
+        let words = || tell_run(&self.library, n, limits, events);
+        self.outcome.count(events.len(), found.as_ref(), words);
+        found.is_none()
     }
 
     /// A short run of few nodes in which the queue is full soon, and its list.
@@ -450,14 +445,9 @@ impl<L: Library> Fuzz<L> {
         self.tables += 1;
         self.table_events += events.len() as u64;
         let found = walk_difference(&self.library, table, events, noise, Some(&mut self.corners));
-        if let Some(found) = found {
-            self.outcome.passed += found.events as u64 - 1;
-            let words = tell_walk(&self.library, table, events, noise);
-            self.outcome.difference(words);
-            return false;
-        }
-        self.outcome.passed += events.len() as u64;
-        true
+        let words = || tell_walk(&self.library, table, events, noise);
+        self.outcome.count(events.len(), found.as_ref(), words);
+        found.is_none()
     }
 
     fn events(&mut self, table: &Table, most: u32) -> Vec<Event> {

@@ -11,7 +11,7 @@ use Rattle.model.specs.Node.{isActive}
 use Rattle.model.specs.Range.{PairRule, LeftOut, isNode, carriesGroup, nodeInRange}
 use Rattle.model.specs.State.{State, nodeAt, waits, oldest, inRange}
 use Rattle.model.specs.Step as table
-use Rattle.model.specs.Step.{actor, reactionTo, effect, forms, step}
+use Rattle.model.specs.Step.{actor, isLose, reactionTo, effect, forms, step}
 use Rattle.model.specs.History.{History, NotFormed, NoTask, Task, newest, coming, historyBy}
 use Rattle.model.specs.Answers.{answerNumber, isAccepted}
 use Rattle.model.specs.Limits.{nodeLimit}
@@ -106,18 +106,6 @@ pub record RunsAsTable : Type 0 where
       → networkStep (networkRun n (l .messages) es) e ≡ resultOf (step (table.runBy r n l es) e)
 
 -- ── demand 3 of every run of n controllers over such a queue ──
-
--- lose, which tells no node anything
-abbrev pub isLose : Event → Bool
-isLose (Crash i) = false
-isLose (Recover i) = false
-isLose (Check i) = false
-isLose (Timeout i) = false
-isLose (Tick i) = false
-isLose (Expire i) = false
-isLose (Finish i t) = false
-isLose (Deliver a b) = false
-isLose (Lose a b) = true
 
 -- Whether the event's node forms a group in it: by the definition of what a node does, with the record that its controller keeps and what it is told. It stands for the mark of a step of the table (`forms`).
 abbrev pub formsAt : Network → Event → Bool

@@ -13,7 +13,6 @@ use model::TaskNo;
 ghost use mathlib.Core.Path.{_≡_};
 ghost use Rattle.message_fields.specs.Fields.{Packed};
 ghost use Rattle.model.specs.Answers.{answerNumber};
-ghost use Rattle.model.specs.Step.{actor};
 ghost use Rattle.node_step.specs.Fits.{Fits, FitsInput, FitsSender};
 ghost use Rattle.controller.specs.Controller as spec;
 ghost use Rattle.controller.specs.Stepped.{OutcomeOf, ControllerStepped};
@@ -64,21 +63,6 @@ fn input_of(e: LocalEvent) -> Input
         LocalEvent::Tick(_) => Input::Tick,
         LocalEvent::Expire(_) => Input::Expire,
         LocalEvent::Finish(_, t) => Input::Finish(t),
-    }
-}
-
-// Whose event it is.
-fn actor_of(e: LocalEvent) -> u8
-    ensures { λ r. ⌜ r ≡ actor (spec.asEvent e) ⌝ }
-{
-    match e {
-        LocalEvent::Crash(i) => i,
-        LocalEvent::Recover(i) => i,
-        LocalEvent::Check(i) => i,
-        LocalEvent::Timeout(i) => i,
-        LocalEvent::Tick(i) => i,
-        LocalEvent::Expire(i) => i,
-        LocalEvent::Finish(i, _) => i,
     }
 }
 
@@ -151,7 +135,7 @@ pub fn on_event(n: u8, own: u8, node: Node, e: LocalEvent) -> ControllerOutcome
     if !predicates::is_accepted(numbers) {
         return refused(numbers, node);
     }
-    if actor_of(e) != own {
+    if node_step::actor(whole) != own {
         return refused(Answer::OtherNode, node);
     }
     act(n, own, node, whole, input_of(e))

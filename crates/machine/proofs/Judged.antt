@@ -11,7 +11,7 @@ use Rattle.model.specs.State.{nodeAt, inRange, view}
 use Rattle.model.specs.Limits.{trafficEnd}
 use Rattle.model.specs.Pick.{pick, pick-true, pick-false}
 use Rattle.model.specs.Grounds.{Ground, ground, first}
-use Rattle.model.specs.Step.{actor, reactionTo, isSending, pairAtEnd, effect, accepted, step}
+use Rattle.model.specs.Step.{actor, isLose, reactionTo, isSending, pairAtEnd, effect, accepted, step}
 use Rattle.model.proofs.Judged.{Clear}
 use Rattle.model.proofs.Range.{OutgoingIn}
 use Rattle.model.proofs.InRange.{event-in}
@@ -30,7 +30,7 @@ use Rattle.model.specs.declared.Event.the-variants.{Crash, Recover, Check, Time
 use Rattle.node_step.specs.Fits.{FitsInput}
 use Rattle.node_step.specs.Grounds.{numberGrounds}
 use Rattle.machine.specs.declared.Verdict.{Verdict}
-use Rattle.machine.specs.Parts.{placeFor, sentPlace, withLast, stored, Room, stateGrounds, endGrounds, reactsTo, inputOf, loses, FitsMessage, leftOf, judgedGrounds, Judging, Judged}
+use Rattle.machine.specs.Parts.{placeFor, sentPlace, withLast, stored, Room, stateGrounds, endGrounds, reactsTo, inputOf, FitsMessage, leftOf, judgedGrounds, Judging, Judged}
 use Rattle.machine.specs.Stepped.{Stepped}
 use Rattle.machine.proofs.Laws.{Sized}
 use Rattle.model.proofs.Grounds.{Numbered, first-clear, first-met}
@@ -38,7 +38,7 @@ use Rattle.machine.proofs.Parts.{numbers-refuse, state-refuses, ends-re
 use Rattle.machine.proofs.Places.{small, actor-is, node-read, node-fits, found-is, reaction-is, message-ok, left-counts, room-is, last-is, clear-is, effect-is}
 
 -- ── the reaction by what the node is told ──
-pub reacts-lost : (n : ℕ) (c : Node) (m : Message) (e : Event) → loses e ≡ true → stays c ≡ reactsTo n c m e
+pub reacts-lost : (n : ℕ) (c : Node) (m : Message) (e : Event) → isLose e ≡ true → stays c ≡ reactsTo n c m e
 reacts-lost n c m (Crash i) q = absurd (true≢false (sym q))
 reacts-lost n c m (Recover i) q = absurd (true≢false (sym q))
 reacts-lost n c m (Check i) q = absurd (true≢false (sym q))
@@ -49,7 +49,7 @@ reacts-lost n c m (Finish i t) q = absurd (true≢false (sym q))
 reacts-lost n c m (Deliver a b) q = absurd (true≢false (sym q))
 reacts-lost n c m (Lose a b) q = refl
 
-pub reacts-told : (n : ℕ) (c : Node) (m : Message) (e : Event) → loses e ≡ false → react n (actor e) c (inputOf m e) ≡ reactsTo n c m e
+pub reacts-told : (n : ℕ) (c : Node) (m : Message) (e : Event) → isLose e ≡ false → react n (actor e) c (inputOf m e) ≡ reactsTo n c m e
 reacts-told n c m (Crash i) q = refl
 reacts-told n c m (Recover i) q = refl
 reacts-told n c m (Check i) q = refl
@@ -60,7 +60,7 @@ reacts-told n c m (Finish i t) q = refl
 reacts-told n c m (Deliver a b) q = refl
 reacts-told n c m (Lose a b) q = absurd (true≢false q)
 
-pub told-fits : (m : Message) (e : Event) → loses e ≡ false → FitsMessage m e → FitsInput (inputOf m e)
+pub told-fits : (m : Message) (e : Event) → isLose e ≡ false → FitsMessage m e → FitsInput (inputOf m e)
 told-fits m (Crash i) q f = tt
 told-fits m (Recover i) q f = tt
 told-fits m (Check i) q f = tt

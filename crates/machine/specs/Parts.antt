@@ -182,7 +182,7 @@ reactsTo n c m (Finish i t) = react n i c (Input.Finish t)
 reactsTo n c m (Deliver a b) = react n b c (Input.Receive m)
 reactsTo n c m (Lose a b) = stays c
 
--- the same in two parts: what the node is told, and whether it is told nothing
+-- the same in two parts: what the node is told, and (`isLose` of crate model) whether it is told nothing
 abbrev pub inputOf : Message → Event → Input
 inputOf m (Crash i) = Input.Crash
 inputOf m (Recover i) = Input.Recover
@@ -193,17 +193,6 @@ inputOf m (Expire i) = Input.Expire
 inputOf m (Finish i t) = Input.Finish t
 inputOf m (Deliver a b) = Input.Receive m
 inputOf m (Lose a b) = Input.Receive m
-
-abbrev pub loses : Event → Bool
-loses (Crash i) = false
-loses (Recover i) = false
-loses (Check i) = false
-loses (Timeout i) = false
-loses (Tick i) = false
-loses (Expire i) = false
-loses (Finish i t) = false
-loses (Deliver a b) = false
-loses (Lose a b) = true
 
 -- the message's sender can be put into a set, where the event acts on the message
 abbrev pub FitsMessage : Message → Event → Type 0

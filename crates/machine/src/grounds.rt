@@ -18,22 +18,6 @@ use model::Node;
 use model::Outgoing;
 use model::Reaction;
 
-pub fn actor(e: Event) -> u8
-    ensures { λ r. ⌜ r ≡ spec.actor e ⌝ }
-{
-    match e {
-        Event::Crash(i) => i,
-        Event::Recover(i) => i,
-        Event::Check(i) => i,
-        Event::Timeout(i) => i,
-        Event::Tick(i) => i,
-        Event::Expire(i) => i,
-        Event::Finish(i, _) => i,
-        Event::Deliver(_, b) => b,
-        Event::Lose(_, b) => b,
-    }
-}
-
 pub fn takes(e: Event) -> bool
     ensures { λ r. ⌜ r ≡ parts.takes e ⌝ }
 {
@@ -122,8 +106,8 @@ fn input_of(m: Message, e: Event) -> Input
     }
 }
 
-fn loses(e: Event) -> bool
-    ensures { λ r. ⌜ r ≡ parts.loses e ⌝ }
+fn is_lose(e: Event) -> bool
+    ensures { λ r. ⌜ r ≡ spec.isLose e ⌝ }
 {
     match e {
         Event::Crash(_) => false,
@@ -143,10 +127,10 @@ pub fn reacts_to(n: u8, c: Node, m: Message, e: Event) -> Reaction
     requires { ⌜ Fits (spec.actor e) c × parts.FitsMessage m e ⌝ }
     ensures { λ r. ⌜ r ≡ parts.reactsTo n c m e ⌝ }
 {
-    if loses(e) {
+    if is_lose(e) {
         return node_step::stays(c);
     }
-    node_step::react(n, actor(e), c, input_of(m, e))
+    node_step::react(n, node_step::actor(e), c, input_of(m, e))
 }
 
 // How many messages wait once the event's own, if it is found, is out.
@@ -190,7 +174,7 @@ pub fn sent_by(o: Outgoing) -> u32
 pub fn moved_place(e: Event) -> usize
     ensures { λ r. ⌜ (r ≡ parts.movedPlace e) × (r < 256) ⌝ }
 {
-    count_place(sender(e), actor(e))
+    count_place(sender(e), node_step::actor(e))
 }
 
 pub fn delivered_by(e: Event) -> u32

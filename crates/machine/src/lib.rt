@@ -9,7 +9,6 @@ ghost use Prim.Native.Nat.{ℕ, _≤_, _<_};
 ghost use Rattle.model.specs.State.{startingNode, view, inRange};
 ghost use Rattle.model.specs.Answers.{startNumber};
 ghost use Rattle.machine.specs.Stepped.{Stepped, startingTable, begunNumber, Begun, RecoveryAnswered};
-pub use grounds::actor;
 pub use grounds::count_place;
 pub use grounds::delivered_by;
 pub use grounds::judge;
@@ -126,7 +125,7 @@ pub fn advance(t: Table, e: Event) -> Outcome
     let messages = t.messages;
     let k = queue::place_for(messages, waiting, e);
     let m = t.messages[k % 64];
-    let at = (grounds::actor(e) as usize + 15) % 16;
+    let at = (node_step::actor(e) as usize + 15) % 16;
     let c = t.nodes[at];
     let v = grounds::judge(n, limit, waiting, k, c, m, e);
     let r = v.reaction;

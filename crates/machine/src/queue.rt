@@ -41,7 +41,7 @@ pub fn place_for(messages: [Message; 64], waiting: u8, e: Event) -> usize
     ensures { λ r. ⌜ (r ≡ parts.placeFor (firstOf waiting noMessage messages) e) × (r ≤ waiting) ⌝ }
 {
     if grounds::takes(e) {
-        return find(messages, waiting, grounds::sender(e), grounds::actor(e));
+        return find(messages, waiting, grounds::sender(e), node_step::actor(e));
     }
     waiting as usize
 }

@@ -41,6 +41,18 @@ actor (Finish i t) = i
 actor (Deliver a b) = b
 actor (Lose a b) = b
 
+-- whether it is a lose, of which no node is told anything
+abbrev pub isLose : Event → Bool
+isLose (Crash i) = false
+isLose (Recover i) = false
+isLose (Check i) = false
+isLose (Timeout i) = false
+isLose (Tick i) = false
+isLose (Expire i) = false
+isLose (Finish i t) = false
+isLose (Deliver a b) = false
+isLose (Lose a b) = true
+
 -- what the event's node does, where the event is accepted
 unfoldable pub reactionTo : State → Event → Reaction
 reactionTo s (Crash i) = react (s .n) i (nodeAt s i) Input.Crash

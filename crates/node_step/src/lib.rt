@@ -29,20 +29,15 @@ use model::Node;
 use model::Outgoing;
 use model::Reaction;
 use model::Status;
-pub use node::has_open_call;
-pub use node::is_collecting;
-pub use node::is_idle;
-pub use node::is_waiting;
 pub use procedures::stays;
 pub use range::carries_group;
 pub use range::message_in_range;
 pub use range::node_in_range;
 pub use recovery::recovery_records;
-pub use step::forms;
-pub use step::is_calling;
+pub use step::actor;
 pub use step::is_sending;
 
-pub fn leads(i: u8, c: Node) -> bool
+fn leads(i: u8, c: Node) -> bool
     ensures { λ r. ⌜ r ≡ spec.leads i c ⌝ }
 {
     let status = c.status;

@@ -137,7 +137,7 @@ fn place_for(q: &[u32; WORDS], waiting: u8, e: Event) -> usize
     ensures { λ r. ⌜ (r ≡ parts.placeFor (spec.queue (now (q .entry)) waiting) e) × (r ≤ waiting) ⌝ }
 {
     if machine::takes(e) {
-        return find(q, waiting as usize, machine::sender(e), machine::actor(e));
+        return find(q, waiting as usize, machine::sender(e), node_step::actor(e));
     }
     waiting as usize
 }
@@ -146,7 +146,7 @@ fn place_for(q: &[u32; WORDS], waiting: u8, e: Event) -> usize
 pub fn seat(e: Event) -> usize
     ensures { λ r. ⌜ (r ≡ (actor e + 15) % 16) × (r < 16) ⌝ }
 {
-    (machine::actor(e) as usize + 15) % 16
+    (node_step::actor(e) as usize + 15) % 16
 }
 
 // The judgement of an event on a node's record c, with its message as it stands in q; limit is how many messages may wait.

@@ -87,12 +87,9 @@ impl<L: Library> Fuzz<L> {
         if self.outcome.enough() {
             return;
         }
-        if let Some(found) = walk_difference(&self.library, walk, Some(&mut self.corners)) {
-            self.outcome.passed += found.events as u64 - 1;
-            let words = tell_walk(&self.library, walk);
-            return self.outcome.difference(words);
-        }
-        self.outcome.passed += walk.events.len() as u64;
+        let found = walk_difference(&self.library, walk, Some(&mut self.corners));
+        let words = || tell_walk(&self.library, walk);
+        self.outcome.count(walk.events.len(), found.as_ref(), words);
     }
 
     /// A run from all Down.

@@ -104,13 +104,8 @@ impl<L: Library> Fuzz<L> {
             return;
         }
         let found = walk_difference(&self.library, walk, &mut self.corners);
-        let events = found.as_ref().map_or(walk.events.len(), |found| found.events);
-        self.events += events as u64;
-        self.outcome.passed += events as u64 - u64::from(found.is_some());
-        if found.is_some() {
-            let words = tell_walk(&self.library, walk);
-            self.outcome.difference(words);
-        }
+        let words = || tell_walk(&self.library, walk);
+        self.events += self.outcome.count(walk.events.len(), found.as_ref(), words);
     }
 
     /// Now and then a seed for other forms of the records' bytes.

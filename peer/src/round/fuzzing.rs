@@ -89,13 +89,8 @@ impl<L: Library> Fuzz<L> {
             return;
         }
         let found = schedule_difference(&self.library, schedule, &mut self.corners);
-        let moves = found.as_ref().map_or(schedule.moves.len(), |found| found.events);
-        self.moves += moves as u64;
-        self.outcome.passed += moves as u64 - u64::from(found.is_some());
-        if found.is_some() {
-            let words = tell_schedule(&self.library, schedule);
-            self.outcome.difference(words);
-        }
+        let words = || tell_schedule(&self.library, schedule);
+        self.moves += self.outcome.count(schedule.moves.len(), found.as_ref(), words);
     }
 
     /// A turn into so many bytes with random ones in them.

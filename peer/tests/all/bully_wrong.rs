@@ -1,8 +1,10 @@
 //! Bully machines and boundaries that are wrong on purpose: the fuzzer finds each of them, and the claims
 //! alone find those that break them.
 
+use crate::finds;
 use crate::functions;
 
+use finds::found_in;
 use functions::Functions;
 use peer::bully::bytes::{bully_step_by, first_event, TABLE_BYTES};
 use peer::bully::claims::broken_claim;
@@ -24,15 +26,9 @@ fn with<'a>(bully_step: impl Fn(&[u8], &[u8], &mut [u8]) -> u8 + 'a) -> Function
     Functions { bully_step: Box::new(bully_step), ..Functions::default() }
 }
 
-/// How many failures the fuzzer finds in so many seconds; it ends at enough differences.
-fn found_in(library: impl Library, seconds: u64) -> u64 {
-    let mut fuzz = Fuzz::new(library, 1);
-    fuzz.go_on(Duration::from_secs(seconds), 0);
-    fuzz.tell(0).1
-}
-
+/// How many failures the fuzzer finds in half a minute.
 fn found(library: impl Library) -> u64 {
-    found_in(library, 30)
+    found_in(Fuzz::new(library, 1), 30)
 }
 
 type Machine = fn(&mut Table, &Event) -> Result<(), u8>;
@@ -376,7 +372,7 @@ fn wrong_machines_are_found() {
         });
         assert!(found(library) >= ENOUGH, "{k}");
     }
-    assert_eq!(found_in(Own, 2), 0);
+    assert_eq!(found_in(Fuzz::new(Own, 1), 2), 0);
     // It ends at enough differences.
     assert_eq!(found(with(|_: &[u8], _: &[u8], _: &mut [u8]| 9)), ENOUGH);
 }
@@ -482,7 +478,7 @@ fn what_is_no_part_of_a_table_is_free() {
         }
         answer
     });
-    assert_eq!(found_in(library, 2), 0);
+    assert_eq!(found_in(Fuzz::new(library, 1), 2), 0);
 }
 
 /// A fuzzer that meets a corner too seldom fails.

@@ -1,8 +1,10 @@
 //! Controllers and boundaries of T-11 that are wrong on purpose: the fuzzer finds each of them soon, and the judgement
 //! of calls finds each by itself.
 
+use crate::finds;
 use crate::functions;
 
+use finds::{found_in, found_soon};
 use functions::Functions;
 use peer::compare::Lent;
 use peer::controller::bytes::{event_by, message_by, own_event, SHARE_BYTES};
@@ -689,23 +691,14 @@ fn all_wrong() -> Vec<(&'static str, Functions<'static>)> {
     all
 }
 
-/// Whether the fuzzer finds something in so many of its parts.
-fn found_soon(library: impl Library, parts: u64) -> bool {
-    let mut fuzz = Fuzz::new(library, 1);
-    (0..parts).any(|_| {
-        fuzz.part();
-        fuzz.outcome().failed > 0
-    })
-}
-
 #[test]
 fn wrong_ones_are_found_soon() {
     let all = all_wrong();
     assert_eq!(all.len(), 61);
     for (name, library) in all {
-        assert!(found_soon(library, SOON), "{name}");
+        assert!(found_soon(Fuzz::new(library, 1), SOON), "{name}");
     }
-    assert!(!found_soon(Own, SOON));
+    assert!(!found_soon(Fuzz::new(Own, 1), SOON));
 }
 
 /// Whether the judgement of calls alone, without this program's controller beside it, finds a library.
@@ -799,7 +792,7 @@ fn the_whole_table_is_compared() {
         "event 2, lose 2 1: the counts are others than the whole table's"
     );
     for machine in [clears, yes, nine_last, uncounted] {
-        assert!(found_soon(with(machine), SOON));
+        assert!(found_soon(Fuzz::new(with(machine), 1), SOON));
     }
 }
 
@@ -852,13 +845,6 @@ fn calls_are_made_smaller() {
     assert!(words.ends_with("refused 9, expected: refused 20"), "{words}");
 }
 
-/// How many failures the fuzzer finds in so many seconds; it ends at enough differences.
-fn found_in(library: impl Library, seconds: u64) -> u64 {
-    let mut fuzz = Fuzz::new(library, 1);
-    fuzz.go_on(Duration::from_secs(seconds), 0);
-    fuzz.tell(0).1
-}
-
 /// What stands between the message and 55 is free.
 #[test]
 fn what_is_behind_the_message_is_free() {
@@ -878,19 +864,19 @@ fn what_is_behind_the_message_is_free() {
         }),
         ..Functions::default()
     };
-    assert!(!found_soon(library, SOON));
+    assert!(!found_soon(Fuzz::new(library, 1), SOON));
 }
 
 /// With this program's own controller the fuzzer finds nothing; one that meets a corner too seldom fails, and it ends
 /// at enough differences.
 #[test]
 fn corners_must_be_met() {
-    assert_eq!(found_in(Own, 1), 0);
+    assert_eq!(found_in(Fuzz::new(Own, 1), 1), 0);
     let mut fuzz = Fuzz::new(Own, 1);
     fuzz.go_on(Duration::ZERO, 0);
     assert_eq!(fuzz.tell(0).1, 0);
     assert!(fuzz.tell(1).1 > 900);
     let refuses =
         Functions { controller_event: Box::new(|_, _, _, _, _| 9), ..Functions::default() };
-    assert_eq!(found_in(refuses, 30), ENOUGH);
+    assert_eq!(found_in(Fuzz::new(refuses, 1), 30), ENOUGH);
 }

@@ -16,6 +16,7 @@ mod controller_corners;
 mod controller_message;
 mod controller_wrong;
 mod corners;
+mod finds;
 mod functions;
 mod fuzzing;
 mod history;

@@ -5,19 +5,18 @@
 
 use crate::functions;
 use crate::other_forms;
+use crate::wrong_libraries;
 
 use functions::Functions;
 use other_forms::in_another_form;
 use peer::compare::{recovery_difference, tell_recovery};
-use peer::fuzz_loop::Fuzzer;
-use peer::fuzzing::Fuzz;
 use peer::list::write_event;
 use peer::machine::*;
 use peer::numbers::Numbers;
 use peer::proved::*;
 use peer::tables::{in_range, to_recover};
 use peer::traffic_tables::count_waiting;
-use std::time::Duration;
+use wrong_libraries::found;
 use Event::*;
 use Status::*;
 
@@ -416,13 +415,6 @@ fn proved_library() {
 /// A library whose records are made by something else.
 fn records<'a>(recovery: impl Fn(&[u8], u8, &mut [u8]) -> u8 + 'a) -> Functions<'a> {
     Functions { recovery: Box::new(recovery), ..Functions::default() }
-}
-
-/// How many differences the fuzzer finds, at most five.
-fn found(library: impl Library) -> u64 {
-    let mut fuzz = Fuzz::new(library, 1);
-    fuzz.go_on(Duration::from_secs(60), 0);
-    fuzz.tell(0).1
 }
 
 /// Libraries that are nearly right at the boundary are found.

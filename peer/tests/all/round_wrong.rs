@@ -1,8 +1,10 @@
 //! Drivers and boundaries of T-09 that are wrong on purpose: the fuzzer finds each of them soon, the judgement of
 //! turns finds each by itself, and the bound by itself those that break it.
 
+use crate::finds;
 use crate::functions;
 
+use finds::{found_in, found_soon};
 use functions::Functions;
 use peer::compare::Lent;
 use peer::corners::Source;
@@ -22,7 +24,7 @@ use peer::traffic_tables::count_waiting;
 use std::time::Duration;
 use Event::*;
 
-/// So many parts of the fuzzer's are a small number.
+/// So many parts of the fuzzer's, each of nine schedules, are a small number.
 const SOON: u64 = 4;
 
 type Answer = Result<(Place, Done), u8>;
@@ -263,21 +265,12 @@ const DRIVERS: [(Driver, &str, bool); 23] = [
     (a_pair_of_one, "a pair of one", false),
 ];
 
-/// Whether the fuzzer finds something in so many of its parts, each of which has nine schedules.
-fn found_soon(library: impl Library, parts: u64) -> bool {
-    let mut fuzz = Fuzz::new(library, 1);
-    (0..parts).any(|_| {
-        fuzz.part();
-        fuzz.outcome().failed > 0
-    })
-}
-
 #[test]
 fn wrong_drivers_are_found_soon() {
     for (driver, name, _) in DRIVERS {
-        assert!(found_soon(driven(driver), SOON), "{name}");
+        assert!(found_soon(Fuzz::new(driven(driver), 1), SOON), "{name}");
     }
-    assert!(!found_soon(Own, SOON));
+    assert!(!found_soon(Fuzz::new(Own, 1), SOON));
 }
 
 /// What the judgement says of one turn through a library.
@@ -433,14 +426,7 @@ fn wrong_steps_are_found() {
     let wrong =
         move |table: &[u8], field: &[u8], out: &mut [u8]| step_by(clears, table, field, out);
     let library = Functions { step: Box::new(wrong), ..Functions::default() };
-    assert!(found_soon(library, SOON));
-}
-
-/// How many failures the fuzzer finds in so many seconds; it ends at enough differences.
-fn found_in(library: impl Library, seconds: u64) -> u64 {
-    let mut fuzz = Fuzz::new(library, 1);
-    fuzz.go_on(Duration::from_secs(seconds), 0);
-    fuzz.tell(0).1
+    assert!(found_soon(Fuzz::new(library, 1), SOON));
 }
 
 /// Boundaries that are nearly right are found.
@@ -486,10 +472,10 @@ fn wrong_boundaries_are_found() {
             }
             answer
         });
-        assert!(found_in(library, 30) >= ENOUGH, "{mistake}");
+        assert!(found_in(Fuzz::new(library, 1), 30) >= ENOUGH, "{mistake}");
     }
     // It ends at enough differences; then the bound was never met.
-    assert_eq!(found_in(with(|_, _, _, _| 9), 30), ENOUGH + 1);
+    assert_eq!(found_in(Fuzz::new(with(|_, _, _, _| 9), 1), 30), ENOUGH + 1);
 }
 
 /// What stands behind the n records and behind the waiting messages after an accepted turn is free, and what a
@@ -503,14 +489,14 @@ fn what_is_no_part_of_a_table_is_free() {
         }
         answer
     });
-    assert_eq!(found_in(library, 1), 0);
+    assert_eq!(found_in(Fuzz::new(library, 1), 1), 0);
 }
 
 /// With this program's own driver the fuzzer finds nothing. One that meets a corner too seldom fails, and one that
 /// never meets the bound in its last turn.
 #[test]
 fn corners_must_be_met() {
-    assert_eq!(found_in(Own, 2), 0);
+    assert_eq!(found_in(Fuzz::new(Own, 1), 2), 0);
     let mut fuzz = Fuzz::new(Own, 1);
     fuzz.go_on(Duration::ZERO, 0);
     assert_eq!(fuzz.tell(0).1, 1);

@@ -1,11 +1,10 @@
 //! Libraries whose step or text is wrong on purpose, for the tests of the fuzzer and of the comparison.
 
+use crate::finds::found_in;
 use crate::functions::Functions;
-use peer::fuzz_loop::Fuzzer;
 use peer::fuzzing::Fuzz;
 use peer::machine::{Event, Table};
 use peer::proved::{fitting, step_by, Library};
-use std::time::Duration;
 
 /// A library whose step is by another machine, which is given any table.
 pub fn steps<'a>(machine: impl Fn(&mut Table, &Event) -> Result<(), u8> + 'a) -> Functions<'a> {
@@ -27,7 +26,5 @@ pub fn texts<'a>(program: impl Fn(&[u8]) -> String + 'a) -> Functions<'a> {
 
 /// How many differences the fuzzer finds, at most five.
 pub fn found(library: impl Library) -> u64 {
-    let mut fuzz = Fuzz::new(library, 1);
-    fuzz.go_on(Duration::from_secs(60), 0);
-    fuzz.tell(0).1
+    found_in(Fuzz::new(library, 1), 60)
 }

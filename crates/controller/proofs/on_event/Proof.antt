@@ -36,7 +36,8 @@ returns-3 c =
     let ok = sym (i .in-range .ensures) ∙ not-false (i .in-range .result) (w .before .if1 .left) in
     let h = rw (w .as-event .ensures) at (a .ensures) in
     let clear = sym h ∙ accepted-zero (a .result) (sym (t .is-accepted .ensures) ∙ not-false (t .is-accepted .result) (o .before .if2 .left)) in
-    same-outcome (other-event (s .n) (s .own) (s .node) (s .e) ok clear (λ q. c .before .if3 .taken (o .actor-of .ensures ∙ q))) (c .refused3 .ensures)
+    let own = rw (w .as-event .ensures) at (o .actor .ensures) in
+    same-outcome (other-event (s .n) (s .own) (s .node) (s .e) ok clear (λ q. c .before .if3 .taken (own ∙ q))) (c .refused3 .ensures)
 
 act-requires : tie.Need-act-requires
 act-requires c κs =
@@ -57,7 +58,8 @@ returns-4 c =
     let ok = sym (i .in-range .ensures) ∙ not-false (i .in-range .result) (w .before .if1 .left) in
     let h = rw (w .as-event .ensures) at (a .ensures) in
     let clear = sym h ∙ accepted-zero (a .result) (sym (t .is-accepted .ensures) ∙ not-false (t .is-accepted .result) (o .before .if2 .left)) in
-    same-outcome (own-event (s .n) (s .own) (s .node) (s .e) ok clear (sym (o .actor-of .ensures) ∙ n .before .if3 .left)) (rw (← w .as-event .ensures, ← n .input-of .ensures) (c .act .ensures))
+    let own = rw (w .as-event .ensures) at (o .actor .ensures) in
+    same-outcome (own-event (s .n) (s .own) (s .node) (s .e) ok clear (sym own ∙ n .before .if3 .left)) (rw (← w .as-event .ensures, ← n .input-of .ensures) (c .act .ensures))
 
 pub on-event-spec : {M : Type 1} → statement M
 on-event-spec =
