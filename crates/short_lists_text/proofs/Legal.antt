@@ -17,19 +17,19 @@ use Rattle.short_lists_text.specs.Claims.{LegalByRun, LegalIs, LineIs}
 
 -- ── accepted in turn ──
 
-accepts-one : (s : State) (e : Event) → isAccepted (step s e) ≡ true → Accepts s e
+pub accepts-one : (s : State) (e : Event) → isAccepted (step s e) ≡ true → Accepts s e
 accepts-one s e q = by (step s e) refl q
   where
     by : (r : Result) → step s e ≡ r → isAccepted r ≡ true → Accepts s e
     by (refused x) z b = absurd (true≢false (sym b))
     by (accepted u m) z b = record { state = u; mark = m; is = z }
 
-accepts-at : (s : State) (before : List Event) (e : Event) (after : List Event) → AcceptedFrom s (before ++ (e ∷ after)) → Accepts (runFrom s before) e
+pub accepts-at : (s : State) (before : List Event) (e : Event) (after : List Event) → AcceptedFrom s (before ++ (e ∷ after)) → Accepts (runFrom s before) e
 unfolding runFrom
 accepts-at s [] e rest a = accepts-one s e (a .0)
 accepts-at s (b ∷ bs) e rest a = accepts-at (after s b) bs e rest (a .1)
 
-in-turn : (s : State) (l : List Event) → ((before : List Event) (e : Event) (rest : List Event) → l ≡ before ++ (e ∷ rest) → Accepts (runFrom s before) e) → AcceptedFrom s l
+pub in-turn : (s : State) (l : List Event) → ((before : List Event) (e : Event) (rest : List Event) → l ≡ before ++ (e ∷ rest) → Accepts (runFrom s before) e) → AcceptedFrom s l
 unfolding runFrom
 in-turn s [] f = tt
 in-turn s (e ∷ es) f = (ap isAccepted (f [] e es refl .is), in-turn (after s e) es (λ before d rest q. f (e ∷ before) d rest (ap (λ l. e ∷ l) q)))

@@ -6,6 +6,7 @@ pub mod Aside
 pub mod Few
 pub mod Counts
 pub mod Bytes
+pub mod Spaced
 pub mod Lines
 pub mod Cases
 pub mod Refuses

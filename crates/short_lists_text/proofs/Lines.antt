@@ -30,7 +30,7 @@ use Rattle.short_lists_text.proofs.Bytes.{accepted-fits}
 
 -- ── bytes ──
 
-abbrev Digit : ℕ → Type 0
+abbrev pub Digit : ℕ → Type 0
 Digit b = (48 ≤ b) × (b ≤ 57)
 
 abbrev Letter : ℕ → Type 0
@@ -46,12 +46,12 @@ digit-within b d = (λ e. omega arith, λ e. omega arith)
 letter-within : (b : ℕ) → Letter b → Within b
 letter-within b d = (λ e. omega arith, λ e. omega arith)
 
-decimal-digits : (x : ℕ) → Each Digit (decimal x)
+pub decimal-digits : (x : ℕ) → Each Digit (decimal x)
 decimal-digits x = each-at Digit (decimal x) (decimal-each x)
 
 -- ── numbers ──
 
-spaced-stops : (P : ℕ → Type 0) → (P 32 → ⊥) → (xs : List ℕ) → Stops P (spaced xs)
+pub spaced-stops : (P : ℕ → Type 0) → (P 32 → ⊥) → (xs : List ℕ) → Stops P (spaced xs)
 unfolding spaced
 spaced-stops P f [] = tt
 spaced-stops P f (x ∷ xs) = f
@@ -61,7 +61,7 @@ unfolding spaced
 spaced-within [] = tt
 spaced-within (x ∷ xs) = ((λ e. omega arith, λ e. omega arith), each-append Within (decimal x) (spaced xs) (each-map Digit Within digit-within (decimal x) (decimal-digits x)) (spaced-within xs))
 
-spaced-same : (xs ys : List ℕ) → All (λ x. x < 2 ^ 32) xs → All (λ x. x < 2 ^ 32) ys → spaced xs ≡ spaced ys → xs ≡ ys
+pub spaced-same : (xs ys : List ℕ) → All (λ x. x < 2 ^ 32) xs → All (λ x. x < 2 ^ 32) ys → spaced xs ≡ spaced ys → xs ≡ ys
 unfolding spaced
 spaced-same [] [] f g e = refl
 spaced-same [] (y ∷ ys) f g e = let z = ap length e in absurd (omega arith)
@@ -126,7 +126,7 @@ by-name (Finish i t) = refl
 by-name (Deliver a b) = refl
 by-name (Lose a b) = refl
 
-event-same : (e f : Event) → SmallNumbers e → SmallNumbers f → eventText e ≡ eventText f → e ≡ f
+pub event-same : (e f : Event) → SmallNumbers e → SmallNumbers f → eventText e ≡ eventText f → e ≡ f
 unfolding eventText
 event-same e f g h q =
     let no : (Letter 32 → ⊥) = λ d. omega arith in
@@ -181,7 +181,7 @@ line-same (e ∷ es) (f ∷ fs) a b q =
 
 -- ── an accepted list ──
 
-fits-small : (e : Event) → FitsBytes e → SmallNumbers e
+pub fits-small : (e : Event) → FitsBytes e → SmallNumbers e
 fits-small (Crash i) f = omega arith
 fits-small (Recover i) f = omega arith
 fits-small (Check i) f = omega arith
@@ -268,7 +268,7 @@ lists-same (l ∷ ls) (m ∷ ms) x y a b q =
     let t = lists-same ls ms x y (a .1) (b .1) (tail-eq-of-cons-eq q) in
     rw (h, t)
 
-all-of-each : {A : Type 0} (P : A → Type 0) (xs : List A) → Each P xs → All P xs
+pub all-of-each : {A : Type 0} (P : A → Type 0) (xs : List A) → Each P xs → All P xs
 all-of-each P [] a = tt
 all-of-each P (x ∷ xs) a = (a .0, all-of-each P xs (a .1))
 

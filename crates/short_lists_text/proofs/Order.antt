@@ -86,7 +86,7 @@ read (Finish i t) = let z : t .number / 256 * 256 + t .number % 256 ≡ t .numbe
 read (Deliver a b) = refl
 read (Lose a b) = refl
 
-same-event : (e f : Event) → tag e ≡ tag f → contents e ≡ contents f → e ≡ f
+pub same-event : (e f : Event) → tag e ≡ tag f → contents e ≡ contents f → e ≡ f
 same-event e f p q = sym (read e) ∙ (ap (λ t. eventOf t (contents e)) p ∙ (ap (λ c. eventOf (tag f) c) q ∙ read f))
 
 event-compare : (e f : Event) → Before e f ⊎ ((e ≡ f) ⊎ Before f e)

@@ -1,0 +1,136 @@
+-- Labels: the names in capitals, which letters stand in them, how long they can be, and that each tells its event.
+use Prim.Native.Nat.{ℕ, _+_, _≤_, _<_}
+use native.Mathlib.Omega.{arith}
+use mathlib.Core.Path.{_≡_, refl, sym, _∙_, ap}
+use mathlib.Core.List.{List, [], _∷_, _++_, append-nil, map}
+use lib.ListN.{length, length-append}
+use Rattle.model.specs.Pick.{pick}
+use Rattle.model.specs.declared.TaskNo.{TaskNo}
+use Rattle.model.specs.declared.Event.{Event}
+use Rattle.model.specs.declared.Event.the-variants.{Crash, Recover, Check, Timeout, Tick, Expire, Finish, Deliver, Lose}
+use Rattle.listing.specs.Ascii.{bytes}
+use Rattle.listing.specs.Decimal.{decimal}
+use Rattle.listing.proofs.Parted.{Each, each-append, each-map, parted}
+use Rattle.short_lists_text.specs.Text.{nameOf, numbersOf, spaced, eventText}
+use Rattle.short_lists_text.specs.Claims.{FitsBytes, SmallNumbers}
+use Rattle.short_lists_text.proofs.Spaced.{one-short, two-short, task-short}
+use Rattle.short_lists_text.proofs.Lines.{Digit, decimal-digits, spaced-stops, event-same, all-of-each}
+use Rattle.aldebaran_text.specs.Text.{capital, label}
+use Rattle.aldebaran_text.specs.Claims.{LabelIs}
+
+-- ── each event's ──
+
+one-number : (i : ℕ) → spaced (i ∷ []) ≡ bytes " " ++ decimal i
+unfolding spaced
+one-number i = ap (λ (l : List ℕ). bytes " " ++ l) (append-nil (decimal i))
+
+two-numbers : (i x : ℕ) → spaced (i ∷ x ∷ []) ≡ bytes " " ++ (decimal i ++ (bytes " " ++ decimal x))
+unfolding spaced
+two-numbers i x = ap (λ (l : List ℕ). bytes " " ++ (decimal i ++ (bytes " " ++ l))) (append-nil (decimal x))
+
+-- ── its letters ──
+
+-- no space, quotation mark or digit
+abbrev pub Capital : ℕ → Type 0
+Capital b = 65 ≤ b
+
+pub name-capitals : (e : Event) → Each Capital (map capital (nameOf e))
+unfolding nameOf capital pick
+name-capitals (Crash i) = omega arith
+name-capitals (Recover i) = omega arith
+name-capitals (Check i) = omega arith
+name-capitals (Timeout i) = omega arith
+name-capitals (Tick i) = omega arith
+name-capitals (Expire i) = omega arith
+name-capitals (Finish i t) = omega arith
+name-capitals (Deliver a b) = omega arith
+name-capitals (Lose a b) = omega arith
+
+-- what may stand between quotation marks in a line
+abbrev pub Quotable : ℕ → Type 0
+Quotable b = (b ≡ 34 → ⊥) × (b ≡ 10 → ⊥)
+
+spaced-quotable : (xs : List ℕ) → Each Quotable (spaced xs)
+unfolding spaced
+spaced-quotable [] = tt
+spaced-quotable (x ∷ xs) =
+    ((λ q. omega arith, λ q. omega arith),
+    each-append Quotable (decimal x) (spaced xs) (each-map Digit Quotable (λ b d. (λ q. omega arith, λ q. omega arith)) (decimal x) (decimal-digits x)) (spaced-quotable xs))
+
+pub label-quotable : (e : Event) → Each Quotable (label e)
+unfolding label
+label-quotable e =
+    each-append Quotable (map capital (nameOf e)) (spaced (numbersOf e))
+    (each-map Capital Quotable (λ b c. (λ q. omega arith, λ q. omega arith)) (map capital (nameOf e)) (name-capitals e)) (spaced-quotable (numbersOf e))
+
+-- ── its event ──
+
+abbrev small : List ℕ → List ℕ
+small w = map (λ b. b + 32) w
+
+name-back : (e : Event) → small (map capital (nameOf e)) ≡ nameOf e
+unfolding nameOf capital pick
+name-back (Crash i) = refl
+name-back (Recover i) = refl
+name-back (Check i) = refl
+name-back (Timeout i) = refl
+name-back (Tick i) = refl
+name-back (Expire i) = refl
+name-back (Finish i t) = refl
+name-back (Deliver a b) = refl
+name-back (Lose a b) = refl
+
+pub label-tells : (e f : Event) → SmallNumbers e → SmallNumbers f → label e ≡ label f → e ≡ f
+unfolding label eventText
+label-tells e f g h q =
+    let no : (Capital 32 → ⊥) = λ d. omega arith in
+    let r = parted Capital (map capital (nameOf e)) (map capital (nameOf f)) (name-capitals e) (name-capitals f) (spaced-stops Capital no (numbersOf e)) (spaced-stops Capital no (numbersOf f)) q in
+    let n : nameOf e ≡ nameOf f = sym (name-back e) ∙ (ap small (r .0) ∙ name-back f) in
+    event-same e f g h (ap (λ w. w ++ spaced (numbersOf e)) n ∙ ap (λ (l : List ℕ). nameOf f ++ l) (r .1))
+
+-- ── how long ──
+
+name-short : (e : Event) → length (map capital (nameOf e)) ≤ 7
+unfolding nameOf
+name-short (Crash i) = omega arith
+name-short (Recover i) = omega arith
+name-short (Check i) = omega arith
+name-short (Timeout i) = omega arith
+name-short (Tick i) = omega arith
+name-short (Expire i) = omega arith
+name-short (Finish i t) = omega arith
+name-short (Deliver a b) = omega arith
+name-short (Lose a b) = omega arith
+
+numbers-short : (e : Event) → FitsBytes e → length (spaced (numbersOf e)) ≤ 10
+numbers-short (Crash i) f = let l = one-short f in omega arith
+numbers-short (Recover i) f = let l = one-short f in omega arith
+numbers-short (Check i) f = let l = one-short f in omega arith
+numbers-short (Timeout i) f = let l = one-short f in omega arith
+numbers-short (Tick i) f = let l = one-short f in omega arith
+numbers-short (Expire i) f = let l = one-short f in omega arith
+numbers-short (Finish i t) f = task-short (f .0) (f .1)
+numbers-short (Deliver a b) f = let l = two-short (f .0) (f .1) in omega arith
+numbers-short (Lose a b) f = let l = two-short (f .0) (f .1) in omega arith
+
+pub label-short : (e : Event) → FitsBytes e → length (label e) ≤ 17
+unfolding label
+label-short e f = let a = name-short e in let b = numbers-short e f in omega (arith, a, b, length-append (map capital (nameOf e)) (spaced (numbersOf e)))
+
+-- ── all of it ──
+
+pub label-is : LabelIs
+unfolding label nameOf capital pick
+label-is = record {
+  crash = λ i. ap (λ (l : List ℕ). bytes "CRASH" ++ l) (one-number i);
+  recover = λ i. ap (λ (l : List ℕ). bytes "RECOVER" ++ l) (one-number i);
+  check = λ i. ap (λ (l : List ℕ). bytes "CHECK" ++ l) (one-number i);
+  timeout = λ i. ap (λ (l : List ℕ). bytes "TIMEOUT" ++ l) (one-number i);
+  tick = λ i. ap (λ (l : List ℕ). bytes "TICK" ++ l) (one-number i);
+  expire = λ i. ap (λ (l : List ℕ). bytes "EXPIRE" ++ l) (one-number i);
+  finish = λ i t. ap (λ (l : List ℕ). bytes "FINISH" ++ l) (two-numbers i (t .number));
+  deliver = λ a b. ap (λ (l : List ℕ). bytes "DELIVER" ++ l) (two-numbers a b);
+  lose = λ a b. ap (λ (l : List ℕ). bytes "LOSE" ++ l) (two-numbers a b);
+  quotable = λ e. all-of-each Quotable (label e) (label-quotable e);
+  tells = label-tells;
+}

@@ -1,0 +1,193 @@
+-- The text: its lines, how many bytes it can have, and that it tells the transitions.
+use Prim.Native.Nat.{ℕ, zero, suc, _+_, _-_, _*_, _^_, _≤_, _<_}
+use native.Mathlib.Omega.{arith}
+use mathlib.Core.Bool.{Bool, true, false}
+use mathlib.Core.Path.{_≡_, refl, sym, _∙_, ap, subst}
+use mathlib.Core.Logic.{inl, inr}
+use mathlib.Core.List.{List, [], _∷_, _++_, map, append-assoc, head-eq-of-cons-eq, tail-eq-of-cons-eq}
+use lib.ListN.{length, getD, length-append}
+use borrow.Author.Tests.{le-leb}
+use Rattle.model.specs.Limits.{tower}
+use Rattle.model.specs.Pick.{pick, pick-true, pick-false}
+use Rattle.model.specs.State.{State, start}
+use Rattle.model.specs.declared.Event.{Event}
+use Rattle.listing.specs.Ascii.{bytes}
+use Rattle.listing.specs.Decimal.{digits, decimal}
+use Rattle.listing.specs.Lines.{row, stoppedLine}
+use Rattle.listing.specs.Printing.{joined}
+use Rattle.listing.proofs.Decimal.{decimal-32-long, decimal-denotes}
+use Rattle.listing.proofs.Parted.{Each, Stops, each-map, parted, Inside, IsLine, line-after, joined-same}
+use Rattle.listing.proofs.Claims.{decimal-same}
+use Rattle.short_lists_text.specs.Rows.{Among, All}
+use Rattle.short_lists_text.specs.Lists.{upFrom, listsFrom, isAccepted}
+use Rattle.short_lists_text.specs.Claims.{FitsBytes, SmallNumbers}
+use Rattle.short_lists_text.proofs.Bytes.{accepted-fits}
+use Rattle.short_lists_text.proofs.Lines.{Digit, decimal-digits, fits-small}
+use Rattle.aldebaran_text.specs.System.{states, Transition, transitions}
+use Rattle.aldebaran_text.specs.Text.{label, firstLine, transitionLine, linesOf, fits, refusalText, textOf}
+use Rattle.aldebaran_text.specs.Claims.{transitionAt, Small, TextIs, TextTells, TextFits}
+use Rattle.aldebaran_text.proofs.Numbers.{at-place}
+use Rattle.aldebaran_text.proofs.Transitions.{all-transitions}
+use Rattle.aldebaran_text.proofs.Labels.{Quotable, label-quotable, label-tells, label-short}
+use Rattle.aldebaran_text.proofs.Cases.{aldebaran-cases}
+
+-- ── how many states ──
+
+grow : (m k : ℕ) (s : State) → length (states m s) ≤ length (states (m + k) s)
+unfolding states
+grow m zero s = let z : m + 0 ≡ m = omega arith in rw z (omega arith)
+grow m (suc k) s = let z : m + suc k ≡ suc (m + k) = omega arith in let h = grow m k s in rw z (omega (arith, h, length-append (states (m + k) s) (listsFrom (suc (m + k)) s)))
+
+up-to-four : (m : ℕ) (s : State) → m ≤ 4 → length (states m s) ≤ length (states 4 s)
+up-to-four m s h = let z : m + (4 - m) ≡ 4 = omega arith in subst (λ k. length (states m s) ≤ length (states k s)) z (grow m (4 - m) s)
+
+of-four : (n : ℕ) → 1 ≤ n → n ≤ 3 → length (states 4 (start n tower)) ≤ 601
+unfolding upFrom
+of-four zero p q = absurd (omega arith)
+of-four (suc zero) p q = let e = ap (λ l. getD l 4 0) (aldebaran-cases .states-of-one) in omega (arith, e)
+of-four (suc (suc zero)) p q = let e = ap (λ l. getD l 4 0) (aldebaran-cases .states-of-two) in omega (arith, e)
+of-four (suc (suc (suc zero))) p q = let e = ap (λ l. getD l 4 0) (aldebaran-cases .states-of-three) in omega (arith, e)
+of-four (suc (suc (suc (suc n)))) p q = absurd (omega arith)
+
+pub few : (n m : ℕ) → 1 ≤ n → n ≤ 3 → m ≤ 4 → length (states m (start n tower)) ≤ 601
+few n m p q h = let a = up-to-four m (start n tower) h in let b = of-four n p q in omega arith
+
+-- ── the text of an allowed input ──
+
+pub text-lines : (n m : ℕ) → 1 ≤ n → n ≤ 3 → m ≤ 4 → textOf (n ∷ m ∷ []) ≡ joined (linesOf (states m (start n tower)))
+unfolding textOf fits
+text-lines n m p q h = rw (le-leb 1 n p, le-leb n 3 q, le-leb m 4 h, pick-true)
+
+pub text-is : TextIs
+unfolding joined
+text-is = record { lines = text-lines; few = few; in-full = λ x h. decimal-denotes x (omega arith) }
+
+-- ── its transitions ──
+
+all-places : {A : Type 0} (P : A → Type 0) (d : A) (xs : List A) → ((k : ℕ) → k < length xs → P (getD xs k d)) → All P xs
+all-places P d [] f = tt
+all-places P d (x ∷ xs) f = (f 0 (omega arith), all-places P d xs (λ k h. f (suc k) (omega arith)))
+
+-- the numbers fit: source and target are states, and the event is accepted
+record Fits (x : Transition) : Type 0 where
+  pub source : x .source < 601
+  pub event : FitsBytes (x .event)
+  pub target : x .target < 601
+
+transitions-fit : (n m : ℕ) → 1 ≤ n → n ≤ 3 → m ≤ 4 → All Fits (transitions (states m (start n tower)))
+transitions-fit n m p q h = all-places Fits _ (transitions (states m (start n tower))) fit
+  where
+    fit : (k : ℕ) → k < length (transitions (states m (start n tower))) → Fits (transitionAt m (start n tower) k)
+    fit k l =
+        let t = all-transitions m (start n tower) in
+        let x = t .each k l in
+        let c = t .count in
+        let f = few n m p q h in
+        let e = x .target in
+        let b = x .smaller in
+        record { source = omega arith; event = accepted-fits _ _ (ap isAccepted (x .accepts .is)); target = omega arith }
+
+all-weak : (xs : List Transition) → All Fits xs → All Small xs
+all-weak [] a = tt
+all-weak (x ∷ xs) a =
+    let f = a .0 in
+    let s = f .source in
+    let t = f .target in
+    (record { source = omega (arith, s); event = fits-small (x .event) (f .event); target = omega (arith, t) }, all-weak xs (a .1))
+
+-- ── how many bytes ──
+
+first-short : (t s : ℕ) → t < 2 ^ 32 → s < 2 ^ 32 → length (firstLine t s) ≤ 32
+unfolding firstLine
+first-short t s g h =
+    let a = decimal-32-long t g in
+    let b = decimal-32-long s h in
+    simp length-append (omega arith)
+
+line-short : (x : Transition) → Fits x → length (transitionLine x) ≤ 46
+unfolding transitionLine
+line-short x f =
+    let s = f .source in
+    let t = f .target in
+    let a = decimal-32-long (x .source) (omega (arith, s)) in
+    let b = decimal-32-long (x .target) (omega (arith, t)) in
+    let c = label-short (x .event) (f .event) in
+    simp length-append (omega arith)
+
+lines-short : (xs : List Transition) → All Fits xs → length (joined (map transitionLine xs)) ≤ 46 * length xs
+unfolding joined
+lines-short [] a = omega arith
+lines-short (x ∷ xs) a =
+    let h = line-short x (a .0) in
+    let r = lines-short xs (a .1) in
+    omega (arith, h, r, length-append (transitionLine x) (joined (map transitionLine xs)))
+
+allowed-short : (n m : ℕ) → 1 ≤ n → n ≤ 3 → m ≤ 4 → length (joined (linesOf (states m (start n tower)))) ≤ 32768
+unfolding joined
+allowed-short n m p q h =
+    let c = all-transitions m (start n tower) .count in
+    let f = few n m p q h in
+    let a = first-short (length (transitions (states m (start n tower)))) (length (states m (start n tower))) (omega arith) (omega arith) in
+    let b = lines-short (transitions (states m (start n tower))) (transitions-fit n m p q h) in
+    omega (arith, a, b, c, f, length-append (firstLine (length (transitions (states m (start n tower)))) (length (states m (start n tower)))) (joined (map transitionLine (transitions (states m (start n tower))))))
+
+refusal-short : length refusalText ≤ 32768
+unfolding stoppedLine row decimal digits pick
+refusal-short = omega arith
+
+-- ── what it tells ──
+
+-- from decimals that something else follows their number, and what follows
+number-tells : (x y : ℕ) (u v : List ℕ) → x < 2 ^ 32 → y < 2 ^ 32 → Stops Digit u → Stops Digit v → decimal x ++ u ≡ decimal y ++ v → (x ≡ y) × (u ≡ v)
+number-tells x y u v g h a b q =
+    let r = parted Digit (decimal x) (decimal y) (decimal-digits x) (decimal-digits y) a b q in
+    (decimal-same x y (omega arith) (omega arith) (r .0), r .1)
+
+abbrev made : ℕ → Event → ℕ → Transition
+made a e b = record { source = a; event = e; target = b }
+
+three-off : {a b c : ℕ} {u v : List ℕ} → a ∷ b ∷ c ∷ u ≡ a ∷ b ∷ c ∷ v → u ≡ v
+three-off q = tail-eq-of-cons-eq (tail-eq-of-cons-eq (tail-eq-of-cons-eq q))
+
+line-tells : (x y : Transition) → Small x → Small y → transitionLine x ≡ transitionLine y → x ≡ y
+unfolding transitionLine
+line-tells x y f g q =
+    let a = number-tells (x .source) (y .source) _ _ (f .source) (g .source) (λ d. omega arith) (λ d. omega arith) (tail-eq-of-cons-eq q) in
+    let b = parted Quotable (label (x .event)) (label (y .event)) (label-quotable (x .event)) (label-quotable (y .event)) (λ d. d .0 refl) (λ d. d .0 refl) (three-off (a .1)) in
+    let c = number-tells (x .target) (y .target) _ _ (f .target) (g .target) (λ d. omega arith) (λ d. omega arith) (three-off (b .1)) in
+    same x y (a .0) (label-tells (x .event) (y .event) (f .event) (g .event) (b .0)) (c .0)
+  where
+    same : (x y : Transition) → x .source ≡ y .source → x .event ≡ y .event → x .target ≡ y .target → x ≡ y
+    same x y p q r = ap (λ a. made a (x .event) (x .target)) p ∙ (ap (λ e. made (y .source) e (x .target)) q ∙ ap (λ b. made (y .source) (y .event) b) r)
+
+pub is-line : (x : Transition) → IsLine (transitionLine x)
+unfolding transitionLine
+is-line x =
+    let digit : (n : ℕ) → Each Inside (decimal n) = λ n. each-map Digit Inside (λ b d q. omega arith) (decimal n) (decimal-digits n) in
+    let inside : Each Inside (label (x .event)) = each-map Quotable Inside (λ b d. d .1) (label (x .event)) (label-quotable (x .event)) in
+    line-after (bytes "(") _ (omega arith)
+    (line-after (decimal (x .source)) _ (digit (x .source))
+    (line-after (bytes ", \"") _ (omega arith)
+    (line-after (label (x .event)) _ inside
+    (line-after (bytes "\", ") _ (omega arith)
+    (line-after (decimal (x .target)) _ (digit (x .target)) (record { body = bytes ")"; ends = refl; inside = omega arith }))))))
+
+are-lines : (xs : List Transition) → Each IsLine (map transitionLine xs)
+are-lines [] = tt
+are-lines (x ∷ xs) = (is-line x, are-lines xs)
+
+lines-tell : (xs ys : List Transition) → All Small xs → All Small ys → map transitionLine xs ≡ map transitionLine ys → xs ≡ ys
+lines-tell [] [] a b q = refl
+lines-tell [] (y ∷ ys) a b q = let z = ap length q in absurd (omega arith)
+lines-tell (x ∷ xs) [] a b q = let z = ap length q in absurd (omega arith)
+lines-tell (x ∷ xs) (y ∷ ys) a b q =
+    let h = line-tells x y (a .0) (b .0) (head-eq-of-cons-eq q) in
+    let t = lines-tell xs ys (a .1) (b .1) (tail-eq-of-cons-eq q) in
+    rw (h, t)
+
+pub text-tells : TextTells
+text-tells = record {
+  line = line-tells;
+  text = λ xs ys a b q. lines-tell xs ys a b (joined-same (map transitionLine xs) (map transitionLine ys) (are-lines xs) (are-lines ys) q);
+  small = λ n m p q h. all-weak (transitions (states m (start n tower))) (transitions-fit n m p q h);
+}

@@ -1,0 +1,72 @@
+-- T-12: the lists of T-01 "up to a length L" as a transition system: its states, their numbers, and its transitions; here from any table.
+use Prim.Native.Nat.{ℕ, zero, suc, _-_}
+use mathlib.Core.Bool.{Bool, true, false, _&&_}
+use mathlib.Core.List.{List, [], _∷_, _++_}
+use lib.Dec.{eqb}
+use lib.ListN.{length, take, drop, getD}
+use Rattle.model.specs.Pick.{pick}
+use Rattle.model.specs.State.{State}
+use Rattle.model.specs.declared.Event.{Event}
+use Rattle.model.specs.declared.Event.the-variants.{Crash}
+use Rattle.short_lists_text.specs.Order.{tag, contents}
+use Rattle.short_lists_text.specs.Lists.{listsFrom}
+
+-- ── states ──
+
+-- "a state for each accepted list of length 0 to L", "by length and then by T-01's order": `listsFrom` are T-01's lists of one length, in its order
+unfoldable pub states : ℕ → State → List (List Event)
+states zero s = listsFrom zero s
+states (suc m) s = states m s ++ listsFrom (suc m) s
+
+-- ── their numbers ──
+
+-- the same numbers, one after another
+abbrev pub sameNumbers : List ℕ → List ℕ → Bool
+sameNumbers [] [] = true
+sameNumbers [] (y ∷ ys) = false
+sameNumbers (x ∷ xs) [] = false
+sameNumbers (x ∷ xs) (y ∷ ys) = eqb x y && sameNumbers xs ys
+
+-- the same event: the same tag and the same contents, as in T-01's order
+unfoldable pub sameEvent : Event → Event → Bool
+sameEvent e f = eqb (tag e) (tag f) && sameNumbers (contents e) (contents f)
+
+-- the same events, one after another
+unfoldable pub sameList : List Event → List Event → Bool
+sameList [] [] = true
+sameList [] (f ∷ fs) = false
+sameList (e ∷ es) [] = false
+sameList (e ∷ es) (f ∷ fs) = sameEvent e f && sameList es fs
+
+-- "numbered from 0": how many of the states stand before the one whose list is l
+unfoldable pub numberIn : List (List Event) → List Event → ℕ
+numberIn [] l = 0
+numberIn (m ∷ ms) l = pick (sameList m l) 0 (suc (numberIn ms l))
+
+-- ── transitions ──
+
+-- `(a, "LABEL", b)`: from the state a, by the event, into the state b
+pub record Transition : Type 0 where
+  pub source : ℕ
+  pub event : Event
+  pub target : ℕ
+
+-- a list without its last event, and that event; the list of no events, which has none, is the state 0, into which no transition leads
+abbrev pub withoutLast : List Event → List Event
+withoutLast l = take (length l - 1) l
+
+abbrev pub lastOf : List Event → Event
+lastOf l = getD l (length l - 1) (Crash 0)
+
+-- "b's list is a's with one event more": the transition into b, whose list is l, comes from the state whose list is l without its last event
+abbrev pub transitionInto : List (List Event) → ℕ → List Event → Transition
+transitionInto ls b l = record { source = numberIn ls (withoutLast l); event = lastOf l; target = b }
+
+-- the transitions into states with these lists, of which the first has the number b
+unfoldable pub transitionsFrom : List (List Event) → ℕ → List (List Event) → List Transition
+transitionsFrom ls b [] = []
+transitionsFrom ls b (l ∷ more) = transitionInto ls b l ∷ transitionsFrom ls (suc b) more
+
+-- all of them, "ordered by b": one into each state but 0
+unfoldable pub transitions : List (List Event) → List Transition
+transitions ls = transitionsFrom ls 1 (drop 1 ls)
