@@ -52,3 +52,5 @@ pub record Appended (b : List ℕ) (p : ℕ) (s : List ℕ) (o : List ℕ) (r : 
   pub next : r ≡ p + length s
   pub fits : r ≤ length o
   pub text : take r o ≡ take p b ++ s
+  -- what stands behind is as it was
+  pub behind : drop r o ≡ drop r b

@@ -160,6 +160,16 @@ pub fn put_bytes(out: &mut [u8], at: usize, w: &[u8]) -> usize
     at + w.len()
 }
 
+// x in decimal into out from at on: the offset behind it. The caller sees to the room.
+pub fn put_number(out: &mut [u8], at: usize, x: u32) -> usize
+    requires { ⌜ at + length (decimal x) ≤ length (now out) ⌝ }
+    ensures { λ r. ⌜ Appended (now (out .entry)) at (decimal x) (now (out .exit)) r ⌝ }
+{
+    let k = digit_count(x);
+    number_at(out, at, k, x);
+    at + k
+}
+
 // A space and x in decimal into out from at on: the offset behind them. The caller sees to the room.
 pub fn put_field(out: &mut [u8], at: usize, x: u32) -> usize
     requires { ⌜ at + length (32 ∷ decimal x) ≤ length (now out) ⌝ }
