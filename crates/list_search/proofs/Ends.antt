@@ -1,30 +1,28 @@
 -- The first search, a search of the empty list, a refused one; and the pieces put together.
 use Prim.Native.Nat.{ℕ, zero, suc, _+_, _-_, _^_, _≤_, _<_}
 use native.Mathlib.Omega.{arith}
-use mathlib.Core.Bool.{true, false, _&&_}
+use mathlib.Core.Bool.{true, false}
 use mathlib.Core.Logic.{_⊎_, inl, inr}
 use mathlib.Core.Path.{_≡_, refl, sym, _∙_, ap, subst}
 use mathlib.Core.List.{List, [], _∷_, _++_, append-assoc, append-nil}
-use lib.Dec.{eqb, leb}
+use lib.Dec.{eqb}
 use lib.ListN.{length, take, getD, length-append}
 use lib.Seq.{length-take-le}
-use borrow.Author.Tests.{ne-eqb, leb-true, eqb-true}
+use borrow.Author.Tests.{ne-eqb}
 use Rattle.model.specs.Range.{TwoPairs}
 use Rattle.model.specs.Limits.{tower}
-use Rattle.model.specs.Pick.{pick, pick-true, pick-false}
+use Rattle.model.specs.Pick.{pick-true, pick-false}
 use Rattle.model.specs.State.{start, countsOf, inRange, firstOf, view}
 use Rattle.model.specs.declared.Table.{Table}
 use Rattle.machine.specs.Stepped.{startingTable}
 use Rattle.packed.proofs.Turns.{same-start}
 use Rattle.model.proofs.InRange.{stays-in-range}
-use Rattle.model.proofs.Local.{both-left, both-right}
 use Rattle.listing.specs.Ascii.{bytes}
-use Rattle.listing.specs.Decimal.{digits, decimal}
-use Rattle.listing.specs.Lines.{row, stoppedLine}
 use Rattle.listing.specs.Printing.{Appended}
 use Rattle.packed.specs.Seen.{seenWaiting}
 use Rattle.short_lists_text.specs.Text.{countLine, fits, textOf}
 use Rattle.short_lists_text.proofs.Few.{few-lists}
+use Rattle.short_lists_text.proofs.Refuses.{fits-are, stopped}
 use Rattle.list_search.specs.declared.Search.{Search}
 use Rattle.list_search.specs.declared.Piece.{Piece}
 use Rattle.list_search.specs.Stack.{Frame, frame, path, listsLeft, stackText}
@@ -35,23 +33,6 @@ use Rattle.list_search.proofs.Lines.{line-empty}
 use Rattle.list_search.proofs.Loop.{text-of, ends-after, count-ends}
 
 -- ── the first search ──
-
-pub two-bytes : (l : List ℕ) → fits l ≡ true → length l ≡ 2
-unfolding fits
-two-bytes l q =
-    eqb-true (length l) 2 (both-left (eqb (length l) 2) (leb 1 (getD l 0 0))
-    (both-left (eqb (length l) 2 && leb 1 (getD l 0 0)) (leb (getD l 0 0) 3)
-    (both-left (eqb (length l) 2 && leb 1 (getD l 0 0) && leb (getD l 0 0) 3) (leb (getD l 1 0) 7) q)))
-
-pub fits-are : (l : List ℕ) → fits l ≡ true → (1 ≤ getD l 0 0) × (getD l 0 0 ≤ 3) × (getD l 1 0 ≤ 7)
-unfolding fits
-fits-are l q =
-    let a = both-left (eqb (length l) 2 && leb 1 (getD l 0 0) && leb (getD l 0 0) 3) (leb (getD l 1 0) 7) q in
-    let b = both-left (eqb (length l) 2 && leb 1 (getD l 0 0)) (leb (getD l 0 0) 3) a in (
-      leb-true 1 (getD l 0 0) (both-right (eqb (length l) 2) (leb 1 (getD l 0 0)) b),
-      leb-true (getD l 0 0) 3 (both-right (eqb (length l) 2 && leb 1 (getD l 0 0)) (leb (getD l 0 0) 3) a),
-      leb-true (getD l 1 0) 7 (both-right (eqb (length l) 2 && leb 1 (getD l 0 0) && leb (getD l 0 0) 3) (leb (getD l 1 0) 7) q),
-    )
 
 pub lowest-state : (n : ℕ) (t : Table) (ws : List ℕ) → t ≡ startingTable n tower → view t ≡ start n tower → seenWaiting n tower (t .nodes) ws 0 ≡ start n tower
 unfolding firstOf countsOf
@@ -114,18 +95,14 @@ module _ (l : List ℕ) (s : Search) where
 
   pub begun-fits : fits l ≡ true → First (getD l 0 0) (getD l 1 0) s → Begun l s
   begun-fits q f =
-      let a = fits-are l q in
+      let a = fits-are 7 l q in
       record { sound = first-sound (getD l 0 0) (getD l 1 0) s f (a .0) (a .1) (a .2); text = first-text (getD l 0 0) (getD l 1 0) s f (a .0) (a .1) (a .2) ∙ sym (whole-text l q) }
 
 -- ── pieces that are not the loop's ──
 
-stopped-bytes : stoppedLine 0 16 ≡ bytes "stopped 0 16\n"
-unfolding stoppedLine row decimal digits pick
-stopped-bytes = refl
-
 pub refused-text : (s : Search) → s .n ≡ 0 → textLeft s ≡ bytes "stopped 0 16\n"
 unfolding textLeft
-refused-text s q = rw (q, pick-true) stopped-bytes
+refused-text s q = rw (q, pick-true) stopped
 
 pub refused-line : EndsLine (bytes "stopped 0 16\n")
 refused-line = record { before = bytes "stopped 0 16"; is = refl }

@@ -11,15 +11,15 @@ use borrow.Author.Tests.{leb-true, leb-false}
 use Rattle.model.specs.Limits.{tower}
 use Rattle.model.specs.Pick.{pick-true}
 use Rattle.model.specs.State.{State, start, countsAside}
-use Rattle.model.specs.Step.{effect, refused, accepted, step}
+use Rattle.model.specs.Step.{refused, accepted, step}
 use Rattle.model.specs.declared.Mark.{Mark}
 use Rattle.model.specs.declared.Event.{Event}
 use Rattle.model.specs.declared.Event.the-variants.{Crash}
 use Rattle.model.proofs.Lists.{map-append}
-use Rattle.model.proofs.Judged.{accepted-is}
 use Rattle.listing.specs.Printing.{joined}
 use Rattle.short_lists_text.specs.Lists.{alphabet, listsFrom}
 use Rattle.short_lists_text.specs.Text.{listLine, countLine, fits, textOf}
+use Rattle.short_lists_text.proofs.Few.{same-n}
 use Rattle.list_search.specs.Stack.{Frame, frame, sizeOf, eventAt, path, onFrame, listsLeft, stackText}
 
 -- one more was tried
@@ -144,10 +144,6 @@ turns-over r f q = rw q
 turns-tried : (r : ℕ) (f : Frame) (e : Event) → untried f ≡ e ∷ untried (passed f) → turnsOn (suc r) f ≡ suc (turnsFrom (f .state .n) r + turnsOn (suc r) (passed f))
 unfolding turnsOn turnsFor
 turns-tried r f e q = rw q
-
-same-n : (s : State) (e : Event) (u : State) (m : Mark) → step s e ≡ accepted u m → u .n ≡ s .n
-unfolding effect
-same-n s e u m q = ap (λ (x : State). x .n) (accepted-is s e u m q .state)
 
 -- ── the first stack ──
 

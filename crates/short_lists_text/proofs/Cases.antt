@@ -12,11 +12,11 @@ use Rattle.listing.specs.Decimal.{digits, decimal}
 use Rattle.listing.specs.Lines.{row, stoppedLine}
 use Rattle.listing.specs.Printing.{joined}
 use Rattle.short_lists_text.specs.Lists.{upFrom, without, pairsOf, alphabet, listsFrom}
-use Rattle.short_lists_text.specs.Text.{nameOf, spaced, eventText, moreText, eventsText, listLine, countLine, fits, textOf}
+use Rattle.short_lists_text.specs.Text.{nameOf, spaced, eventText, moreText, eventsText, listLine, countLine, fitsTo, textOf}
 use Rattle.short_lists_text.specs.Cases.{TextCases}
 
 pub text-cases : TextCases
-unfolding pick onesIn ones leadingZeros inviteNext merges handNext finishes forwardNext askedAll askAt askAfter checked timedOut ticked expired resumed onAreYouCoordinator onAreYouThere onInvitation onAccept onReady onReply received react activityInRange nodeInRange messageInRange countInRange waits oldest withoutOldest howMany every upTo countsInRange trafficInRange inRange reactionTo remaining effect grounds judged step runFrom digits decimal row stoppedLine joined upFrom without pairsOf alphabet listsFrom nameOf spaced eventText moreText eventsText listLine countLine fits textOf
+unfolding pick onesIn ones leadingZeros inviteNext merges handNext finishes forwardNext askedAll askAt askAfter checked timedOut ticked expired resumed onAreYouCoordinator onAreYouThere onInvitation onAccept onReady onReply received react activityInRange nodeInRange messageInRange countInRange waits oldest withoutOldest howMany every upTo countsInRange trafficInRange inRange reactionTo remaining effect grounds judged step runFrom digits decimal row stoppedLine joined upFrom without pairsOf alphabet listsFrom nameOf spaced eventText moreText eventsText listLine countLine fitsTo textOf
 text-cases =
     record {
       empty-list = refl;

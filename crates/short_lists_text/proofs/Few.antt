@@ -29,7 +29,7 @@ rows-long f b h [] = omega arith
 rows-long f b h (x ∷ xs) = let r = rows-long f b h xs in let q = h x in simp length-append (omega arith)
 
 -- 7 events of each node, and 2 of each ordered pair
-alphabet-long : (n : ℕ) → 1 ≤ n → n ≤ 3 → length (alphabet n) ≤ 33
+pub alphabet-long : (n : ℕ) → 1 ≤ n → n ≤ 3 → length (alphabet n) ≤ 33
 unfolding alphabet pairsOf upFrom without pick
 alphabet-long zero a b = absurd (omega arith)
 alphabet-long (suc zero) a b = omega arith
@@ -39,7 +39,7 @@ alphabet-long (suc (suc (suc (suc n)))) a b = absurd (omega arith)
 
 -- ── from any table of at most three nodes ──
 
-same-n : (s : State) (e : Event) (u : State) (m : Mark) → step s e ≡ accepted u m → u .n ≡ s .n
+pub same-n : (s : State) (e : Event) (u : State) (m : Mark) → step s e ≡ accepted u m → u .n ≡ s .n
 unfolding effect
 same-n s e u m q = ap (λ (x : State). x .n) (accepted-is s e u m q .state)
 

@@ -30,10 +30,12 @@ use Rattle.short_lists_text.proofs.Bytes.{accepted-fits}
 
 -- ── bytes ──
 
+-- from `0` to `9`
 abbrev pub Digit : ℕ → Type 0
 Digit b = (48 ≤ b) × (b ≤ 57)
 
-abbrev Letter : ℕ → Type 0
+-- from `a` on
+abbrev pub Letter : ℕ → Type 0
 Letter b = 97 ≤ b
 
 -- neither a comma nor a line's end
@@ -77,7 +79,7 @@ spaced-same (x ∷ xs) (y ∷ ys) f g e =
 
 -- ── an event ──
 
-name-letters : (e : Event) → Each Letter (nameOf e)
+pub name-letters : (e : Event) → Each Letter (nameOf e)
 unfolding nameOf
 name-letters (Crash i) = omega arith
 name-letters (Recover i) = omega arith
@@ -89,7 +91,7 @@ name-letters (Finish i t) = omega arith
 name-letters (Deliver a b) = omega arith
 name-letters (Lose a b) = omega arith
 
-name-some : (e : Event) → 1 ≤ length (nameOf e)
+pub name-some : (e : Event) → 1 ≤ length (nameOf e)
 unfolding nameOf
 name-some (Crash i) = omega arith
 name-some (Recover i) = omega arith
@@ -102,7 +104,7 @@ name-some (Deliver a b) = omega arith
 name-some (Lose a b) = omega arith
 
 -- the event of a name and numbers: of `check` and `crash` the second letter tells, of `tick` and `timeout` the third
-unfoldable eventBy : List ℕ → List ℕ → Event
+unfoldable pub eventBy : List ℕ → List ℕ → Event
 eventBy w c =
     pick (eqb (getD w 1 0) 104) (Check (getD c 0 0))
     (pick (eqb (getD w 0 0) 99) (Crash (getD c 0 0))
@@ -114,7 +116,7 @@ eventBy w c =
     (pick (eqb (getD w 0 0) 100) (Deliver (getD c 0 0) (getD c 1 0))
     (Lose (getD c 0 0) (getD c 1 0)))))))))
 
-by-name : (e : Event) → eventBy (nameOf e) (numbersOf e) ≡ e
+pub by-name : (e : Event) → eventBy (nameOf e) (numbersOf e) ≡ e
 unfolding eventBy nameOf pick
 by-name (Crash i) = refl
 by-name (Recover i) = refl
@@ -192,7 +194,7 @@ fits-small (Finish i t) f = omega arith
 fits-small (Deliver a b) f = omega arith
 fits-small (Lose a b) f = omega arith
 
-accepted-small : (s : State) (l : List Event) → AcceptedFrom s l → All SmallNumbers l
+pub accepted-small : (s : State) (l : List Event) → AcceptedFrom s l → All SmallNumbers l
 accepted-small s [] a = tt
 accepted-small s (e ∷ l) a = (fits-small e (accepted-fits s e (a .0)), accepted-small (after s e) l (a .1))
 

@@ -4,9 +4,9 @@ use native.Mathlib.Omega.{arith}
 use mathlib.Core.Path.{_≡_, refl, sym, _∙_, ap, ap₂, subst}
 use mathlib.Core.List.{List, [], _∷_, _++_, map}
 use lib.ListN.{length, length-append}
-use borrow.Author.Tests.{eqb-true, le-leb}
+use borrow.Author.Tests.{eqb-true}
 use Rattle.model.specs.Limits.{tower}
-use Rattle.model.specs.Pick.{pick, by-test}
+use Rattle.model.specs.Pick.{pick-true, by-test}
 use Rattle.model.specs.State.{State, start}
 use Rattle.model.specs.Step.{Result, refused, accepted, step, kept, runFrom, run}
 use Rattle.model.proofs.Whole.{run-append}
@@ -15,8 +15,9 @@ use Rattle.model.specs.declared.Event.{Event}
 use Rattle.listing.specs.Printing.{joined}
 use Rattle.short_lists_text.specs.Rows.{concatMap}
 use Rattle.short_lists_text.specs.Lists.{alphabet, continued, listsFrom}
-use Rattle.short_lists_text.specs.Text.{linesOf, fits, textOf}
+use Rattle.short_lists_text.specs.Text.{linesOf, textOf}
 use Rattle.short_lists_text.specs.Claims.{listsBy, formerResult, stepWithoutEighteen, ListsStay}
+use Rattle.short_lists_text.proofs.Refuses.{allowed}
 
 pub same-rows : {A B : Type 0} (f g : A → List B) → ((x : A) → f x ≡ g x) → (xs : List A) → concatMap f xs ≡ concatMap g xs
 same-rows f g h [] = refl
@@ -46,8 +47,8 @@ module _ (f : State → Event → Result) (n k : ℕ) (same : (es : List Event) 
 
 -- the text of an input that is allowed
 pub text-of : (n m : ℕ) → 1 ≤ n → n ≤ 3 → m ≤ 7 → textOf (n ∷ m ∷ []) ≡ joined (linesOf (listsFrom m (start n tower)))
-unfolding textOf fits pick
-text-of n m l h k = rw (le-leb 1 n l, le-leb n 3 h, le-leb m 7 k)
+unfolding textOf
+text-of n m l h k = rw (allowed 7 n m l h k, pick-true)
 
 -- ── T-06 ──
 unchecked : (n : ℕ) (es : List Event) (e : Event) → length es < 7 → stepWithoutEighteen (run n tower es) e ≡ step (run n tower es) e

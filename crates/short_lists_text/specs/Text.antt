@@ -74,9 +74,13 @@ countLine k = bytes "lists" ++ row (k ∷ [])
 abbrev pub linesOf : List (List Event) → List (List ℕ)
 linesOf ls = map listLine ls ++ (countLine (length ls) ∷ [])
 
+-- the two bytes n and a length: n from 1 to 3, and the length from 0 to most
+unfoldable pub fitsTo : ℕ → List ℕ → Bool
+fitsTo most l = eqb (length l) 2 && leb 1 (getD l 0 0) && leb (getD l 0 0) 3 && leb (getD l 1 0) most
+
 -- "n from 1 to 3 and a length from 0 to 7, as two bytes", n first. Where it does not hold 16 is met: "not exactly two bytes, or one outside its range"
-unfoldable pub fits : List ℕ → Bool
-fits l = eqb (length l) 2 && leb 1 (getD l 0 0) && leb (getD l 0 0) 3 && leb (getD l 1 0) 7
+abbrev pub fits : List ℕ → Bool
+fits l = fitsTo 7 l
 
 -- "A refusal prints `stopped 0 16` alone."
 abbrev pub refusalText : List ℕ
