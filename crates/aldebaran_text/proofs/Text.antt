@@ -1,14 +1,13 @@
--- The text: its lines, how many bytes it can have, and that it tells the transitions.
+-- The text: its lines, how many bytes it can have, what is refused, and that it tells the transitions.
 use Prim.Native.Nat.{ℕ, zero, suc, _+_, _-_, _*_, _^_, _≤_, _<_}
 use native.Mathlib.Omega.{arith}
 use mathlib.Core.Bool.{Bool, true, false}
 use mathlib.Core.Path.{_≡_, refl, sym, _∙_, ap, subst}
 use mathlib.Core.Logic.{inl, inr}
 use mathlib.Core.List.{List, [], _∷_, _++_, map, append-assoc, head-eq-of-cons-eq, tail-eq-of-cons-eq}
-use lib.ListN.{length, getD, length-append}
-use borrow.Author.Tests.{le-leb}
+use lib.ListN.{length, take, getD, length-append}
 use Rattle.model.specs.Limits.{tower}
-use Rattle.model.specs.Pick.{pick, pick-true, pick-false}
+use Rattle.model.specs.Pick.{pick, pick-true, pick-false, by-test}
 use Rattle.model.specs.State.{State, start}
 use Rattle.model.specs.declared.Event.{Event}
 use Rattle.listing.specs.Ascii.{bytes}
@@ -21,11 +20,12 @@ use Rattle.listing.proofs.Claims.{decimal-same}
 use Rattle.short_lists_text.specs.Rows.{Among, All}
 use Rattle.short_lists_text.specs.Lists.{upFrom, listsFrom, isAccepted}
 use Rattle.short_lists_text.specs.Claims.{FitsBytes, SmallNumbers}
+use Rattle.short_lists_text.proofs.Refuses.{not-two, no-nodes, too-many, too-long, allowed, fits-are, first-three}
 use Rattle.short_lists_text.proofs.Bytes.{accepted-fits}
 use Rattle.short_lists_text.proofs.Lines.{Digit, decimal-digits, fits-small}
 use Rattle.aldebaran_text.specs.System.{states, Transition, transitions}
 use Rattle.aldebaran_text.specs.Text.{label, firstLine, transitionLine, linesOf, fits, refusalText, textOf}
-use Rattle.aldebaran_text.specs.Claims.{transitionAt, Small, TextIs, TextTells, TextFits}
+use Rattle.aldebaran_text.specs.Claims.{transitionAt, Small, TextIs, TextTells, TextFits, Refuses}
 use Rattle.aldebaran_text.proofs.Numbers.{at-place}
 use Rattle.aldebaran_text.proofs.Transitions.{all-transitions}
 use Rattle.aldebaran_text.proofs.Labels.{Quotable, label-quotable, label-tells, label-short}
@@ -55,8 +55,8 @@ few n m p q h = let a = up-to-four m (start n tower) h in let b = of-four n p q 
 -- ── the text of an allowed input ──
 
 pub text-lines : (n m : ℕ) → 1 ≤ n → n ≤ 3 → m ≤ 4 → textOf (n ∷ m ∷ []) ≡ joined (linesOf (states m (start n tower)))
-unfolding textOf fits
-text-lines n m p q h = rw (le-leb 1 n p, le-leb n 3 q, le-leb m 4 h, pick-true)
+unfolding textOf
+text-lines n m p q h = rw (allowed 4 n m p q h, pick-true)
 
 pub text-is : TextIs
 unfolding joined
@@ -131,9 +131,35 @@ allowed-short n m p q h =
     let b = lines-short (transitions (states m (start n tower))) (transitions-fit n m p q h) in
     omega (arith, a, b, c, f, length-append (firstLine (length (transitions (states m (start n tower)))) (length (states m (start n tower)))) (joined (map transitionLine (transitions (states m (start n tower))))))
 
-refusal-short : length refusalText ≤ 32768
+pub stopped : refusalText ≡ bytes "stopped 0 22\n"
 unfolding stoppedLine row decimal digits pick
-refusal-short = omega arith
+stopped = refl
+
+refusal-short : length refusalText ≤ 32768
+refusal-short = rw stopped (omega arith)
+
+pub text-fits : TextFits
+unfolding textOf
+text-fits = record { most = λ l. by-test (λ x. length x ≤ 32768) (λ q. let f = fits-are 4 l q in allowed-short (getD l 0 0) (getD l 1 0) (f .0) (f .1) (f .2)) (λ q. refusal-short) }
+
+-- ── what is refused ──
+
+by-fits : (l : List ℕ) → fits l ≡ false → textOf l ≡ bytes "stopped 0 22\n"
+unfolding textOf
+by-fits l q = rw (q, pick-false) stopped
+
+same-text : (l : List ℕ) → textOf (take 3 l) ≡ textOf l
+unfolding textOf
+same-text l = first-three 4 (λ n m. joined (linesOf (states m (start n tower)))) refusalText l
+
+pub refuses : Refuses
+refuses = record {
+  not-two = λ l d. by-fits l (not-two 4 l d);
+  no-nodes = λ m. by-fits (0 ∷ m ∷ []) (no-nodes 4 m);
+  too-many = λ n m h. by-fits (n ∷ m ∷ []) (too-many 4 n m h);
+  too-long = λ n m h. by-fits (n ∷ m ∷ []) (too-long 4 n m h);
+  first-three = same-text;
+}
 
 -- ── what it tells ──
 

@@ -2,7 +2,7 @@
 use Prim.Native.Nat.{ℕ, _-_}
 use mathlib.Core.Bool.{Bool, _&&_}
 use mathlib.Core.List.{List, [], _∷_, _++_, map}
-use lib.Dec.{eqb, leb}
+use lib.Dec.{leb}
 use lib.ListN.{length, getD}
 use Rattle.model.specs.Limits.{tower}
 use Rattle.model.specs.Pick.{pick}
@@ -12,7 +12,7 @@ use Rattle.listing.specs.Ascii.{bytes}
 use Rattle.listing.specs.Decimal.{decimal}
 use Rattle.listing.specs.Lines.{stoppedLine}
 use Rattle.listing.specs.Printing.{joined}
-use Rattle.short_lists_text.specs.Text.{nameOf, numbersOf, spaced}
+use Rattle.short_lists_text.specs.Text.{nameOf, numbersOf, spaced, fitsTo}
 use Rattle.aldebaran_text.specs.System.{states, Transition, transitions}
 
 -- ── a line ──
@@ -40,8 +40,8 @@ abbrev pub linesOf : List (List Event) → List (List ℕ)
 linesOf ls = firstLine (length (transitions ls)) (length ls) ∷ map transitionLine (transitions ls)
 
 -- 22 is met where it does not hold: "input not exactly the two bytes n and L, n outside 1 to 3 or L outside 0 to 4"
-unfoldable pub fits : List ℕ → Bool
-fits l = eqb (length l) 2 && leb 1 (getD l 0 0) && leb (getD l 0 0) 3 && leb (getD l 1 0) 4
+abbrev pub fits : List ℕ → Bool
+fits l = fitsTo 4 l
 
 -- "then `stopped 0 22` alone is printed"
 abbrev pub refusalText : List ℕ

@@ -1,0 +1,71 @@
+-- What a tree of states means: the lists of its states; how it grows by one event; and its transitions.
+use Prim.Native.Nat.{ℕ, suc, _≤_, _<_}
+use mathlib.Core.Path.{_≡_}
+use mathlib.Core.List.{List, [], _∷_, _++_}
+use lib.ListN.{length, take, getD}
+use Rattle.model.specs.State.{State}
+use Rattle.model.specs.Step.{Result, refused, accepted, step, runFrom}
+use Rattle.model.specs.declared.Event.{Event}
+use Rattle.model.specs.declared.Event.the-variants.{Crash}
+use Rattle.short_lists_text.specs.Rows.{concatMap}
+use Rattle.short_lists_text.specs.Lists.{alphabet}
+use Rattle.aldebaran_text.specs.System.{Transition}
+use Rattle.list_tree.specs.declared.tree.Edge.{Edge}
+use Rattle.list_tree.specs.declared.tree.Tree.{Tree}
+
+-- ── its lists ──
+
+-- the list of the state that an edge leads into, where ls are the lists of the states before it
+abbrev pub reached : List (List Event) → Edge → List Event
+reached ls x = getD ls (x .source) [] ++ (x .event ∷ [])
+
+-- lists, and behind them those of the states that edges lead into, one after another
+unfoldable pub listsBy : List (List Event) → List Edge → List (List Event)
+listsBy ls [] = ls
+listsBy ls (x ∷ xs) = listsBy (ls ++ (reached ls x ∷ [])) xs
+
+-- what stands where there is no edge
+abbrev pub noEdge : Edge
+noEdge = record { source = 0; event = Crash 0 }
+
+-- the edges that count
+abbrev pub edgesIn : Tree → List Edge
+edgesIn t = take (t .count) (t .edges)
+
+-- the lists of the states 0, 1 and so on
+unfoldable pub listsIn : Tree → List (List Event)
+listsIn t = listsBy ([] ∷ []) (edgesIn t)
+
+-- ── how it grows ──
+
+-- l with e behind it, where that was accepted; else none
+abbrev pub oneMore : List Event → Event → Result → List (List Event)
+oneMore l e (refused r) = []
+oneMore l e (accepted u mark) = (l ++ (e ∷ [])) ∷ []
+
+-- the accepted lists from s that have one event more than l, in order
+unfoldable pub nextOf : State → List Event → List (List Event)
+nextOf s l = concatMap (λ e. oneMore l e (step (runFrom s l) e)) (alphabet (s .n))
+
+-- ── what is so of every tree ──
+
+pub record Sound (t : Tree) : Type 0 where
+  pub some : 1 ≤ t .n
+  pub few : t .n ≤ 3
+  pub space : length (t .edges) ≡ 600
+  pub within : t .count ≤ 600
+  -- the edge into k + 1 comes from a state before it
+  pub falls : (k : ℕ) → k < t .count → getD (t .edges) k noEdge .source ≤ k
+
+-- r is t with these lists behind its own
+pub record Grew (t : Tree) (more : List (List Event)) (r : Tree) : Type 0 where
+  pub sound : Sound r
+  pub same : r .n ≡ t .n
+  pub lists : listsIn r ≡ listsIn t ++ more
+
+-- ── its transitions ──
+
+-- edges as transitions, of which the first leads into the state b
+unfoldable pub transitionsBy : ℕ → List Edge → List Transition
+transitionsBy b [] = []
+transitionsBy b (x ∷ xs) = record { source = x .source; event = x .event; target = b } ∷ transitionsBy (suc b) xs

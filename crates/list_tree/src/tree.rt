@@ -1,0 +1,123 @@
+// The tree of accepted lists: a state for each, numbered from 0, and the edge by which it is reached. The table of a state is not kept; it is found by running its list again.
+ghost use mathlib.Core.Path.{_≡_};
+ghost use Prim.Native.Nat.{_+_, _≤_, _<_};
+ghost use lib.ListN.{length, take, drop, getD};
+ghost use Rattle.model.specs.Limits.{tower};
+ghost use Rattle.model.specs.State.{start, view};
+ghost use Rattle.model.specs.Step.{step, runFrom};
+ghost use Rattle.short_lists_text.specs.Rows.{concatMap};
+ghost use Rattle.aldebaran_text.specs.System.{states};
+ghost use Rattle.list_tree.specs.Tree.{listsIn, oneMore, nextOf, Sound, Grew};
+use model::Event;
+use model::Table;
+
+// Three nodes and lists of four events have so many states but the first, and all others have fewer.
+const EDGES: usize = 600;
+
+// How a state is reached: from the state `source`, by the event.
+pub struct Edge {
+    pub source: usize,
+    pub event: Event,
+}
+
+// A state for the list of no events, with number 0, and one for each of the first count edges: edges[k] leads into the state k + 1.
+pub struct Tree {
+    pub n: u8,
+    pub count: usize,
+    pub edges: [Edge; EDGES],
+}
+
+// The list of no events alone.
+fn root(n: u8) -> Tree
+{
+    let none = Edge {
+        source: 0,
+        event: Event::Crash(0),
+    };
+    Tree {
+        n: n,
+        count: 0,
+        edges: [none; EDGES],
+    }
+}
+
+// One state more.
+fn with_edge(t: Tree, a: usize, e: Event) -> Tree
+{
+    let k = t.count;
+    let mut next = t;
+    next.edges[k] = Edge {
+        source: a,
+        event: e,
+    };
+    next.count = k + 1;
+    next
+}
+
+// The table that the list of the state b leads to.
+fn table_of(t: Tree, b: usize) -> Table
+{
+    if b == 0 {
+        let begun = machine::starting(t.n, predicates::tower());
+        return begun.table;
+    }
+    let k = b - 1;
+    let x = t.edges[k];
+    let before = table_of(t, x.source);
+    let o = machine::step(before, x.event);
+    o.table
+}
+
+// One state more where e is accepted on the table of the state a.
+fn with_event(t: Tree, table: Table, a: usize, e: Event) -> Tree
+{
+    let o = machine::step(table, e);
+    let answer = o.answer;
+    if !predicates::is_accepted(answer) {
+        return t;
+    }
+    with_edge(t, a, e)
+}
+
+// A state more for each event that is accepted on the table of the state a, in order.
+fn with_next(t: Tree, a: usize) -> Tree
+{
+    let n = t.n;
+    let table = table_of(t, a);
+    let count = list_events::event_count(n);
+    let events = list_events::events(n);
+    let mut next = t;
+    let mut i: u8 = 0;
+    while i < count {
+        next = with_event(next, table, a, events[i as usize]);
+        i += 1;
+    }
+    next
+}
+
+// The same for each of the states from first up to end, which is not among them.
+fn with_level(t: Tree, first: usize, end: usize) -> Tree
+{
+    let mut next = t;
+    let mut a = first;
+    while a < end {
+        next = with_next(next, a);
+        a += 1;
+    }
+    next
+}
+
+// All lists of up to so many events among n nodes.
+pub fn grown(n: u8, length: u8) -> Tree
+{
+    let mut t = root(n);
+    let mut first: usize = 0;
+    let mut k: u8 = 0;
+    while k < length {
+        let end = t.count + 1;
+        t = with_level(t, first, end);
+        first = end;
+        k += 1;
+    }
+    t
+}
