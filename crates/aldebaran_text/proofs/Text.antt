@@ -7,7 +7,7 @@ use mathlib.Core.Logic.{inl, inr}
 use mathlib.Core.List.{List, [], _∷_, _++_, map, append-assoc, head-eq-of-cons-eq, tail-eq-of-cons-eq}
 use lib.ListN.{length, take, getD, length-append}
 use Rattle.model.specs.Limits.{tower}
-use Rattle.model.specs.Pick.{pick, pick-true, pick-false, by-test}
+use Rattle.model.specs.Pick.{pick, pick-true, pick-false}
 use Rattle.model.specs.State.{State, start}
 use Rattle.model.specs.declared.Event.{Event}
 use Rattle.listing.specs.Ascii.{bytes}
@@ -138,9 +138,16 @@ stopped = refl
 refusal-short : length refusalText ≤ 32768
 refusal-short = rw stopped (omega arith)
 
-pub text-fits : TextFits
+most : (l : List ℕ) → length (textOf l) ≤ 32768
 unfolding textOf
-text-fits = record { most = λ l. by-test (λ x. length x ≤ 32768) (λ q. let f = fits-are 4 l q in allowed-short (getD l 0 0) (getD l 1 0) (f .0) (f .1) (f .2)) (λ q. refusal-short) }
+most l = by (fits l) refl
+  where
+    by : (t : Bool) → fits l ≡ t → length (pick (fits l) (joined (linesOf (states (getD l 1 0) (start (getD l 0 0) tower)))) refusalText) ≤ 32768
+    by true q = let f = fits-are 4 l q in rw (q, pick-true) (allowed-short (getD l 0 0) (getD l 1 0) (f .0) (f .1) (f .2))
+    by false q = rw (q, pick-false) refusal-short
+
+pub text-fits : TextFits
+text-fits = record { most = most }
 
 -- ── what is refused ──
 

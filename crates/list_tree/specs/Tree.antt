@@ -57,6 +57,12 @@ pub record Sound (t : Tree) : Type 0 where
   -- the edge into k + 1 comes from a state before it
   pub falls : (k : ℕ) → k < t .count → getD (t .edges) k noEdge .source ≤ k
 
+-- the tree of n nodes with the list of no events alone
+pub record Rooted (n : ℕ) (t : Tree) : Type 0 where
+  pub sound : Sound t
+  pub same : t .n ≡ n
+  pub lists : listsIn t ≡ [] ∷ []
+
 -- r is t with these lists behind its own
 pub record Grew (t : Tree) (more : List (List Event)) (r : Tree) : Type 0 where
   pub sound : Sound r

@@ -1,5 +1,6 @@
 // The tree of accepted lists: a state for each, numbered from 0, and the edge by which it is reached. The table of a state is not kept; it is found by running its list again.
 ghost use mathlib.Core.Path.{_≡_};
+ghost use mathlib.Core.List.{[], _∷_, _++_};
 ghost use Prim.Native.Nat.{_+_, _≤_, _<_};
 ghost use lib.ListN.{length, take, drop, getD};
 ghost use Rattle.model.specs.Limits.{tower};
@@ -7,7 +8,7 @@ ghost use Rattle.model.specs.State.{start, view};
 ghost use Rattle.model.specs.Step.{step, runFrom};
 ghost use Rattle.short_lists_text.specs.Rows.{concatMap};
 ghost use Rattle.aldebaran_text.specs.System.{states};
-ghost use Rattle.list_tree.specs.Tree.{listsIn, oneMore, nextOf, Sound, Grew};
+ghost use Rattle.list_tree.specs.Tree.{listsIn, oneMore, nextOf, Sound, Rooted, Grew};
 use model::Event;
 use model::Table;
 
@@ -29,6 +30,8 @@ pub struct Tree {
 
 // The list of no events alone.
 fn root(n: u8) -> Tree
+    requires { ⌜ (1 ≤ n) × (n ≤ 3) ⌝ }
+    ensures { λ r. ⌜ Rooted n r ⌝ }
 {
     let none = Edge {
         source: 0,
@@ -43,6 +46,8 @@ fn root(n: u8) -> Tree
 
 // One state more.
 fn with_edge(t: Tree, a: usize, e: Event) -> Tree
+    requires { ⌜ Sound t × (t .count < 600) × (a ≤ t .count) ⌝ }
+    ensures { λ r. ⌜ Grew t ((getD (listsIn t) a [] ++ (e ∷ [])) ∷ []) r ⌝ }
 {
     let k = t.count;
     let mut next = t;
@@ -56,6 +61,8 @@ fn with_edge(t: Tree, a: usize, e: Event) -> Tree
 
 // The table that the list of the state b leads to.
 fn table_of(t: Tree, b: usize) -> Table
+    requires { ⌜ Sound t × (b ≤ t .count) ⌝ }
+    ensures { λ r. ⌜ view r ≡ runFrom (start (t .n) tower) (getD (listsIn t) b []) ⌝ }
 {
     if b == 0 {
         let begun = machine::starting(t.n, predicates::tower());
@@ -63,13 +70,16 @@ fn table_of(t: Tree, b: usize) -> Table
     }
     let k = b - 1;
     let x = t.edges[k];
+    let e = x.event;
     let before = table_of(t, x.source);
-    let o = machine::step(before, x.event);
+    let o = machine::step(before, e);
     o.table
 }
 
 // One state more where e is accepted on the table of the state a.
 fn with_event(t: Tree, table: Table, a: usize, e: Event) -> Tree
+    requires { ⌜ Sound t × (a ≤ t .count) × (length (listsIn t ++ oneMore (getD (listsIn t) a []) e (step (view table) e)) ≤ 601) ⌝ }
+    ensures { λ r. ⌜ Grew t (oneMore (getD (listsIn t) a []) e (step (view table) e)) r ⌝ }
 {
     let o = machine::step(table, e);
     let answer = o.answer;
@@ -79,45 +89,3 @@ fn with_event(t: Tree, table: Table, a: usize, e: Event) -> Tree
     with_edge(t, a, e)
 }
 
-// A state more for each event that is accepted on the table of the state a, in order.
-fn with_next(t: Tree, a: usize) -> Tree
-{
-    let n = t.n;
-    let table = table_of(t, a);
-    let count = list_events::event_count(n);
-    let events = list_events::events(n);
-    let mut next = t;
-    let mut i: u8 = 0;
-    while i < count {
-        next = with_event(next, table, a, events[i as usize]);
-        i += 1;
-    }
-    next
-}
-
-// The same for each of the states from first up to end, which is not among them.
-fn with_level(t: Tree, first: usize, end: usize) -> Tree
-{
-    let mut next = t;
-    let mut a = first;
-    while a < end {
-        next = with_next(next, a);
-        a += 1;
-    }
-    next
-}
-
-// All lists of up to so many events among n nodes.
-pub fn grown(n: u8, length: u8) -> Tree
-{
-    let mut t = root(n);
-    let mut first: usize = 0;
-    let mut k: u8 = 0;
-    while k < length {
-        let end = t.count + 1;
-        t = with_level(t, first, end);
-        first = end;
-        k += 1;
-    }
-    t
-}

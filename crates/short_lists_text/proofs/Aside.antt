@@ -15,10 +15,7 @@ use Rattle.model.proofs.Fields.{in-range-pair}
 use Rattle.model.proofs.Aside.{Room, room-after, waiting-small, in-range-base, resultAside, aside-result}
 use Rattle.short_lists_text.specs.Rows.{concatMap}
 use Rattle.short_lists_text.specs.Lists.{alphabet, continued, listsFrom}
-
-rows-same : {A B : Type 0} (f g : A → List B) → ((x : A) → f x ≡ g x) → (xs : List A) → concatMap f xs ≡ concatMap g xs
-rows-same f g h [] = refl
-rows-same f g h (x ∷ xs) = rw (h x, rows-same f g h xs)
+use Rattle.short_lists_text.proofs.Rows.{same-rows}
 
 -- a table in range, with room for j more of each count of what was sent
 pub record HasRoom (j : ℕ) (s : State) : Type 0 where
@@ -37,7 +34,7 @@ same-lists : (m : ℕ) (s u : State) → countsAside s ≡ countsAside u → Has
 unfolding listsFrom
 same-lists zero s u c h i = refl
 same-lists (suc m) s u c h i =
-    rows-same _ _ (λ e. by (same-lists m) e (step s e) (step u e) refl refl (answers e)) (alphabet (s .n))
+    same-rows _ _ (λ e. by (same-lists m) e (step s e) (step u e) refl refl (answers e)) (alphabet (s .n))
     ∙ ap (λ (x : State). concatMap (λ e. continued e (step u e) (listsFrom m)) (alphabet (x .n))) c
   where
     answers : (e : Event) → aside (step s e) ≡ aside (step u e)

@@ -21,7 +21,8 @@ use Rattle.short_lists_text.specs.Rows.{concatMap}
 use Rattle.short_lists_text.specs.Lists.{alphabet, continued, listsFrom}
 use Rattle.short_lists_text.specs.Text.{linesOf, textOf}
 use Rattle.short_lists_text.specs.Claims.{listsBy, answersBy, isOneOf, withoutNineteen, ListsFewer}
-use Rattle.short_lists_text.proofs.Stay.{same-rows, from-start, text-of}
+use Rattle.short_lists_text.proofs.Rows.{same-rows}
+use Rattle.short_lists_text.proofs.Stay.{from-start, text-of}
 
 -- where 19 is not met, the machine's step is the one without it
 not-met : (s : State) (e : Event) → (step s e ≡ refused 19 → ⊥) → step s e ≡ stepWithoutNineteen s e

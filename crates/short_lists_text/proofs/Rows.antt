@@ -1,7 +1,8 @@
 -- Laws of concatMap.
-use mathlib.Core.Path.{_≡_, refl, sym, ap, subst}
+use mathlib.Core.Path.{_≡_, refl, sym, _∙_, ap, subst}
 use mathlib.Core.Logic.{inl, inr}
-use mathlib.Core.List.{List, [], _∷_, _++_, map}
+use mathlib.Core.List.{List, [], _∷_, _++_, append-assoc, map}
+use Rattle.model.proofs.Lists.{map-append}
 use Rattle.short_lists_text.specs.Rows.{Among, All, Ascending, concatMap}
 
 -- ── what holds of all ──
@@ -85,3 +86,25 @@ alone R never x (z ∷ zs) ys a = let r = alone R never x zs ys (a .1) in (first
     first : (Among x zs → ⊥) → Among x (z ∷ zs) → ⊥
     first r (inl e) = here (sym e)
     first r (inr m) = r m
+
+-- ── rows of rows ──
+
+pub same-rows : {A B : Type 0} (f g : A → List B) → ((x : A) → f x ≡ g x) → (xs : List A) → concatMap f xs ≡ concatMap g xs
+same-rows f g h [] = refl
+same-rows f g h (x ∷ xs) = let p = h x in let q = same-rows f g h xs in rw (p, q)
+
+pub rows-append : {A B : Type 0} (f : A → List B) (xs ys : List A) → concatMap f (xs ++ ys) ≡ concatMap f xs ++ concatMap f ys
+rows-append f [] ys = refl
+rows-append f (x ∷ xs) ys = rw (rows-append f xs ys, append-assoc)
+
+pub rows-rows : {A B C : Type 0} (f : B → List C) (g : A → List B) (xs : List A) → concatMap f (concatMap g xs) ≡ concatMap (λ x. concatMap f (g x)) xs
+rows-rows f g [] = refl
+rows-rows f g (x ∷ xs) = rows-append f (g x) (concatMap g xs) ∙ ap (λ l. concatMap f (g x) ++ l) (rows-rows f g xs)
+
+pub rows-map : {A B C : Type 0} (f : B → List C) (g : A → B) (xs : List A) → concatMap f (map g xs) ≡ concatMap (λ x. f (g x)) xs
+rows-map f g [] = refl
+rows-map f g (x ∷ xs) = ap (λ l. f (g x) ++ l) (rows-map f g xs)
+
+pub map-rows : {A B C : Type 0} (f : B → C) (g : A → List B) (xs : List A) → map f (concatMap g xs) ≡ concatMap (λ x. map f (g x)) xs
+map-rows f g [] = refl
+map-rows f g (x ∷ xs) = map-append f (g x) (concatMap g xs) ∙ ap (λ l. map f (g x) ++ l) (map-rows f g xs)

@@ -17,11 +17,8 @@ use Rattle.short_lists_text.specs.Rows.{concatMap}
 use Rattle.short_lists_text.specs.Lists.{alphabet, continued, listsFrom}
 use Rattle.short_lists_text.specs.Text.{linesOf, textOf}
 use Rattle.short_lists_text.specs.Claims.{listsBy, formerResult, stepWithoutEighteen, ListsStay}
+use Rattle.short_lists_text.proofs.Rows.{same-rows}
 use Rattle.short_lists_text.proofs.Refuses.{allowed}
-
-pub same-rows : {A B : Type 0} (f g : A → List B) → ((x : A) → f x ≡ g x) → (xs : List A) → concatMap f xs ≡ concatMap g xs
-same-rows f g h [] = refl
-same-rows f g h (x ∷ xs) = ap₂ (λ (a b : _). a ++ b) (h x) (same-rows f g h xs)
 
 -- of a step f that does the same at the first k events of a run
 module _ (f : State → Event → Result) (n k : ℕ) (same : (es : List Event) (e : Event) → length es < k → f (run n tower es) e ≡ step (run n tower es) e) where
