@@ -1,4 +1,3 @@
-pub mod Events
 pub mod Stack
 pub mod Lines
 pub mod Loop

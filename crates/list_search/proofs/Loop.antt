@@ -34,9 +34,10 @@ use Rattle.packed.proofs.Turns.{Ready, refused-step, has-room, end-below, step-
 use Rattle.short_lists_text.specs.Lists.{listsFrom}
 use Rattle.short_lists_text.proofs.Aside.{keeps-room, lists-aside}
 use Rattle.short_lists_text.specs.Text.{eventText, listLine, countLine}
+use Rattle.list_events.specs.Events.{sizeOf, eventAt}
 use Rattle.list_search.specs.declared.Level.{Level}
 use Rattle.list_search.specs.declared.Search.{Search}
-use Rattle.list_search.specs.Stack.{Frame, frame, sizeOf, eventAt, path, listsLeft, stackText}
+use Rattle.list_search.specs.Stack.{Frame, frame, path, listsLeft, stackText}
 use Rattle.list_search.specs.Line.{beginning}
 use Rattle.list_search.specs.Search.{noLevel, frameOf, framesOf, textLeft, SoundLevel, SoundBelow, Going, Sound, EndsLine, Gave}
 use Rattle.list_search.proofs.Stack.{turnsLeft, text-same, text-over, text-given, left-none, gone, passed-by, gone-up, gave-one, path-passed}

@@ -20,7 +20,8 @@ use Rattle.listing.specs.Printing.{joined}
 use Rattle.short_lists_text.specs.Lists.{alphabet, listsFrom}
 use Rattle.short_lists_text.specs.Text.{listLine, countLine, fits, textOf}
 use Rattle.short_lists_text.proofs.Few.{same-n}
-use Rattle.list_search.specs.Stack.{Frame, frame, sizeOf, eventAt, path, onFrame, listsLeft, stackText}
+use Rattle.list_events.specs.Events.{sizeOf, eventAt}
+use Rattle.list_search.specs.Stack.{Frame, frame, path, onFrame, listsLeft, stackText}
 
 -- one more was tried
 abbrev pub passed : Frame → Frame

@@ -1,5 +1,4 @@
--- What the search for short lists means: its stack of tables, the alphabet by places, the beginning of a line, and what the functions promise.
+-- What the search for short lists means: its stack of tables, the beginning of a line, and what the functions promise.
 pub mod Stack
-pub mod Events
 pub mod Line
 pub mod Search

@@ -13,10 +13,11 @@ use Rattle.model.specs.declared.Event.{Event}
 use Rattle.packed.specs.Seen.{seenWaiting}
 use Rattle.listing.specs.Ascii.{bytes}
 use Rattle.short_lists_text.specs.Text.{refusalText, textOf}
+use Rattle.list_events.specs.Events.{sizeOf}
 use Rattle.list_search.specs.declared.Level.{Level}
 use Rattle.list_search.specs.declared.Search.{Search}
 use Rattle.list_search.specs.declared.Piece.{Piece}
-use Rattle.list_search.specs.Stack.{Frame, frame, sizeOf, path, listsLeft, stackText}
+use Rattle.list_search.specs.Stack.{Frame, frame, path, listsLeft, stackText}
 use Rattle.list_search.specs.Line.{beginning}
 
 -- ── the stack of a search ──

@@ -1,15 +1,15 @@
 -- What a stack of tables means: the lists that are still to come from it, and their text.
 use Prim.Native.Nat.{ℕ, zero, suc, _+_, _-_}
 use mathlib.Core.List.{List, [], _∷_, _++_, map}
-use lib.ListN.{length, getD, drop}
+use lib.ListN.{length, drop}
 use Rattle.model.specs.State.{State}
 use Rattle.model.specs.Step.{step}
 use Rattle.model.specs.declared.Event.{Event}
-use Rattle.model.specs.declared.Event.the-variants.{Crash}
 use Rattle.listing.specs.Printing.{joined}
 use Rattle.short_lists_text.specs.Rows.{concatMap}
 use Rattle.short_lists_text.specs.Lists.{alphabet, continued, listsFrom}
 use Rattle.short_lists_text.specs.Text.{listLine, countLine}
+use Rattle.list_events.specs.Events.{eventAt}
 
 -- ── the stack ──
 
@@ -21,14 +21,6 @@ pub record Frame : Type 0 where
 
 abbrev pub frame : State → ℕ → Frame
 frame s i = record { state = s; tried = i }
-
--- how many events the alphabet has
-abbrev pub sizeOf : ℕ → ℕ
-sizeOf n = length (alphabet n)
-
--- its event i, from 0 on
-unfoldable pub eventAt : ℕ → ℕ → Event
-eventAt n i = getD (alphabet n) i (Crash 0)
 
 -- the event last tried on each frame, from the lowest frame up; the frames are given topmost first
 unfoldable pub path : List Frame → List Event

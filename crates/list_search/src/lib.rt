@@ -1,6 +1,5 @@
 // All accepted lists of a length, found by a search over a stack of tables, and their text in pieces: no beginning of a list is run twice, and nothing grows with
 // the text. What the text is, is in crate short_lists_text; what a search means, in specs/.
-mod alphabet;
 mod line;
 
 ghost use mathlib.Core.Path.{_≡_};
@@ -8,7 +7,6 @@ ghost use Prim.Native.Nat.{_-_, _≤_};
 ghost use lib.ListN.{length};
 ghost use Rattle.model.specs.Limits.{tower};
 ghost use Rattle.packed.specs.Packed.{Rulable, Ruled};
-ghost use Rattle.short_lists_text.specs.Text as text;
 ghost use Rattle.list_search.specs.Search.{Lowest, First, Going, Sound, Begun, Gave};
 use line::LINE;
 use model::Event;
@@ -68,8 +66,8 @@ fn lines_on(s: Search, out: &mut [u8]) -> Piece
 {
     let n = s.n;
     let length = s.length;
-    let count = alphabet::event_count(n);
-    let events = alphabet::events(n);
+    let count = list_events::event_count(n);
+    let events = list_events::events(n);
     let mut levels = s.levels;
     // how many levels stand below the topmost
     let mut height = s.height - 1;
@@ -232,23 +230,12 @@ fn first(n: u8, length: usize) -> Search
     }
 }
 
-// "n from 1 to 3 and a length from 0 to 7, as two bytes"
-fn fits(input: &[u8]) -> bool
-    ensures { λ r. ⌜ r ≡ text.fits (now (input .entry)) ⌝ }
-{
-    if input.len() != 2 {
-        return false;
-    }
-    let n = input[0];
-    let length = input[1];
-    (1 <= n) & (n <= 3) & (length <= 7)
-}
-
 // The search for the text of any input.
 pub fn begin(input: &[u8]) -> Search
     ensures { λ r. ⌜ Begun (now (input .entry)) r ⌝ }
 {
-    if !fits(input) {
+    // "n from 1 to 3 and a length from 0 to 7, as two bytes"
+    if !list_events::fits(input, 7) {
         return first(0, 0);
     }
     let n = input[0];

@@ -7,8 +7,7 @@ use mathlib.Core.Path.{_≡_, refl, sym, _∙_}
 use Rattle.model.specs.Limits.{tower}
 use Rattle.model.specs.declared.Event.the-variants.{Crash}
 use Rattle.packed.proofs.Turns.{few, rulable}
-use Rattle.list_search.specs.Stack.{sizeOf}
-use Rattle.list_search.specs.Events.{Holds}
+use Rattle.list_events.specs.Events.{sizeOf, Holds}
 use Rattle.list_search.specs.Search.{textLeft}
 use Rattle.list_search.proofs.Loop.{Kept, turnsOf, ready, top-place, loop-starts, gave-last, short-line, ends, down, down-less, turned-down, turned-less, room-for, count-one, listed, listed-less, listed-more, raised, raised-less}
 use Rattle.list_search.proofs.lines_on.Statement.{statement}

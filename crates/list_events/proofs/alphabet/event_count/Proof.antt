@@ -3,9 +3,9 @@ use Prim.Native.Nat.{_+_, _*_}
 use borrow.Author.Needs.{needs}
 use native.Mathlib.Omega.{arith}
 use mathlib.Core.Path.{sym, _∙_, ap}
-use Rattle.list_search.proofs.Events.{by-place}
-use Rattle.list_search.proofs.alphabet.event_count.Statement.{statement}
-use Rattle.list_search.proofs.alphabet.event_count.Tie as tie
+use Rattle.list_events.proofs.Places.{by-place}
+use Rattle.list_events.proofs.alphabet.event_count.Statement.{statement}
+use Rattle.list_events.proofs.alphabet.event_count.Tie as tie
 
 pub event-count-spec : {M : Type 1} → statement M
 event-count-spec =

@@ -1,8 +1,7 @@
 // The events that may stand in a list, by their places in the alphabet, for the n of T-01.
 ghost use mathlib.Core.Path.{_≡_};
 ghost use Prim.Native.Nat.{_≤_, _<_};
-ghost use Rattle.list_search.specs.Stack as stack;
-ghost use Rattle.list_search.specs.Events as spec;
+ghost use Rattle.list_events.specs.Events as spec;
 ghost use lib.ListN.{length};
 use model::Event;
 use model::TaskNo;
@@ -25,7 +24,7 @@ fn pair_count(n: u8) -> u8
 // How many events there are.
 pub fn event_count(n: u8) -> u8
     requires { ⌜ (1 ≤ n) × (n ≤ 3) ⌝ }
-    ensures { λ r. ⌜ (r ≡ stack.sizeOf n) × (r ≤ 33) ⌝ }
+    ensures { λ r. ⌜ (r ≡ spec.sizeOf n) × (r ≤ 33) ⌝ }
 {
     7 * n + 2 * pair_count(n)
 }
@@ -67,8 +66,8 @@ fn receiver(n: u8, p: u8) -> u8
 
 // Event i, from 0 on.
 fn event_at(n: u8, i: u8) -> Event
-    requires { ⌜ (1 ≤ n) × (n ≤ 3) × (i < stack.sizeOf n) ⌝ }
-    ensures { λ r. ⌜ r ≡ stack.eventAt n i ⌝ }
+    requires { ⌜ (1 ≤ n) × (n ≤ 3) × (i < spec.sizeOf n) ⌝ }
+    ensures { λ r. ⌜ r ≡ spec.eventAt n i ⌝ }
 {
     let singles = 7 * n;
     if i < singles {

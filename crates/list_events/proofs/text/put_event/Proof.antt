@@ -1,10 +1,11 @@
--- `list_search::line::put_event` meets its contract: the name and the numbers of each event, which are 16 bytes at most.
+-- `list_events::text::put_event` meets its contract: the name and the numbers of each event, which are 16 bytes at most.
 use borrow.Author.Needs.{needs}
 use native.Mathlib.Omega.{arith}
 use Rattle.short_lists_text.specs.Text.{nameOf, eventText}
-use Rattle.list_search.proofs.Lines.{one-short, two-short, task-short, short-put}
-use Rattle.list_search.proofs.line.put_event.Statement.{statement}
-use Rattle.list_search.proofs.line.put_event.Tie as tie
+use Rattle.short_lists_text.proofs.Spaced.{one-short, two-short, task-short}
+use Rattle.list_events.proofs.Short.{short-put}
+use Rattle.list_events.proofs.text.put_event.Statement.{statement}
+use Rattle.list_events.proofs.text.put_event.Tie as tie
 
 returns : tie.Need-returns
 unfolding eventText nameOf

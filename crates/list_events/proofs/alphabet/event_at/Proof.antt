@@ -6,11 +6,10 @@ use borrow.Author.Needs.{needs}
 use borrow.Author.Tests.{lt-ltb, le-ltb}
 use mathlib.Core.Path.{_≡_}
 use Rattle.model.specs.Pick.{pick}
-use Rattle.list_search.specs.Events.{pairCount, eventCount, eventBy}
-use Rattle.list_search.specs.Stack.{sizeOf, eventAt}
-use Rattle.list_search.proofs.Events.{of-three, by-place}
-use Rattle.list_search.proofs.alphabet.event_at.Statement.{statement}
-use Rattle.list_search.proofs.alphabet.event_at.Tie as tie
+use Rattle.list_events.specs.Events.{sizeOf, eventAt, pairCount, eventCount, eventBy}
+use Rattle.list_events.proofs.Places.{of-three, by-place}
+use Rattle.list_events.proofs.alphabet.event_at.Statement.{statement}
+use Rattle.list_events.proofs.alphabet.event_at.Tie as tie
 
 -- behind those of one node there are at least two nodes, and a pair's place is below how many pairs there are
 abbrev Behind : ℕ → ℕ → Type 0

@@ -5,9 +5,9 @@ use native.Mathlib.Omega.{arith}
 use native.Mathlib.Nat.{mod-lt}
 use Prim.Native.Nat.{_-_}
 use Rattle.model.specs.Pick.{pick}
-use Rattle.list_search.specs.Events.{receiver}
-use Rattle.list_search.proofs.alphabet.receiver.Statement.{statement}
-use Rattle.list_search.proofs.alphabet.receiver.Tie as tie
+use Rattle.list_events.specs.Events.{receiver}
+use Rattle.list_events.proofs.alphabet.receiver.Statement.{statement}
+use Rattle.list_events.proofs.alphabet.receiver.Tie as tie
 
 add-j : tie.Need-add-j
 add-j c = let z = mod-lt (c .args .p) {m = c .args .n - 1} (omega (arith, c .pre)) in search needs

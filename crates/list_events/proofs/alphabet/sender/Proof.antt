@@ -2,8 +2,8 @@
 use borrow.Author.Needs.{needs}
 use Prim.Native.Nat.{_-_}
 use native.Mathlib.Nat.{div-le-self}
-use Rattle.list_search.proofs.alphabet.sender.Statement.{statement}
-use Rattle.list_search.proofs.alphabet.sender.Tie as tie
+use Rattle.list_events.proofs.alphabet.sender.Statement.{statement}
+use Rattle.list_events.proofs.alphabet.sender.Tie as tie
 
 pub sender-spec : {M : Type 1} → statement M
 sender-spec =

@@ -1,13 +1,13 @@
--- `list_search::alphabet::events` meets its contract. The invariant: the events before i stand in their places.
+-- `list_events::alphabet::events` meets its contract. The invariant: the events before i stand in their places.
 use borrow.Author.Needs.{needs}
 use Prim.Native.Nat.{_+_, _-_, _≤_, _<_}
 use native.Mathlib.Omega.{arith}
 use mathlib.Core.Path.{_≡_, _∙_}
 use lib.ListN.{length, length-set}
-use Rattle.list_search.specs.Stack.{sizeOf}
-use Rattle.list_search.proofs.Events.{Filled, one-filled}
-use Rattle.list_search.proofs.alphabet.events.Statement.{statement}
-use Rattle.list_search.proofs.alphabet.events.Tie as tie
+use Rattle.list_events.specs.Events.{sizeOf}
+use Rattle.list_events.proofs.Places.{Filled, one-filled}
+use Rattle.list_events.proofs.alphabet.events.Statement.{statement}
+use Rattle.list_events.proofs.alphabet.events.Tie as tie
 
 abbrev Inv-loop : tie.InvT-loop
 Inv-loop n count es₀ i₀ es i = (length es ≡ 33) × (i ≤ count) × (count ≡ sizeOf n) × (count ≤ 33) × Filled n es i

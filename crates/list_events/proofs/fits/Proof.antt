@@ -1,9 +1,9 @@
--- `list_search::fits` meets its contract.
+-- `list_events::fits` meets its contract.
 use borrow.Author.Needs.{needs}
 use borrow.Author.Tests.{eq-eqb, ne-eqb}
 use Rattle.short_lists_text.specs.Text.{fitsTo}
-use Rattle.list_search.proofs.fits.Statement.{statement}
-use Rattle.list_search.proofs.fits.Tie as tie
+use Rattle.list_events.proofs.fits.Statement.{statement}
+use Rattle.list_events.proofs.fits.Tie as tie
 
 returns : tie.Need-returns
 unfolding fitsTo

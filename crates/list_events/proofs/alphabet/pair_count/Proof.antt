@@ -1,8 +1,8 @@
 -- Of the three numbers of nodes.
 use native.Mathlib.Omega.{arith}
 use mathlib.Core.Path.{_≡_, refl}
-use Rattle.list_search.proofs.alphabet.pair_count.Statement.{statement}
-use Rattle.list_search.proofs.alphabet.pair_count.Tie as tie
+use Rattle.list_events.proofs.alphabet.pair_count.Statement.{statement}
+use Rattle.list_events.proofs.alphabet.pair_count.Tie as tie
 
 pub pair-count-spec : {M : Type 1} → statement M
 pair-count-spec =

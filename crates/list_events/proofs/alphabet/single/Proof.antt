@@ -1,9 +1,9 @@
 -- Each arm is its case of the definition.
 use borrow.Author.Tests.{ne-eqb}
 use Rattle.model.specs.Pick.{pick}
-use Rattle.list_search.specs.Events.{single}
-use Rattle.list_search.proofs.alphabet.single.Statement.{statement}
-use Rattle.list_search.proofs.alphabet.single.Tie as tie
+use Rattle.list_events.specs.Events.{single}
+use Rattle.list_events.proofs.alphabet.single.Statement.{statement}
+use Rattle.list_events.proofs.alphabet.single.Tie as tie
 
 pub single-spec : {M : Type 1} → statement M
 unfolding single pick

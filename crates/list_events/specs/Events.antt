@@ -8,8 +8,15 @@ use Rattle.model.specs.Pick.{pick}
 use Rattle.model.specs.declared.TaskNo.{TaskNo}
 use Rattle.model.specs.declared.Event.{Event}
 use Rattle.model.specs.declared.Event.the-variants.{Crash, Recover, Check, Timeout, Tick, Expire, Finish, Deliver, Lose}
-use Rattle.short_lists_text.specs.Lists.{onlyTask}
-use Rattle.list_search.specs.Stack.{sizeOf, eventAt}
+use Rattle.short_lists_text.specs.Lists.{onlyTask, alphabet}
+
+-- how many events the alphabet has
+abbrev pub sizeOf : ℕ → ℕ
+sizeOf n = length (alphabet n)
+
+-- its event i, from 0 on
+unfoldable pub eventAt : ℕ → ℕ → Event
+eventAt n i = getD (alphabet n) i (Crash 0)
 
 -- the event of one node with tag 0x10 + k, for k up to 6
 unfoldable pub single : ℕ → ℕ → Event

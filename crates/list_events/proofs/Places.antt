@@ -12,8 +12,7 @@ use Rattle.model.specs.Pick.{pick}
 use Rattle.model.specs.declared.Event.{Event}
 use Rattle.model.specs.declared.Event.the-variants.{Crash}
 use Rattle.short_lists_text.specs.Lists.{upFrom, without, pairsOf, alphabet}
-use Rattle.list_search.specs.Stack.{sizeOf, eventAt}
-use Rattle.list_search.specs.Events.{single, receiver, eventCount, eventBy, ByPlace}
+use Rattle.list_events.specs.Events.{sizeOf, eventAt, single, receiver, eventCount, eventBy, ByPlace}
 
 map-at : (f : ℕ → Event) (k c i : ℕ) (d : Event) → i < c → getD (map f (upFrom k c)) i d ≡ f (k + i)
 unfolding upFrom

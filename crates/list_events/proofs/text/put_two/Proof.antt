@@ -1,4 +1,4 @@
--- `list_search::line::put_two` meets its contract: a number more is a piece more.
+-- `list_events::text::put_two` meets its contract: a number more is a piece more.
 use borrow.Author.Needs.{needs}
 use native.Mathlib.Omega.{arith}
 use mathlib.Core.List.{[], _∷_, append-assoc}
@@ -7,9 +7,9 @@ use denote.Ref.{now}
 use Rattle.listing.specs.Decimal.{decimal}
 use Rattle.short_lists_text.specs.Text.{spaced}
 use Rattle.listing.proofs.Appended.{appended-twice}
-use Rattle.list_search.proofs.Lines.{spaced-two, two-long}
-use Rattle.list_search.proofs.line.put_two.Statement.{statement}
-use Rattle.list_search.proofs.line.put_two.Tie as tie
+use Rattle.short_lists_text.proofs.Spaced.{spaced-two, two-long}
+use Rattle.list_events.proofs.text.put_two.Statement.{statement}
+use Rattle.list_events.proofs.text.put_two.Tie as tie
 
 put-one-requires : tie.Need-put-one-requires
 put-one-requires c κs = let s = c .before .before .before in let l = two-long (s .args .i) (s .args .x) in omega arith

@@ -1,10 +1,10 @@
--- `list_search::line::put_one` meets its contract: a name and a number are two pieces.
+-- `list_events::text::put_one` meets its contract: a name and a number are two pieces.
 use borrow.Author.Needs.{needs}
 use native.Mathlib.Omega.{arith}
 use Rattle.listing.proofs.Appended.{appended-twice}
-use Rattle.list_search.proofs.Lines.{spaced-one, one-long}
-use Rattle.list_search.proofs.line.put_one.Statement.{statement}
-use Rattle.list_search.proofs.line.put_one.Tie as tie
+use Rattle.short_lists_text.proofs.Spaced.{spaced-one, one-long}
+use Rattle.list_events.proofs.text.put_one.Statement.{statement}
+use Rattle.list_events.proofs.text.put_one.Tie as tie
 
 put-bytes-requires : tie.Need-put-bytes-requires
 put-bytes-requires c κs = omega arith

@@ -1,0 +1,2 @@
+-- The alphabet by its places, and what the functions promise of it.
+pub mod Events
