@@ -65,7 +65,7 @@ legal-more s l e x t a = record {
 }
 
 -- the state after one event more
-run-one : (s : State) (l : List Event) (e : Event) → runFrom s (l ++ (e ∷ [])) ≡ after (runFrom s l) e
+pub run-one : (s : State) (l : List Event) (e : Event) → runFrom s (l ++ (e ∷ [])) ≡ after (runFrom s l) e
 unfolding runFrom
 run-one s l e = run-append s l (e ∷ [])
 

@@ -1,7 +1,10 @@
 -- The lists of one event more are those that come next to each list, one behind the other.
 use Prim.Native.Nat.{ℕ, zero, suc, _+_}
+use native.Mathlib.Omega.{arith}
 use mathlib.Core.Path.{_≡_, refl, sym, _∙_, ap}
 use mathlib.Core.List.{List, [], _∷_, _++_, append-nil, map}
+use lib.ListN.{length, drop, length-append}
+use lib.Seq.{drop-at}
 use Rattle.model.specs.State.{State}
 use Rattle.model.specs.Step.{Result, refused, accepted, step, kept, after, runFrom}
 use Rattle.model.specs.declared.Mark.{Mark}
@@ -46,3 +49,26 @@ lists-next (suc m) s =
         ∙ (map-rows (λ l. e ∷ l) (nextOf u) (listsFrom m u)
         ∙ (same-rows _ _ (λ l. next-behind s u k e l q) (listsFrom m u)
         ∙ sym (rows-map (nextOf s) (λ l. e ∷ l) (listsFrom m u))))
+
+-- ── levels ──
+
+-- of no events there is one, the first
+pub first-level : (s : State) → (([] ∷ []) ≡ states 0 s) × (0 + length (listsFrom 0 s) ≡ length (states 0 s))
+unfolding states listsFrom
+first-level s = (refl, omega arith)
+
+-- the lists of the greatest length stand behind all others
+pub last-level : (k : ℕ) (s : State) (first : ℕ) → first + length (listsFrom k s) ≡ length (states k s) → drop first (states k s) ≡ listsFrom k s
+unfolding states
+last-level zero s first q = let z : first ≡ 0 = omega arith in ap (λ i. drop i (listsFrom 0 s)) z
+last-level (suc k) s first q = drop-at (states k s) (listsFrom (suc k) s) first (omega (arith, q, length-append (states k s) (listsFrom (suc k) s)))
+
+-- and next to them come those of the next length
+pub next-level : (k : ℕ) (s : State) → states k s ++ concatMap (nextOf s) (listsFrom k s) ≡ states (k + 1) s
+unfolding states
+next-level k s = let z : suc k ≡ k + 1 = omega arith in ap (λ (l : List (List Event)). states k s ++ l) (sym (lists-next k s)) ∙ ap (λ i. states i s) z
+
+-- so many are they
+pub level-long : (k : ℕ) (s : State) → length (states k s) + length (listsFrom (k + 1) s) ≡ length (states (k + 1) s)
+unfolding states
+level-long k s = let z : suc k ≡ k + 1 = omega arith in rw (← z) (omega (arith, length-append (states k s) (listsFrom (suc k) s)))

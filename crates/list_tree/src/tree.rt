@@ -89,3 +89,52 @@ fn with_event(t: Tree, table: Table, a: usize, e: Event) -> Tree
     with_edge(t, a, e)
 }
 
+// A state more for each event that is accepted on the table of the state a, in order.
+fn with_next(t: Tree, a: usize) -> Tree
+    requires { ⌜ Sound t × (a ≤ t .count) × (length (listsIn t ++ nextOf (start (t .n) tower) (getD (listsIn t) a [])) ≤ 601) ⌝ }
+    ensures { λ r. ⌜ Grew t (nextOf (start (t .n) tower) (getD (listsIn t) a [])) r ⌝ }
+{
+    let n = t.n;
+    let table = table_of(t, a);
+    let count = list_events::event_count(n);
+    let events = list_events::events(n);
+    let mut next = t;
+    let mut i: u8 = 0;
+    while i < count {
+        let e = events[i as usize];
+        next = with_event(next, table, a, e);
+        i += 1;
+    }
+    next
+}
+
+// The same for each of the states from first up to end, which is not among them.
+fn with_level(t: Tree, first: usize, end: usize) -> Tree
+    requires { ⌜ Sound t × (first ≤ end) × (end ≤ t .count + 1) × (length (listsIn t ++ concatMap (nextOf (start (t .n) tower)) (drop first (take end (listsIn t)))) ≤ 601) ⌝ }
+    ensures { λ r. ⌜ Grew t (concatMap (nextOf (start (t .n) tower)) (drop first (take end (listsIn t)))) r ⌝ }
+{
+    let mut next = t;
+    let mut a = first;
+    while a < end {
+        next = with_next(next, a);
+        a += 1;
+    }
+    next
+}
+
+// All lists of up to so many events among n nodes.
+pub fn grown(n: u8, most: u8) -> Tree
+    requires { ⌜ (1 ≤ n) × (n ≤ 3) × (most ≤ 4) ⌝ }
+    ensures { λ r. ⌜ Sound r × (listsIn r ≡ states most (start n tower)) ⌝ }
+{
+    let mut t = root(n);
+    let mut first: usize = 0;
+    let mut k: u8 = 0;
+    while k < most {
+        let end = t.count + 1;
+        t = with_level(t, first, end);
+        first = end;
+        k += 1;
+    }
+    t
+}

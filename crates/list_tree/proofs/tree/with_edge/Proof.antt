@@ -1,24 +1,12 @@
+-- `list_tree::tree::with_edge` meets its contract.
 use borrow.Author.Needs.{needs}
+use native.Mathlib.Omega.{arith}
+use Rattle.list_tree.proofs.Trees.{grew-edge}
 use Rattle.list_tree.proofs.tree.with_edge.Statement.{statement}
 use Rattle.list_tree.proofs.tree.with_edge.Tie as tie
-use Rattle.list_tree.proofs.tree.with_edge.Reads as reads
-use Rattle.list_tree.proofs.tree.with_edge.Lts as lts
 
--- src/tree.rt:54:5
-mul-t7 : tie.Need-mul-t7
-mul-t7 c = search needs
-
--- src/tree.rt:54:5
-element-set-from-next : tie.Need-element-set-from-next
-element-set-from-next c = search needs
-
--- src/tree.rt:58:18
-add-next : tie.Need-add-next
-add-next c = search needs
-
--- src/tree.rt:48:1
 returns : tie.Need-returns
-returns c = ?
+returns c = grew-edge (c .args .t) (c .args .a) (c .args .e) (c .pre .0) (c .pre .1) (c .pre .2)
 
 pub with-edge-spec : {M : Type 1} → statement M
-with-edge-spec = tie.close (tie.spec mul-t7 element-set-from-next add-next returns)
+with-edge-spec = tie.close (tie.spec (λ c. search needs) (λ c. let s = c .pre .0 .space in omega arith) (λ c. search needs) returns)
