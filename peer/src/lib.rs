@@ -1,7 +1,10 @@
-//! A second implementation of document 01 (coordinator election among cabinets) and of T-01 to T-11 of
+//! A second implementation of document 01 (coordinator election among cabinets) and of T-01 to T-12 of
 //! document 02, written from the papers alone, so that other implementations can be compared with it.
 //! Document 01's cabinet is called node here, and its book history.
 
+pub mod aldebaran;
+pub mod aldebaran_reading;
+pub mod aut;
 pub mod bully;
 pub mod calls;
 pub mod check_corners;
@@ -36,4 +39,5 @@ pub mod tally;
 pub mod traffic_corners;
 pub mod traffic_tables;
 pub mod tuned;
+pub mod two_bytes;
 pub mod vectors;

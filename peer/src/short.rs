@@ -42,15 +42,32 @@ pub fn print(input: &[u8], out: &mut impl Write) -> Result<()> {
 
 /// Prints "every list of exactly that many events", and the "last line". They are the tower's.
 pub fn print_lists(n: u8, length: u8, out: &mut impl Write) -> Result<Counts> {
+    let counts = walk(n, length, |_, line| out.write_all(line))?;
+    writeln!(out, "lists {}", counts.lists)?;
+    Ok(counts)
+}
+
+/// The same lists as events, in the same order.
+pub fn lists(n: u8, length: u8) -> Vec<Vec<Event>> {
+    let mut lists = Vec::new();
+    let walked = walk(n, length, |events, _| {
+        lists.push(events.to_vec());
+        Ok(())
+    });
+    walked.expect("a Vec takes every list");
+    lists
+}
+
+/// Does something with each list in turn, which is given as events and as its line.
+fn walk(n: u8, length: u8, found: impl FnMut(&[Event], &[u8]) -> Result<()>) -> Result<Counts> {
     let words = |event| (event, event_words(&event));
     let alphabet: Vec<_> = alphabet(n).into_iter().map(words).collect();
     let counts = Counts::default();
-    let mut printer = Printer { alphabet: &alphabet, line: Vec::new(), counts, out };
+    let mut walk =
+        Walk { alphabet: &alphabet, events: Vec::new(), line: Vec::new(), counts, found };
     let mut room = vec![Table::start(n, TOWER); usize::from(length)];
-    printer.go_on(&Table::start(n, TOWER), &mut room)?;
-    let counts = printer.counts;
-    writeln!(out, "lists {}", counts.lists)?;
-    Ok(counts)
+    walk.go_on(&Table::start(n, TOWER), &mut room)?;
+    Ok(walk.counts)
 }
 
 /// All events that a list can have, "tag first, then contents as bytes".
@@ -76,17 +93,18 @@ pub fn alphabet(n: u8) -> Vec<Event> {
     events
 }
 
-struct Printer<'a, W> {
+struct Walk<'a, F> {
     /// The events with their words.
     alphabet: &'a [(Event, String)],
-    /// The text of the events so far.
+    /// The events so far, and their text.
+    events: Vec<Event>,
     line: Vec<u8>,
     counts: Counts,
-    out: &'a mut W,
+    found: F,
 }
 
-impl<W: Write> Printer<'_, W> {
-    /// Prints every list that begins with the events so far, which led to the table, and has one more
+impl<F: FnMut(&[Event], &[u8]) -> Result<()>> Walk<'_, F> {
+    /// Finds every list that begins with the events so far, which led to the table, and has one more
     /// for each table that there is room for. All lists that begin alike stand together, so the order
     /// of the next event is the order of the lists.
     fn go_on(&mut self, table: &Table, room: &mut [Table]) -> Result<()> {
@@ -94,7 +112,7 @@ impl<W: Write> Printer<'_, W> {
         let Some((next, room)) = room.split_first_mut() else {
             self.counts.lists += 1;
             self.line.push(b'\n');
-            return self.out.write_all(&self.line);
+            return (self.found)(&self.events, &self.line);
         };
         self.counts.tried += self.alphabet.len() as u64;
         copy(table, next);
@@ -108,7 +126,9 @@ impl<W: Write> Printer<'_, W> {
                 self.line.extend_from_slice(b", ");
             }
             self.line.extend_from_slice(words.as_bytes());
+            self.events.push(*event);
             self.go_on(next, room)?;
+            self.events.pop();
             self.line.truncate(so_far);
             copy(table, next);
         }

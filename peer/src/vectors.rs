@@ -56,7 +56,8 @@ pub fn read_lists(directory: &Path) -> Result<Vec<ListCase>, String> {
 pub struct Sum {
     pub n: u8,
     pub length: u8,
-    pub lists: u64,
+    /// How many lists, or states in T-12.
+    pub count: u64,
     pub bytes: u64,
     pub sha256: String,
 }
@@ -65,8 +66,8 @@ pub struct Sum {
 pub fn read_sums(text: &str) -> Result<Vec<Sum>, String> {
     let sum = |line: &str| {
         let w = &mut line.split_whitespace();
-        let (n, length, lists, bytes) = (number(w)?, number(w)?, number(w)?, number(w)?);
-        let sum = Sum { n, length, lists, bytes, sha256: w.next()?.to_string() };
+        let (n, length, count, bytes) = (number(w)?, number(w)?, number(w)?, number(w)?);
+        let sum = Sum { n, length, count, bytes, sha256: w.next()?.to_string() };
         w.next().is_none().then_some(sum)
     };
     let lines = text.lines().skip(1);

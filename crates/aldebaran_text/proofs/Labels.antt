@@ -4,10 +4,12 @@ use native.Mathlib.Omega.{arith}
 use mathlib.Core.Path.{_≡_, refl, sym, _∙_, ap}
 use mathlib.Core.List.{List, [], _∷_, _++_, append-nil, map}
 use lib.ListN.{length, length-append}
-use Rattle.model.specs.Pick.{pick}
+use borrow.Author.Tests.{lt-leb}
+use Rattle.model.specs.Pick.{pick, pick-false}
 use Rattle.model.specs.declared.TaskNo.{TaskNo}
 use Rattle.model.specs.declared.Event.{Event}
 use Rattle.model.specs.declared.Event.the-variants.{Crash, Recover, Check, Timeout, Tick, Expire, Finish, Deliver, Lose}
+use Rattle.model.proofs.Lists.{map-append}
 use Rattle.listing.specs.Ascii.{bytes}
 use Rattle.listing.specs.Decimal.{decimal}
 use Rattle.listing.proofs.Parted.{Each, each-append, each-map, parted}
@@ -53,15 +55,33 @@ Quotable b = (b ≡ 34 → ⊥) × (b ≡ 10 → ⊥)
 spaced-quotable : (xs : List ℕ) → Each Quotable (spaced xs)
 unfolding spaced
 spaced-quotable [] = tt
-spaced-quotable (x ∷ xs) =
-    ((λ q. omega arith, λ q. omega arith),
-    each-append Quotable (decimal x) (spaced xs) (each-map Digit Quotable (λ b d. (λ q. omega arith, λ q. omega arith)) (decimal x) (decimal-digits x)) (spaced-quotable xs))
+spaced-quotable (x ∷ xs) = (
+  (λ q. omega arith, λ q. omega arith),
+  each-append Quotable (decimal x) (spaced xs) (each-map Digit Quotable (λ b d. (λ q. omega arith, λ q. omega arith)) (decimal x) (decimal-digits x)) (spaced-quotable xs),
+)
 
 pub label-quotable : (e : Event) → Each Quotable (label e)
 unfolding label
 label-quotable e =
     each-append Quotable (map capital (nameOf e)) (spaced (numbersOf e))
     (each-map Capital Quotable (λ b c. (λ q. omega arith, λ q. omega arith)) (map capital (nameOf e)) (name-capitals e)) (spaced-quotable (numbersOf e))
+
+-- ── the event's text in capitals ──
+
+-- digits and spaces have none
+low-same : (l : List ℕ) → Each (λ b. b < 97) l → map capital l ≡ l
+unfolding capital
+low-same [] h = refl
+low-same (b ∷ l) h = let k = h .0 in rw (lt-leb 97 b k, pick-false, low-same l (h .1))
+
+spaced-low : (xs : List ℕ) → Each (λ b. b < 97) (spaced xs)
+unfolding spaced
+spaced-low [] = tt
+spaced-low (x ∷ xs) = (omega arith, each-append (λ b. b < 97) (decimal x) (spaced xs) (each-map Digit (λ b. b < 97) (λ b d. omega arith) (decimal x) (decimal-digits x)) (spaced-low xs))
+
+pub text-raised : (e : Event) → map capital (eventText e) ≡ label e
+unfolding eventText label
+text-raised e = map-append capital (nameOf e) (spaced (numbersOf e)) ∙ ap (λ (l : List ℕ). map capital (nameOf e) ++ l) (low-same (spaced (numbersOf e)) (spaced-low (numbersOf e)))
 
 -- ── its event ──
 

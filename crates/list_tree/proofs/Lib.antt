@@ -4,3 +4,6 @@ pub mod Tables
 pub mod Accepted
 pub mod Turns
 pub mod Grown
+pub mod Raised
+pub mod Texts
+pub mod Whole

@@ -51,7 +51,7 @@ by-edge ls (x ∷ xs) (suc k) h f =
 -- ── of a tree ──
 
 module _ (t : Tree) (ok : Sound t) where
-  edges-long : length (edgesIn t) ≡ t .count
+  pub edges-long : length (edgesIn t) ≡ t .count
   edges-long = let a = ok .space in let b = ok .within in length-take-le (t .count) (t .edges) (omega arith)
 
   pub lists-long : length (listsIn t) ≡ t .count + 1

@@ -1,7 +1,7 @@
 -- What a tree of states means: the lists of its states; how it grows by one event; and its transitions.
-use Prim.Native.Nat.{ℕ, suc, _≤_, _<_}
+use Prim.Native.Nat.{ℕ, suc, _+_, _≤_, _<_}
 use mathlib.Core.Path.{_≡_}
-use mathlib.Core.List.{List, [], _∷_, _++_}
+use mathlib.Core.List.{List, [], _∷_, _++_, map}
 use lib.ListN.{length, take, getD}
 use Rattle.model.specs.State.{State}
 use Rattle.model.specs.Step.{Result, refused, accepted, step, runFrom}
@@ -10,6 +10,7 @@ use Rattle.model.specs.declared.Event.the-variants.{Crash}
 use Rattle.short_lists_text.specs.Rows.{concatMap}
 use Rattle.short_lists_text.specs.Lists.{alphabet}
 use Rattle.aldebaran_text.specs.System.{Transition}
+use Rattle.aldebaran_text.specs.Text.{firstLine, transitionLine}
 use Rattle.list_tree.specs.declared.tree.Edge.{Edge}
 use Rattle.list_tree.specs.declared.tree.Tree.{Tree}
 
@@ -71,7 +72,14 @@ pub record Grew (t : Tree) (more : List (List Event)) (r : Tree) : Type 0 where
 
 -- ── its transitions ──
 
+abbrev pub transition : ℕ → Event → ℕ → Transition
+transition a e b = record { source = a; event = e; target = b }
+
 -- edges as transitions, of which the first leads into the state b
 unfoldable pub transitionsBy : ℕ → List Edge → List Transition
 transitionsBy b [] = []
-transitionsBy b (x ∷ xs) = record { source = x .source; event = x .event; target = b } ∷ transitionsBy (suc b) xs
+transitionsBy b (x ∷ xs) = transition (x .source) (x .event) b ∷ transitionsBy (suc b) xs
+
+-- its text's lines
+abbrev pub treeLines : Tree → List (List ℕ)
+treeLines t = firstLine (t .count) (t .count + 1) ∷ map transitionLine (transitionsBy 1 (edgesIn t))

@@ -1,5 +1,8 @@
 //! All tests of the peer as one program: it is linked once, and its tests run side by side.
 
+mod aldebaran;
+mod aldebaran_wrong;
+mod aut;
 mod boundary;
 mod bully;
 mod bully_boundary;
@@ -8,6 +11,7 @@ mod bully_example;
 mod bully_wrong;
 mod calls;
 mod cases;
+mod check_aldebaran;
 mod check_short_lists;
 mod checks;
 mod common;
@@ -26,6 +30,7 @@ mod majority;
 mod met_corners;
 mod other_forms;
 mod printing;
+mod programs;
 mod proved;
 mod recovery;
 mod round;
@@ -37,5 +42,6 @@ mod short;
 mod shortest;
 mod traffic;
 mod tuned;
+mod two_bytes;
 mod vectors;
 mod wrong_libraries;

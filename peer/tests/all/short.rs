@@ -1,16 +1,15 @@
 //! T-01's lists: their order, that they are the lists that the machine accepts and no others, the vectors'
 //! counts and texts, the inputs that are refused, and the program where it can't read or write.
 
+use crate::programs::{cannot_read, cannot_write, nobody_reads, prints_texts};
 use peer::list::write_event;
 use peer::machine::{step, Event, Table, TOWER};
 use peer::sha256::sha256;
-use peer::short::{alphabet, print, print_lists, read_input, Counts, REFUSAL};
+use peer::short::{self, alphabet, print, print_lists, read_input, Counts, REFUSAL};
+use peer::two_bytes::SHORT_LISTS;
 use peer::vectors::{read_hex, read_sums, read_wrong_inputs, table_text, write_hex};
 use std::collections::BTreeMap;
-use std::fs::File;
-use std::io::Write;
 use std::path::PathBuf;
-use std::process::{Command, Output, Stdio};
 
 fn text(n: u8, length: u8) -> String {
     let mut text = Vec::new();
@@ -90,6 +89,15 @@ fn events_in_order() {
         let events = alphabet(n);
         assert_eq!(events.len(), usize::from(7 * n + 2 * n * (n - 1)));
         assert!(events.is_sorted_by(|a, b| tag_and_contents(a) < tag_and_contents(b)));
+    }
+}
+
+#[test]
+fn lists_as_events() {
+    for n in 1..=3 {
+        for length in 0..=5 {
+            assert_eq!(short::lists(n, length), lists(n, length));
+        }
     }
 }
 
@@ -216,7 +224,7 @@ fn sums_of_the_vectors() {
     assert_eq!(sums.len(), 24);
     for sum in sums.iter().filter(|sum| sum.length <= 6) {
         let text = text(sum.n, sum.length);
-        assert_eq!(text.lines().count() as u64, sum.lists + 1);
+        assert_eq!(text.lines().count() as u64, sum.count + 1);
         assert_eq!(text.len() as u64, sum.bytes);
         assert_eq!(sha256(text.as_bytes()), sum.sha256);
     }
@@ -287,54 +295,23 @@ fn bytes_in_hex() {
     }
 }
 
-fn program() -> Command {
-    let mut command = Command::new(env!("CARGO_BIN_EXE_short-lists"));
-    command.stdin(Stdio::piped()).stdout(Stdio::piped()).stderr(Stdio::piped());
-    command
-}
-
-/// Runs the program on an input.
-fn run(command: &mut Command, input: &[u8]) -> Output {
-    let mut child = command.spawn().unwrap();
-    child.stdin.take().unwrap().write_all(input).unwrap();
-    child.wait_with_output().unwrap()
-}
-
-/// Whether the program failed and said so in one line that begins with these words.
-fn complains(output: &Output, words: &str) -> bool {
-    let told = String::from_utf8_lossy(&output.stderr);
-    !output.status.success() && told.starts_with(words) && told.lines().count() == 1
-}
+const PROGRAM: &str = env!("CARGO_BIN_EXE_short-lists");
 
 #[test]
 fn the_program_prints_the_text() {
-    for input in [&[2, 5][..], &[3, 0], &[3, 6], &[], &[1], &[0, 0], &[4, 1], &[1, 8], &[3, 7, 10]]
-    {
-        let mut text = Vec::new();
-        print(input, &mut text).unwrap();
-        let output = run(&mut program(), input);
-        assert!(output.status.success() && output.stderr.is_empty());
-        assert!(output.stdout == text, "{input:?}");
-    }
+    let inputs: [&[u8]; 9] =
+        [&[2, 5], &[3, 0], &[3, 6], &[], &[1], &[0, 0], &[4, 1], &[1, 8], &[3, 7, 10]];
+    prints_texts(PROGRAM, &SHORT_LISTS, &inputs);
 }
 
 #[test]
 fn input_that_cannot_be_read() {
-    let output = program().stdin(File::open("/").unwrap()).output().unwrap();
-    assert!(output.stdout.is_empty() && complains(&output, "standard input: "));
+    cannot_read(PROGRAM);
 }
 
+/// A text that is written at the end alone, and one that is not.
 #[test]
 fn text_that_cannot_be_written() {
-    let mut child = program().spawn().unwrap();
-    drop(child.stdout.take());
-    child.stdin.take().unwrap().write_all(&[3, 7]).unwrap();
-    assert!(complains(&child.wait_with_output().unwrap(), "standard output: "));
-    if let Ok(full) = File::options().write(true).open("/dev/full") {
-        // A text that is written at the end alone, and one that is not.
-        for input in [[1, 0], [3, 7]] {
-            let output = run(program().stdout(full.try_clone().unwrap()), &input);
-            assert!(complains(&output, "standard output: "));
-        }
-    }
+    cannot_write(PROGRAM, &[[1, 0], [3, 7]]);
+    nobody_reads(PROGRAM, [3, 7]);
 }

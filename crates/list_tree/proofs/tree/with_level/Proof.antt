@@ -35,9 +35,11 @@ with-next-requires c κs =
     let s = c .before .before in
     let t = s .args .t in
     let g = l .inv .2 in
-    let r = level-room (start (t .n) tower) t (s .pre .0) (s .args .first) (s .args .end) (l .a) (l .inv .0) (c .loop-test .taken) (s .pre .2) g (s .pre .3) in
-    (g .sound, still-in (start (t .n) tower) t (s .pre .0) (s .args .first) (s .args .end) (l .a) (l .inv .0) (c .loop-test .taken) (s .pre .2) g,
-    subst (λ n. length (listsIn (l .next) ++ nextOf (start n tower) (getD (listsIn (l .next)) (l .a) [])) ≤ 601) (sym (g .same)) r)
+    let r = level-room (start (t .n) tower) t (s .pre .0) (s .args .first) (s .args .end) (l .a) (l .inv .0) (c .loop-test .taken) (s .pre .2) g (s .pre .3) in (
+      g .sound,
+      still-in (start (t .n) tower) t (s .pre .0) (s .args .first) (s .args .end) (l .a) (l .inv .0) (c .loop-test .taken) (s .pre .2) g,
+      subst (λ n. length (listsIn (l .next) ++ nextOf (start n tower) (getD (listsIn (l .next)) (l .a) [])) ≤ 601) (sym (g .same)) r,
+    )
 
 loop-again : tie.Need-loop-again Inv-loop μ-loop
 loop-again c =
@@ -46,9 +48,11 @@ loop-again c =
     let t = s .args .t in
     let g = l .inv .2 in
     let f = l .inv .0 in
-    let x = subst (λ n. Grew (l .next) (nextOf (start n tower) (getD (listsIn (l .next)) (l .a) [])) (c .with-next .result)) (g .same) (c .with-next .ensures) in
-    (omega (arith, f), omega (arith, c .before .loop-test .taken),
-    level-on (start (t .n) tower) t (s .pre .0) (s .args .first) (s .args .end) (l .a) (l .inv .0) (c .before .loop-test .taken) (s .pre .2) g x)
+    let x = subst (λ n. Grew (l .next) (nextOf (start n tower) (getD (listsIn (l .next)) (l .a) [])) (c .with-next .result)) (g .same) (c .with-next .ensures) in (
+      omega (arith, f),
+      omega (arith, c .before .loop-test .taken),
+      level-on (start (t .n) tower) t (s .pre .0) (s .args .first) (s .args .end) (l .a) (l .inv .0) (c .before .loop-test .taken) (s .pre .2) g x,
+    )
 
 returns : tie.Need-returns Inv-loop μ-loop
 returns c =
