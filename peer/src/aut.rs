@@ -1,7 +1,7 @@
 //! A strict reader of labelled transition systems in the Aldebaran form (.aut files), to test that a
-//! printed text is one that other tools read. It is written from the format's rules, those of the
-//! manuals of CADP (`aut`, `bcg_io`), mCRL2 (`ltsinfo`, `ltsconvert`) and LTSmin, and not from any
-//! printer. Where the tools differ, it takes only what all of them take:
+//! printed text is one that other tools read. It is written from the form's rules, as CADP (`bcg_io`),
+//! mCRL2 (`ltsinfo`) and LTSmin are known to have them, and not from any printer; the tools and their
+//! manuals were not at hand. Where the tools differ, it takes only what all of them take:
 //!
 //! - lines of printable ASCII, each ended by a newline;
 //! - first the descriptor `des (0, TRANSITIONS, STATES)`, then as many edges `(FROM, "LABEL", TO)` as it

@@ -23,10 +23,14 @@ aldebaran-cases =
     record {
       none = refl;
       none-of-three = refl;
+      one-of-one = refl;
       one = refl;
       three-of-one = refl;
       two-of-two = refl;
       three-of-two = refl;
+      four-of-one = refl;
+      first-line = refl;
+      line = refl;
       crash = refl;
       recover = refl;
       check = refl;

@@ -100,9 +100,9 @@ name-back (Finish i t) = refl
 name-back (Deliver a b) = refl
 name-back (Lose a b) = refl
 
-pub label-tells : (e f : Event) → SmallNumbers e → SmallNumbers f → label e ≡ label f → e ≡ f
+pub label-distinct : (e f : Event) → SmallNumbers e → SmallNumbers f → label e ≡ label f → e ≡ f
 unfolding label eventText
-label-tells e f g h q =
+label-distinct e f g h q =
     let no : (Capital 32 → ⊥) = λ d. omega arith in
     let r = parted Capital (map capital (nameOf e)) (map capital (nameOf f)) (name-capitals e) (name-capitals f) (spaced-stops Capital no (numbersOf e)) (spaced-stops Capital no (numbersOf f)) q in
     let n : nameOf e ≡ nameOf f = sym (name-back e) ∙ (ap small (r .0) ∙ name-back f) in
@@ -152,5 +152,5 @@ label-is = record {
   deliver = λ a b. ap (λ (l : List ℕ). bytes "DELIVER" ++ l) (two-numbers a b);
   lose = λ a b. ap (λ (l : List ℕ). bytes "LOSE" ++ l) (two-numbers a b);
   quotable = λ e. all-of-each Quotable (label e) (label-quotable e);
-  tells = label-tells;
+  distinct = label-distinct;
 }

@@ -115,5 +115,5 @@ all-states m s = record {
   number = λ b h. number-at StateBefore never-itself (states m s) (states-ascend m s) b h;
   some = some-state m s;
   first = first-empty m s;
-  longer = more-behind m s;
+  next-length = more-behind m s;
 }

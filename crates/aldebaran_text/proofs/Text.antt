@@ -22,13 +22,14 @@ use Rattle.short_lists_text.specs.Lists.{upFrom, listsFrom, isAccepted}
 use Rattle.short_lists_text.specs.Claims.{FitsBytes, SmallNumbers}
 use Rattle.short_lists_text.proofs.Refuses.{not-two, no-nodes, too-many, too-long, allowed, fits-are, first-three}
 use Rattle.short_lists_text.proofs.Bytes.{accepted-fits}
-use Rattle.short_lists_text.proofs.Lines.{Digit, decimal-digits, fits-small}
-use Rattle.aldebaran_text.specs.System.{states, Transition, transitions}
-use Rattle.aldebaran_text.specs.Text.{label, firstLine, transitionLine, linesOf, fits, refusalText, textOf}
-use Rattle.aldebaran_text.specs.Claims.{transitionAt, Small, TextIs, TextTells, TextFits, Refuses}
+use Rattle.short_lists_text.proofs.Lines.{Digit, decimal-digits, fits-small, all-of-each}
+use Rattle.short_lists_text.proofs.Rows.{all-weaken}
+use Rattle.aldebaran_text.specs.System.{states, Transition, transition, transitions}
+use Rattle.aldebaran_text.specs.Text.{label, firstLine, transitionLine, statesOf, linesOf, fits, refusalText, textOf}
+use Rattle.aldebaran_text.specs.Claims.{transitionAt, IsFirstLine, IsLineOf, OneLine, Small, SystemText, TransitionLinesDetermine, TextLength, RefusedInputs}
 use Rattle.aldebaran_text.proofs.Numbers.{at-place}
 use Rattle.aldebaran_text.proofs.Transitions.{all-transitions}
-use Rattle.aldebaran_text.proofs.Labels.{Quotable, label-quotable, label-tells, label-short}
+use Rattle.aldebaran_text.proofs.Labels.{Quotable, label-quotable, label-distinct, label-short}
 use Rattle.aldebaran_text.proofs.Cases.{aldebaran-cases}
 
 -- ── how many states ──
@@ -57,10 +58,6 @@ few n m p q h = let a = up-to-four m (start n tower) h in let b = of-four n p q 
 pub text-lines : (n m : ℕ) → 1 ≤ n → n ≤ 3 → m ≤ 4 → textOf (n ∷ m ∷ []) ≡ joined (linesOf (states m (start n tower)))
 unfolding textOf
 text-lines n m p q h = rw (allowed 4 n m p q h, pick-true)
-
-pub text-is : TextIs
-unfolding joined
-text-is = record { lines = text-lines; few = few; in-full = λ x h. decimal-denotes x (omega arith) }
 
 -- ── its transitions ──
 
@@ -138,6 +135,13 @@ stopped = refl
 refusal-short : length refusalText ≤ 32768
 refusal-short = rw stopped (omega arith)
 
+refusal-some : 1 ≤ length refusalText
+refusal-some = rw stopped (omega arith)
+
+lines-some : (ls : List (List Event)) → 1 ≤ length (joined (linesOf ls))
+unfolding joined firstLine
+lines-some ls = omega arith
+
 most : (l : List ℕ) → length (textOf l) ≤ 32768
 unfolding textOf
 most l = by (fits l) refl
@@ -146,8 +150,8 @@ most l = by (fits l) refl
     by true q = let f = fits-are 4 l q in rw (q, pick-true) (allowed-short (getD l 0 0) (getD l 1 0) (f .0) (f .1) (f .2))
     by false q = rw (q, pick-false) refusal-short
 
-pub text-fits : TextFits
-text-fits = record { most = most }
+pub text-length : TextLength
+text-length = record { most = most }
 
 -- ── what is refused ──
 
@@ -159,14 +163,23 @@ same-text : (l : List ℕ) → textOf (take 3 l) ≡ textOf l
 unfolding textOf
 same-text l = first-three 4 (λ n m. joined (linesOf (states m (start n tower)))) refusalText l
 
-pub refuses : Refuses
-refuses = record {
+pub refused-inputs : RefusedInputs
+refused-inputs = record {
   not-two = λ l d. by-fits l (not-two 4 l d);
   no-nodes = λ m. by-fits (0 ∷ m ∷ []) (no-nodes 4 m);
   too-many = λ n m h. by-fits (n ∷ m ∷ []) (too-many 4 n m h);
   too-long = λ n m h. by-fits (n ∷ m ∷ []) (too-long 4 n m h);
   first-three = same-text;
 }
+
+-- no text is empty
+pub text-some : (l : List ℕ) → 1 ≤ length (textOf l)
+unfolding textOf
+text-some l = by (fits l) refl
+  where
+    by : (t : Bool) → fits l ≡ t → 1 ≤ length (pick (fits l) (joined (linesOf (states (getD l 1 0) (start (getD l 0 0) tower)))) refusalText)
+    by true q = rw (q, pick-true) (lines-some (states (getD l 1 0) (start (getD l 0 0) tower)))
+    by false q = rw (q, pick-false) refusal-some
 
 -- ── what it tells ──
 
@@ -176,11 +189,11 @@ number-tells x y u v g h a b q =
     let r = parted Digit (decimal x) (decimal y) (decimal-digits x) (decimal-digits y) a b q in
     (decimal-same x y (omega arith) (omega arith) (r .0), r .1)
 
-abbrev made : ℕ → Event → ℕ → Transition
-made a e b = record { source = a; event = e; target = b }
-
 three-off : {a b c : ℕ} {u v : List ℕ} → a ∷ b ∷ c ∷ u ≡ a ∷ b ∷ c ∷ v → u ≡ v
 three-off q = tail-eq-of-cons-eq (tail-eq-of-cons-eq (tail-eq-of-cons-eq q))
+
+eight-off : {a b c d e f g h : ℕ} {u v : List ℕ} → a ∷ b ∷ c ∷ d ∷ e ∷ f ∷ g ∷ h ∷ u ≡ a ∷ b ∷ c ∷ d ∷ e ∷ f ∷ g ∷ h ∷ v → u ≡ v
+eight-off q = tail-eq-of-cons-eq (tail-eq-of-cons-eq (three-off (three-off q)))
 
 line-tells : (x y : Transition) → Small x → Small y → transitionLine x ≡ transitionLine y → x ≡ y
 unfolding transitionLine
@@ -188,10 +201,10 @@ line-tells x y f g q =
     let a = number-tells (x .source) (y .source) _ _ (f .source) (g .source) (λ d. omega arith) (λ d. omega arith) (tail-eq-of-cons-eq q) in
     let b = parted Quotable (label (x .event)) (label (y .event)) (label-quotable (x .event)) (label-quotable (y .event)) (λ d. d .0 refl) (λ d. d .0 refl) (three-off (a .1)) in
     let c = number-tells (x .target) (y .target) _ _ (f .target) (g .target) (λ d. omega arith) (λ d. omega arith) (three-off (b .1)) in
-    same x y (a .0) (label-tells (x .event) (y .event) (f .event) (g .event) (b .0)) (c .0)
+    same x y (a .0) (label-distinct (x .event) (y .event) (f .event) (g .event) (b .0)) (c .0)
   where
     same : (x y : Transition) → x .source ≡ y .source → x .event ≡ y .event → x .target ≡ y .target → x ≡ y
-    same x y p q r = ap (λ a. made a (x .event) (x .target)) p ∙ (ap (λ e. made (y .source) e (x .target)) q ∙ ap (λ b. made (y .source) (y .event) b) r)
+    same x y p q r = ap (λ a. transition a (x .event) (x .target)) p ∙ (ap (λ e. transition (y .source) e (x .target)) q ∙ ap (λ b. transition (y .source) (y .event) b) r)
 
 pub is-line : (x : Transition) → IsLine (transitionLine x)
 unfolding transitionLine
@@ -218,9 +231,67 @@ lines-tell (x ∷ xs) (y ∷ ys) a b q =
     let t = lines-tell xs ys (a .1) (b .1) (tail-eq-of-cons-eq q) in
     rw (h, t)
 
-pub text-tells : TextTells
-text-tells = record {
+-- ── its lines, and what they tell ──
+
+is-first : (t s : ℕ) → t < 2 ^ 32 → s < 2 ^ 32 → IsFirstLine t s (firstLine t s)
+unfolding firstLine
+is-first t s g h = record { transitions = decimal t; states = decimal s; denotes-t = decimal-denotes t (omega arith); denotes-s = decimal-denotes s (omega arith); whole = refl }
+
+is-line-of : (x : Transition) → Small x → IsLineOf x (transitionLine x)
+unfolding transitionLine
+is-line-of x f =
+    let a = f .source in
+    let b = f .target in
+    record { source = decimal (x .source); target = decimal (x .target); denotes-a = decimal-denotes (x .source) (omega arith); denotes-b = decimal-denotes (x .target) (omega arith); whole = refl }
+
+all-small : (n m : ℕ) → 1 ≤ n → n ≤ 3 → m ≤ 4 → All Small (transitions (states m (start n tower)))
+all-small n m p q h = all-weak (transitions (states m (start n tower))) (transitions-fit n m p q h)
+
+first-is : (n m : ℕ) → 1 ≤ n → n ≤ 3 → m ≤ 4 → IsFirstLine (length (transitions (statesOf n m))) (length (statesOf n m)) (firstLine (length (transitions (statesOf n m))) (length (statesOf n m)))
+first-is n m p q h =
+    let c = all-transitions m (start n tower) .count in
+    let f = few n m p q h in
+    is-first _ _ (omega arith) (omega arith)
+
+pub system-text : SystemText
+unfolding joined
+system-text = record {
+  lines = text-lines;
+  first = first-is;
+  each = λ n m p q h. all-weaken Small (λ x. IsLineOf x (transitionLine x)) (transitions (statesOf n m)) is-line-of (all-small n m p q h);
+  few = few;
+  small = all-small;
+}
+
+first-line-is : (t s : ℕ) → IsLine (firstLine t s)
+unfolding firstLine
+first-line-is t s =
+    let digit : (n : ℕ) → Each Inside (decimal n) = λ n. each-map Digit Inside (λ b d q. omega arith) (decimal n) (decimal-digits n) in
+    line-after (bytes "des (0, ") _ (omega arith)
+    (line-after (decimal t) _ (digit t) (line-after (bytes ", ") _ (omega arith) (line-after (decimal s) _ (digit s) (record { body = bytes ")"; ends = refl; inside = omega arith }))))
+
+one-line : {l : List ℕ} → IsLine l → OneLine l
+one-line x = record { body = x .body; ends = x .ends; inside = all-of-each Inside (x .body) (x .inside) }
+
+first-tells : (t s u v : ℕ) → t < 2 ^ 32 → s < 2 ^ 32 → u < 2 ^ 32 → v < 2 ^ 32 → firstLine t s ≡ firstLine u v → (t ≡ u) × (s ≡ v)
+unfolding firstLine
+first-tells t s u v a b c d q =
+    let x = number-tells t u _ _ a c (λ e. omega arith) (λ e. omega arith) (eight-off q) in
+    let y = number-tells s v _ _ b d (λ e. omega arith) (λ e. omega arith) (tail-eq-of-cons-eq (tail-eq-of-cons-eq (x .1))) in
+    (x .0, y .0)
+
+text-tells : (t s u v : ℕ) (xs ys : List Transition) → t < 2 ^ 32 → s < 2 ^ 32 → u < 2 ^ 32 → v < 2 ^ 32 → All Small xs → All Small ys
+    → firstLine t s ++ joined (map transitionLine xs) ≡ firstLine u v ++ joined (map transitionLine ys) → (t ≡ u) × (s ≡ v) × (xs ≡ ys)
+unfolding joined
+text-tells t s u v xs ys a b c d e f q =
+    let r = joined-same (firstLine t s ∷ map transitionLine xs) (firstLine u v ∷ map transitionLine ys) (first-line-is t s, are-lines xs) (first-line-is u v, are-lines ys) q in
+    let h = first-tells t s u v a b c d (head-eq-of-cons-eq r) in
+    (h .0, h .1, lines-tell xs ys e f (tail-eq-of-cons-eq r))
+
+pub transition-lines-determine : TransitionLinesDetermine
+transition-lines-determine = record {
+  one-line = λ x. one-line (is-line x);
+  first-one-line = λ t s. one-line (first-line-is t s);
   line = line-tells;
-  text = λ xs ys a b q. lines-tell xs ys a b (joined-same (map transitionLine xs) (map transitionLine ys) (are-lines xs) (are-lines ys) q);
-  small = λ n m p q h. all-weak (transitions (states m (start n tower))) (transitions-fit n m p q h);
+  text = text-tells;
 }

@@ -147,18 +147,18 @@ module _ (m : ℕ) (s : State) where
         let h = all-states m s .only here (at-place [] all b within) .1 in
         number-of all (withoutLast here) (all-states m s .complete (length (withoutLast here)) (withoutLast here) (omega (arith, h, prefix-long)) prefix)
 
-    longer : here ≡ listOf m s (numberIn all (withoutLast here)) ++ (lastOf here ∷ [])
-    longer = is-parted ∙ ap (λ l. l ++ (lastOf here ∷ [])) (sym (found .1))
+    one-more : here ≡ listOf m s (numberIn all (withoutLast here)) ++ (lastOf here ∷ [])
+    one-more = is-parted ∙ ap (λ l. l ++ (lastOf here ∷ [])) (sym (found .1))
 
     pub into-state : IsTransition m s b (transitionInto all b here)
     into-state = record {
       target = refl;
       smaller = earlier (numberIn all (withoutLast here)) b (found .0) within (let e = ap length (found .1) in omega (arith, e, prefix-long));
-      longer = longer;
+      one-more = one-more;
       shorter = found .1;
       last = refl;
-      accepts = accepts-at s (listOf m s (numberIn all (withoutLast here))) (lastOf here) [] (subst (AcceptedFrom s) longer (is-legal .taken));
-      leads = sym (ap (runFrom s) longer ∙ run-one s (listOf m s (numberIn all (withoutLast here))) (lastOf here));
+      accepts = accepts-at s (listOf m s (numberIn all (withoutLast here))) (lastOf here) [] (subst (AcceptedFrom s) one-more (is-legal .taken));
+      table-after = sym (ap (runFrom s) one-more ∙ run-one s (listOf m s (numberIn all (withoutLast here))) (lastOf here));
     }
 
   -- ── and by their places ──
@@ -202,7 +202,7 @@ module _ (m : ℕ) (s : State) where
   once : (j k : ℕ) → j < length (transitions all) → k < length (transitions all) → transitionAt m s j .source ≡ transitionAt m s k .source → transitionAt m s j .event ≡ transitionAt m s k .event → j ≡ k
   once j k g h p q =
       let e : listOf m s (j + 1) ≡ listOf m s (k + 1) =
-      each j g .longer ∙ (ap (λ a. listOf m s a ++ (transitionAt m s j .event ∷ [])) p ∙ (ap (λ x. listOf m s (transitionAt m s k .source) ++ (x ∷ [])) q ∙ sym (each k h .longer)))
+      each j g .one-more ∙ (ap (λ a. listOf m s a ++ (transitionAt m s j .event ∷ [])) p ∙ (ap (λ x. listOf m s (transitionAt m s k .source) ++ (x ∷ [])) q ∙ sym (each k h .one-more)))
       in
       let z = same-place (j + 1) (k + 1) (omega (arith, g, long)) (omega (arith, h, long)) e in
       omega arith

@@ -4,28 +4,27 @@ use mathlib.Core.Bool.{true}
 use mathlib.Core.Path.{_≡_}
 use mathlib.Core.List.{List, [], _∷_, _++_, map}
 use lib.ListN.{length}
-use Rattle.model.specs.Limits.{tower}
-use Rattle.model.specs.State.{start}
 use Rattle.model.specs.declared.Event.the-variants.{Crash, Recover, Check, Timeout, Tick, Expire, Finish, Deliver, Lose}
 use Rattle.listing.specs.Ascii.{bytes}
 use Rattle.short_lists_text.specs.Lists.{onlyTask, upFrom}
-use Rattle.aldebaran_text.specs.System.{states}
-use Rattle.aldebaran_text.specs.Text.{label, fits, textOf}
+use Rattle.aldebaran_text.specs.System.{transition}
+use Rattle.aldebaran_text.specs.Text.{label, firstLine, transitionLine, statesOf, fits, textOf}
 
 -- L from 0 to 4
 abbrev pub lengths : List ℕ
 lengths = upFrom 0 5
 
--- how many states the system of n nodes has, for each L
+-- how many states there are for n nodes, for each L
 abbrev pub stateCounts : ℕ → List ℕ
-stateCounts n = map (λ m. length (states m (start n tower))) lengths
+stateCounts n = map (λ m. length (statesOf n m)) lengths
 
 pub record AldebaranCases : Type 0 where
   -- the list of no events is the one state, and there is no transition
   pub none : textOf (1 ∷ 0 ∷ []) ≡ bytes "des (0, 0, 1)\n"
   pub none-of-three : textOf (3 ∷ 0 ∷ []) ≡ bytes "des (0, 0, 1)\n"
+  pub one-of-one : textOf (1 ∷ 1 ∷ []) ≡ bytes "des (0, 1, 2)\n(0, \"RECOVER 1\", 1)\n"
   pub one : textOf (3 ∷ 1 ∷ []) ≡ bytes "des (0, 3, 4)\n(0, \"RECOVER 1\", 1)\n(0, \"RECOVER 2\", 2)\n(0, \"RECOVER 3\", 3)\n"
-  -- from the third length on the numbering by length can be told from one list behind the other: the state 5 comes behind all lists of two events
+  -- with one node this is the first L at which numbers by length differ from those of a depth-first order: 5 is `recover 1, crash 1, recover 1`, behind all lists of two events
   pub three-of-one : textOf (1 ∷ 3 ∷ []) ≡
       bytes "des (0, 11, 12)\n(0, \"RECOVER 1\", 1)\n(1, \"CRASH 1\", 2)\n(1, \"CHECK 1\", 3)\n(1, \"TIMEOUT 1\", 4)\n"
       ++ (bytes "(2, \"RECOVER 1\", 5)\n(3, \"CRASH 1\", 6)\n(3, \"CHECK 1\", 7)\n(3, \"TIMEOUT 1\", 8)\n"
@@ -47,6 +46,18 @@ pub record AldebaranCases : Type 0 where
       ++ (bytes "(8, \"CRASH 1\", 29)\n(8, \"CRASH 2\", 30)\n(8, \"CHECK 1\", 31)\n(8, \"CHECK 2\", 32)\n(8, \"TIMEOUT 1\", 33)\n(8, \"TIMEOUT 2\", 34)\n"
       ++ (bytes "(9, \"CRASH 2\", 35)\n(9, \"RECOVER 1\", 36)\n(9, \"EXPIRE 2\", 37)\n(9, \"LOSE 2 1\", 38)\n"
       ++ bytes "(10, \"CRASH 2\", 39)\n(10, \"RECOVER 1\", 40)\n(10, \"CHECK 2\", 41)\n(10, \"TIMEOUT 2\", 42)\n")))))))))
+  -- L at its end: a list of four events
+  pub four-of-one : textOf (1 ∷ 4 ∷ []) ≡
+      bytes "des (0, 28, 29)\n(0, \"RECOVER 1\", 1)\n(1, \"CRASH 1\", 2)\n(1, \"CHECK 1\", 3)\n(1, \"TIMEOUT 1\", 4)\n"
+      ++ (bytes "(2, \"RECOVER 1\", 5)\n(3, \"CRASH 1\", 6)\n(3, \"CHECK 1\", 7)\n(3, \"TIMEOUT 1\", 8)\n"
+      ++ (bytes "(4, \"CRASH 1\", 9)\n(4, \"CHECK 1\", 10)\n(4, \"TIMEOUT 1\", 11)\n"
+      ++ (bytes "(5, \"CRASH 1\", 12)\n(5, \"CHECK 1\", 13)\n(5, \"TIMEOUT 1\", 14)\n(6, \"RECOVER 1\", 15)\n"
+      ++ (bytes "(7, \"CRASH 1\", 16)\n(7, \"CHECK 1\", 17)\n(7, \"TIMEOUT 1\", 18)\n(8, \"CRASH 1\", 19)\n(8, \"CHECK 1\", 20)\n(8, \"TIMEOUT 1\", 21)\n"
+      ++ (bytes "(9, \"RECOVER 1\", 22)\n(10, \"CRASH 1\", 23)\n(10, \"CHECK 1\", 24)\n(10, \"TIMEOUT 1\", 25)\n"
+      ++ bytes "(11, \"CRASH 1\", 26)\n(11, \"CHECK 1\", 27)\n(11, \"TIMEOUT 1\", 28)\n")))))
+  -- numbers of three digits, as the text for three nodes and L = 4 has them; a tick or a finish is in none of the vectors' texts, four events are too few for them
+  pub first-line : firstLine 600 601 ≡ bytes "des (0, 600, 601)\n"
+  pub line : transitionLine (transition 25 (Deliver 1 2) 140) ≡ bytes "(25, \"DELIVER 1 2\", 140)\n"
   -- "the event's name in capitals and its numbers, parted by single spaces"
   pub crash : label (Crash 1) ≡ bytes "CRASH 1"
   pub recover : label (Recover 2) ≡ bytes "RECOVER 2"
@@ -61,7 +72,7 @@ pub record AldebaranCases : Type 0 where
   pub states-of-one : stateCounts 1 ≡ 1 ∷ 2 ∷ 5 ∷ 12 ∷ 29 ∷ []
   pub states-of-two : stateCounts 2 ≡ 1 ∷ 3 ∷ 11 ∷ 43 ∷ 195 ∷ []
   pub states-of-three : stateCounts 3 ≡ 1 ∷ 4 ∷ 19 ∷ 100 ∷ 601 ∷ []
-  -- 22 is not met at the ends of the ranges, and is met just outside them: `Refuses` has all inputs
+  -- 22 is not met at the ends of the ranges, and is met just outside them: `RefusedInputs` has all inputs
   pub most : fits (3 ∷ 4 ∷ []) ≡ true
   pub least : fits (1 ∷ 0 ∷ []) ≡ true
   pub no-bytes : textOf [] ≡ bytes "stopped 0 22\n"

@@ -1,4 +1,6 @@
--- T-12: the lists of T-01 "up to a length L" as a transition system: its states, their numbers, and its transitions; here from any table.
+-- T-12: the lists of T-01 "up to a length L" as a transition system: its states, their numbers, and its transitions; here from any table s, and L is m.
+-- A state is a list of events, not a table (a table is `State`, of model): lists that lead to the same table are states of their own. From a list of L events no transition leads on,
+-- though the machine may accept more events there. A node is 01's cabinet.
 use Prim.Native.Nat.{ℕ, zero, suc, _-_}
 use mathlib.Core.Bool.{Bool, true, false, _&&_}
 use mathlib.Core.List.{List, [], _∷_, _++_}
@@ -38,7 +40,7 @@ sameList [] (f ∷ fs) = false
 sameList (e ∷ es) [] = false
 sameList (e ∷ es) (f ∷ fs) = sameEvent e f && sameList es fs
 
--- "numbered from 0": how many of the states stand before the one whose list is l
+-- "numbered from 0": how many of the states stand before the one whose list is l; of a list that is none of theirs, how many states there are
 unfoldable pub numberIn : List (List Event) → List Event → ℕ
 numberIn [] l = 0
 numberIn (m ∷ ms) l = pick (sameList m l) 0 (suc (numberIn ms l))
@@ -51,6 +53,9 @@ pub record Transition : Type 0 where
   pub event : Event
   pub target : ℕ
 
+abbrev pub transition : ℕ → Event → ℕ → Transition
+transition a e b = record { source = a; event = e; target = b }
+
 -- a list without its last event, and that event; the list of no events, which has none, is the state 0, into which no transition leads
 abbrev pub withoutLast : List Event → List Event
 withoutLast l = take (length l - 1) l
@@ -60,7 +65,7 @@ lastOf l = getD l (length l - 1) (Crash 0)
 
 -- "b's list is a's with one event more": the transition into b, whose list is l, comes from the state whose list is l without its last event
 abbrev pub transitionInto : List (List Event) → ℕ → List Event → Transition
-transitionInto ls b l = record { source = numberIn ls (withoutLast l); event = lastOf l; target = b }
+transitionInto ls b l = transition (numberIn ls (withoutLast l)) (lastOf l) b
 
 -- the transitions into states with these lists, of which the first has the number b
 unfoldable pub transitionsFrom : List (List Event) → ℕ → List (List Event) → List Transition

@@ -25,7 +25,8 @@ capital b = pick (leb 97 b && leb b 122) (b - 32) b
 unfoldable pub label : Event → List ℕ
 label e = map capital (nameOf e) ++ spaced (numbersOf e)
 
--- "The first line is `des (0, t, s)` with the counts of transitions and states."
+-- "The first line is `des (0, t, s)` with the counts of transitions and states." 02 leaves a line's end and the form of numbers to 01: "numbers have no leading zeros, and 0x0A ends each
+-- line"
 unfoldable pub firstLine : ℕ → ℕ → List ℕ
 firstLine t s = bytes "des (0, " ++ (decimal t ++ (bytes ", " ++ (decimal s ++ bytes ")\n")))
 
@@ -34,6 +35,10 @@ unfoldable pub transitionLine : Transition → List ℕ
 transitionLine x = bytes "(" ++ (decimal (x .source) ++ (bytes ", \"" ++ (label (x .event) ++ (bytes "\", " ++ (decimal (x .target) ++ bytes ")\n")))))
 
 -- ── the text ──
+
+-- the states of lists of up to m events among n nodes, from the tower's starting table (T-08)
+abbrev pub statesOf : ℕ → ℕ → List (List Event)
+statesOf n m = states m (start n tower)
 
 -- the lines of the system whose states have these lists
 abbrev pub linesOf : List (List Event) → List (List ℕ)
@@ -47,6 +52,6 @@ fits l = fitsTo 4 l
 abbrev pub refusalText : List ℕ
 refusalText = stoppedLine 0 22
 
--- all that is printed for the input l: "Print the lists of T-01 up to a length L from 0 to 4" as a transition system; they are the tower's (T-08)
+-- all that is printed for the input l: "Print the lists of T-01 up to a length L from 0 to 4 as one", a transition system
 unfoldable pub textOf : List ℕ → List ℕ
-textOf l = pick (fits l) (joined (linesOf (states (getD l 1 0) (start (getD l 0 0) tower)))) refusalText
+textOf l = pick (fits l) (joined (linesOf (statesOf (getD l 0 0) (getD l 1 0)))) refusalText

@@ -14,23 +14,23 @@ use Rattle.short_lists_text.specs.Lists.{alphabet, continued, listsFrom}
 use Rattle.short_lists_text.proofs.Few.{same-n}
 use Rattle.short_lists_text.proofs.Rows.{same-rows, rows-rows, rows-map, map-rows}
 use Rattle.aldebaran_text.specs.System.{states}
-use Rattle.list_tree.specs.Tree.{oneMore, nextOf}
+use Rattle.list_tree.specs.Tree.{extended, nextOf}
 
 -- an event before a list stays before what comes next to it
-before : (e : Event) (l : List Event) (d : Event) (r : Result) → map (λ k. e ∷ k) (oneMore l d r) ≡ oneMore (e ∷ l) d r
+before : (e : Event) (l : List Event) (d : Event) (r : Result) → map (λ k. e ∷ k) (extended l d r) ≡ extended (e ∷ l) d r
 before e l d (refused x) = refl
 before e l d (accepted u m) = refl
 
 next-behind : (s u : State) (m : Mark) (e : Event) (l : List Event) → step s e ≡ accepted u m → map (λ k. e ∷ k) (nextOf u l) ≡ nextOf s (e ∷ l)
 unfolding nextOf runFrom
 next-behind s u m e l q =
-    map-rows (λ k. e ∷ k) (λ d. oneMore l d (step (runFrom u l) d)) (alphabet (u .n))
+    map-rows (λ k. e ∷ k) (λ d. extended l d (step (runFrom u l) d)) (alphabet (u .n))
     ∙ (same-rows _ _ (λ d. before e l d (step (runFrom u l) d)) (alphabet (u .n))
-    ∙ (ap (λ c. concatMap (λ d. oneMore (e ∷ l) d (step (runFrom u l) d)) (alphabet c)) (same-n s e u m q)
-    ∙ ap (λ v. concatMap (λ d. oneMore (e ∷ l) d (step (runFrom v l) d)) (alphabet (s .n))) (sym (ap (kept s) q))))
+    ∙ (ap (λ c. concatMap (λ d. extended (e ∷ l) d (step (runFrom u l) d)) (alphabet c)) (same-n s e u m q)
+    ∙ ap (λ v. concatMap (λ d. extended (e ∷ l) d (step (runFrom v l) d)) (alphabet (s .n))) (sym (ap (kept s) q))))
 
 -- next to the list of no events
-from-none : (s : State) (e : Event) (r : Result) → continued e r (listsFrom 0) ≡ oneMore [] e r
+from-none : (s : State) (e : Event) (r : Result) → continued e r (listsFrom 0) ≡ extended [] e r
 unfolding listsFrom
 from-none s e (refused x) = refl
 from-none s e (accepted u m) = refl

@@ -3,7 +3,8 @@ pub mod Trees
 pub mod Tables
 pub mod Accepted
 pub mod Turns
-pub mod Grown
-pub mod Raised
+pub mod Complete
+pub mod Capitals
 pub mod Texts
 pub mod Whole
+pub mod Mutants

@@ -9,13 +9,13 @@ use Rattle.model.specs.State.{State}
 use Rattle.model.proofs.Lists.{map-append}
 use Rattle.listing.specs.Printing.{joined, Appended}
 use Rattle.short_lists_text.proofs.Counts.{joined-last}
-use Rattle.aldebaran_text.specs.System.{states, numberIn, Transition, withoutLast, lastOf, transitionInto, transitions}
+use Rattle.aldebaran_text.specs.System.{states, numberIn, Transition, transition, withoutLast, lastOf, transitionInto, transitions}
 use Rattle.aldebaran_text.specs.Text.{transitionLine, linesOf}
 use Rattle.aldebaran_text.proofs.States.{all-states}
 use Rattle.aldebaran_text.proofs.Transitions.{without-last, last-of, transitions-long, transitions-at}
 use Rattle.list_tree.specs.declared.tree.Edge.{Edge}
 use Rattle.list_tree.specs.declared.tree.Tree.{Tree}
-use Rattle.list_tree.specs.Tree.{reached, noEdge, edgesIn, listsIn, Sound, transition, transitionsBy, treeLines}
+use Rattle.list_tree.specs.Tree.{reached, noEdge, edgesIn, listsIn, Sound, transitionsBy, treeLines}
 use Rattle.list_tree.proofs.Trees.{edges-long, lists-long, edge-at, list-at}
 
 -- ── lines one after another ──
@@ -65,7 +65,7 @@ module _ (t : Tree) (ok : Sound t) (m : ℕ) (s : State) (q : listsIn t ≡ stat
   each : (k : ℕ) (d : Transition) → k < t .count → getD (transitionsBy 1 (edgesIn t)) k d ≡ getD (transitions (states m s)) k d
   each k d h =
       let x = getD (t .edges) k noEdge in
-      let f = ok .falls k h in
+      let f = ok .source-before k h in
       let e : getD (states m s) (k + 1) [] ≡ getD (states m s) (x .source) [] ++ (x .event ∷ []) =
       ap (λ ls. getD ls (k + 1) []) (sym q) ∙ (list-at t ok k h ∙ ap (λ ls. reached ls x) q)
       in

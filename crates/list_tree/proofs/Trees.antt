@@ -11,34 +11,34 @@ use borrow.Author.Tests.{eqb-true, eqb-false}
 use Rattle.model.specs.declared.Event.{Event}
 use Rattle.list_tree.specs.declared.tree.Edge.{Edge}
 use Rattle.list_tree.specs.declared.tree.Tree.{Tree}
-use Rattle.list_tree.specs.Tree.{reached, listsBy, noEdge, edgesIn, listsIn, Sound, Rooted, Grew}
+use Rattle.list_tree.specs.Tree.{reached, listsOfEdges, noEdge, edgesIn, listsIn, Sound, IsRoot, Extends}
 
 -- ── lists by edges ──
 
-by-last : (ls : List (List Event)) (xs : List Edge) (x : Edge) → listsBy ls (xs ++ (x ∷ [])) ≡ listsBy ls xs ++ (reached (listsBy ls xs) x ∷ [])
-unfolding listsBy
+by-last : (ls : List (List Event)) (xs : List Edge) (x : Edge) → listsOfEdges ls (xs ++ (x ∷ [])) ≡ listsOfEdges ls xs ++ (reached (listsOfEdges ls xs) x ∷ [])
+unfolding listsOfEdges
 by-last ls [] x = refl
 by-last ls (y ∷ xs) x = by-last (ls ++ (reached ls y ∷ [])) xs x
 
-by-long : (ls : List (List Event)) (xs : List Edge) → length (listsBy ls xs) ≡ length ls + length xs
-unfolding listsBy
+by-long : (ls : List (List Event)) (xs : List Edge) → length (listsOfEdges ls xs) ≡ length ls + length xs
+unfolding listsOfEdges
 by-long ls [] = omega arith
 by-long ls (x ∷ xs) = by-long (ls ++ (reached ls x ∷ [])) xs ∙ omega (arith, length-append ls (reached ls x ∷ []))
 
-by-keeps : (ls : List (List Event)) (xs : List Edge) (i : ℕ) → i < length ls → getD (listsBy ls xs) i [] ≡ getD ls i []
-unfolding listsBy
+by-keeps : (ls : List (List Event)) (xs : List Edge) (i : ℕ) → i < length ls → getD (listsOfEdges ls xs) i [] ≡ getD ls i []
+unfolding listsOfEdges
 by-keeps ls [] i h = refl
 by-keeps ls (x ∷ xs) i h = by-keeps (ls ++ (reached ls x ∷ [])) xs i (omega (arith, h, length-append ls (reached ls x ∷ []))) ∙ List·getD-append ls (reached ls x ∷ []) [] i h
 
 -- the list of the state behind the edge at place k, by the lists themselves
-by-edge : (ls : List (List Event)) (xs : List Edge) (k : ℕ) → k < length xs → getD xs k noEdge .source < length ls + k → getD (listsBy ls xs) (length ls + k) [] ≡ reached (listsBy ls xs) (getD xs k noEdge)
-unfolding listsBy
+by-edge : (ls : List (List Event)) (xs : List Edge) (k : ℕ) → k < length xs → getD xs k noEdge .source < length ls + k → getD (listsOfEdges ls xs) (length ls + k) [] ≡ reached (listsOfEdges ls xs) (getD xs k noEdge)
+unfolding listsOfEdges
 by-edge ls [] k h f = absurd (omega arith)
 by-edge ls (x ∷ xs) zero h f =
     let m = ls ++ (reached ls x ∷ []) in
     let z : length ls + 0 ≡ length ls = omega arith in
     let l = length-append ls (reached ls x ∷ []) in
-    ap (λ i. getD (listsBy m xs) i []) z
+    ap (λ i. getD (listsOfEdges m xs) i []) z
     ∙ (by-keeps m xs (length ls) (omega (arith, l))
     ∙ (getD-at ls (reached ls x) [] [] (length ls) refl
     ∙ ap (λ r. r ++ (x .event ∷ [])) (sym (by-keeps m xs (x .source) (omega (arith, l, f)) ∙ List·getD-append ls (reached ls x ∷ []) [] (x .source) (omega (arith, f))))))
@@ -46,7 +46,7 @@ by-edge ls (x ∷ xs) (suc k) h f =
     let m = ls ++ (reached ls x ∷ []) in
     let l = length-append ls (reached ls x ∷ []) in
     let z : length ls + suc k ≡ length m + k = omega (arith, l) in
-    ap (λ i. getD (listsBy m xs) i []) z ∙ by-edge m xs k (omega arith) (omega (arith, l, f))
+    ap (λ i. getD (listsOfEdges m xs) i []) z ∙ by-edge m xs k (omega arith) (omega (arith, l, f))
 
 -- ── of a tree ──
 
@@ -69,12 +69,12 @@ module _ (t : Tree) (ok : Sound t) where
   pub list-at : (k : ℕ) → k < t .count → getD (listsIn t) (k + 1) [] ≡ reached (listsIn t) (getD (t .edges) k noEdge)
   unfolding listsIn
   list-at k h =
-      let f = ok .falls k h in
+      let f = ok .source-before k h in
       let e = edge-at k h in
       let z : k + 1 ≡ 1 + k = omega arith in
       let g : getD (edgesIn t) k noEdge .source ≤ k = subst (λ (x : Edge). x .source ≤ k) (sym e) f in
-      ap (λ i. getD (listsBy ([] ∷ []) (edgesIn t)) i []) z
-      ∙ (by-edge ([] ∷ []) (edgesIn t) k (omega (arith, h, edges-long)) (omega (arith, g)) ∙ ap (reached (listsBy ([] ∷ []) (edgesIn t))) e)
+      ap (λ i. getD (listsOfEdges ([] ∷ []) (edgesIn t)) i []) z
+      ∙ (by-edge ([] ∷ []) (edgesIn t) k (omega (arith, h, edges-long)) (omega (arith, g)) ∙ ap (reached (listsOfEdges ([] ∷ []) (edgesIn t))) e)
 
 -- ── one edge more ──
 
@@ -85,8 +85,8 @@ module _ (t : Tree) (a : ℕ) (e : Event) (ok : Sound t) (room : t .count < 600)
   abbrev more : Tree
   more = record { n = t .n; count = t .count + 1; edges = set (t .edges) (t .count) edge }
 
-  more-falls : (k : ℕ) → k < t .count + 1 → getD (set (t .edges) (t .count) edge) k noEdge .source ≤ k
-  more-falls k h = by (eqb k (t .count)) refl
+  more-before : (k : ℕ) → k < t .count + 1 → getD (set (t .edges) (t .count) edge) k noEdge .source ≤ k
+  more-before k h = by (eqb k (t .count)) refl
     where
       by : (b : Bool) → eqb k (t .count) ≡ b → getD (set (t .edges) (t .count) edge) k noEdge .source ≤ k
       by true q =
@@ -98,7 +98,7 @@ module _ (t : Tree) (a : ℕ) (e : Event) (ok : Sound t) (room : t .count < 600)
       by false q =
           let z = eqb-false k (t .count) q in
           let y : getD (set (t .edges) (t .count) edge) k noEdge .source ≡ getD (t .edges) k noEdge .source = ap (λ (x : Edge). x .source) (getD-set-other (t .edges) (t .count) k edge noEdge z) in
-          let f = ok .falls k (omega (arith, h, z)) in
+          let f = ok .source-before k (omega (arith, h, z)) in
           omega (arith, y, f)
 
   more-sound : Sound more
@@ -107,7 +107,7 @@ module _ (t : Tree) (a : ℕ) (e : Event) (ok : Sound t) (room : t .count < 600)
     few = ok .few;
     space = length-set (t .edges) (t .count) edge ∙ ok .space;
     within = omega arith;
-    falls = more-falls;
+    source-before = more-before;
   }
 
   more-edges : edgesIn more ≡ edgesIn t ++ (edge ∷ [])
@@ -116,36 +116,36 @@ module _ (t : Tree) (a : ℕ) (e : Event) (ok : Sound t) (room : t .count < 600)
       let z : t .count + 1 ≡ suc (t .count) = omega arith in
       ap (λ k. take k (set (t .edges) (t .count) edge)) z ∙ take-suc-set (t .edges) (t .count) edge (omega arith)
 
-  pub grew-edge : Grew t ((getD (listsIn t) a [] ++ (e ∷ [])) ∷ []) more
+  pub extends-edge : Extends t ((getD (listsIn t) a [] ++ (e ∷ [])) ∷ []) more
   unfolding listsIn
-  grew-edge = record { sound = more-sound; same = refl; lists = ap (listsBy ([] ∷ [])) more-edges ∙ by-last ([] ∷ []) (edgesIn t) edge }
+  extends-edge = record { sound = more-sound; same = refl; lists = ap (listsOfEdges ([] ∷ [])) more-edges ∙ by-last ([] ∷ []) (edgesIn t) edge }
 
 -- ── the first tree, and growth in turn ──
 
-pub rooted : (n : ℕ) → 1 ≤ n → n ≤ 3 → (es : List Edge) → length es ≡ 600 → Rooted n (record { n = n; count = 0; edges = es })
-unfolding listsIn listsBy
+pub rooted : (n : ℕ) → 1 ≤ n → n ≤ 3 → (es : List Edge) → length es ≡ 600 → IsRoot n (record { n = n; count = 0; edges = es })
+unfolding listsIn listsOfEdges
 rooted n h k es q = record {
-  sound = record { some = h; few = k; space = q; within = omega arith; falls = λ i l. absurd (omega (arith, l)) };
+  sound = record { some = h; few = k; space = q; within = omega arith; source-before = λ i l. absurd (omega (arith, l)) };
   same = refl;
   lists = refl;
 }
 
-pub grew-none : (t : Tree) → Sound t → Grew t [] t
-grew-none t ok = record { sound = ok; same = refl; lists = sym (append-nil (listsIn t)) }
+pub extends-none : (t : Tree) → Sound t → Extends t [] t
+extends-none t ok = record { sound = ok; same = refl; lists = sym (append-nil (listsIn t)) }
 
-pub grew-twice : {t u v : Tree} {ks ls : List (List Event)} → Grew t ks u → Grew u ls v → Grew t (ks ++ ls) v
-grew-twice {t} {u} {v} {ks} {ls} g h = record {
+pub extends-twice : {t u v : Tree} {ks ls : List (List Event)} → Extends t ks u → Extends u ls v → Extends t (ks ++ ls) v
+extends-twice {t} {u} {v} {ks} {ls} g h = record {
   sound = h .sound;
   same = h .same ∙ g .same;
   lists = h .lists ∙ (ap (λ (m : List (List Event)). m ++ ls) (g .lists) ∙ append-assoc (listsIn t) ks ls);
 }
 
 -- a state keeps its list
-pub grew-keeps : {t u : Tree} {ks : List (List Event)} → Sound t → Grew t ks u → (a : ℕ) → a ≤ t .count → getD (listsIn u) a [] ≡ getD (listsIn t) a []
-grew-keeps {t} {u} {ks} ok g a h = let l = lists-long t ok in ap (λ (m : List (List Event)). getD m a []) (g .lists) ∙ List·getD-append (listsIn t) ks [] a (omega arith)
+pub extends-keeps : {t u : Tree} {ks : List (List Event)} → Sound t → Extends t ks u → (a : ℕ) → a ≤ t .count → getD (listsIn u) a [] ≡ getD (listsIn t) a []
+extends-keeps {t} {u} {ks} ok g a h = let l = lists-long t ok in ap (λ (m : List (List Event)). getD m a []) (g .lists) ∙ List·getD-append (listsIn t) ks [] a (omega arith)
 
-pub grew-count : {t u : Tree} {ks : List (List Event)} → Sound t → Grew t ks u → u .count ≡ t .count + length ks
-grew-count {t} {u} {ks} ok g =
+pub extends-count : {t u : Tree} {ks : List (List Event)} → Sound t → Extends t ks u → u .count ≡ t .count + length ks
+extends-count {t} {u} {ks} ok g =
     let l = lists-long t ok in
     let m = lists-long u (g .sound) in
     let e = ap length (g .lists) ∙ length-append (listsIn t) ks in

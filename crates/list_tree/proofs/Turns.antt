@@ -1,4 +1,4 @@
--- A loop that lets a tree grow by what comes of each of several things: one turn of it.
+-- A loop that extends a tree by what comes of each of several things: one turn of it.
 use Prim.Native.Nat.{ℕ, suc, _+_, _-_, _≤_, _<_}
 use native.Mathlib.Omega.{arith}
 use mathlib.Core.Path.{_≡_, refl, sym, _∙_, ap, subst}
@@ -15,8 +15,8 @@ use Rattle.short_lists_text.specs.Lists.{alphabet}
 use Rattle.short_lists_text.proofs.Rows.{rows-append}
 use Rattle.list_events.specs.Events.{sizeOf, eventAt}
 use Rattle.list_tree.specs.declared.tree.Tree.{Tree}
-use Rattle.list_tree.specs.Tree.{listsIn, oneMore, nextOf, Sound, Grew}
-use Rattle.list_tree.proofs.Trees.{lists-long, grew-none, grew-twice, grew-keeps, grew-count}
+use Rattle.list_tree.specs.Tree.{listsIn, extended, nextOf, Sound, Extends}
+use Rattle.list_tree.proofs.Trees.{lists-long, extends-none, extends-twice, extends-keeps, extends-count}
 
 module _ {A : Type 0} (f : A → List (List Event)) (xs : List A) (d : A) where
   one-on : (k : ℕ) → k < length xs → concatMap f (take (k + 1) xs) ≡ concatMap f (take k xs) ++ f (getD xs k d)
@@ -34,11 +34,11 @@ module _ {A : Type 0} (f : A → List (List Event)) (xs : List A) (d : A) where
 
   module _ (t : Tree) where
     -- before the first turn
-    pub no-turn : Sound t → Grew t (concatMap f (take 0 xs)) t
-    no-turn ok = grew-none t ok
+    pub no-turn : Sound t → Extends t (concatMap f (take 0 xs)) t
+    no-turn ok = extends-none t ok
 
     -- in a turn: there is room for what comes of the next
-    module _ (k : ℕ) (h : k < length xs) {u : Tree} (g : Grew t (concatMap f (take k xs)) u) where
+    module _ (k : ℕ) (h : k < length xs) {u : Tree} (g : Extends t (concatMap f (take k xs)) u) where
       pub has-room : length (listsIn t ++ concatMap f xs) ≤ 601 → length (listsIn u ++ f (getD xs k d)) ≤ 601
       has-room r =
           let a = length-append (listsIn t) (concatMap f xs) in
@@ -48,60 +48,60 @@ module _ {A : Type 0} (f : A → List (List Event)) (xs : List A) (d : A) where
           let w = within (k + 1) in
           omega arith
 
-      pub next-turn : {v : Tree} → Grew u (f (getD xs k d)) v → Grew t (concatMap f (take (k + 1) xs)) v
-      next-turn {v} i = subst (λ ls. Grew t ls v) (sym (one-on k h)) (grew-twice g i)
+      pub next-turn : {v : Tree} → Extends u (f (getD xs k d)) v → Extends t (concatMap f (take (k + 1) xs)) v
+      next-turn {v} i = subst (λ ls. Extends t ls v) (sym (one-on k h)) (extends-twice g i)
 
     -- behind the last
-    pub all-turns : (k : ℕ) → k ≡ length xs → {u : Tree} → Grew t (concatMap f (take k xs)) u → Grew t (concatMap f xs) u
-    all-turns k q {u} g = subst (λ ls. Grew t (concatMap f ls) u) (ap (λ j. take j xs) q ∙ take-length xs) g
+    pub all-turns : (k : ℕ) → k ≡ length xs → {u : Tree} → Extends t (concatMap f (take k xs)) u → Extends t (concatMap f xs) u
+    all-turns k q {u} g = subst (λ ls. Extends t (concatMap f ls) u) (ap (λ j. take j xs) q ∙ take-length xs) g
 
 -- ── what comes next to a list, by a table that it leads to ──
 
-pub next-by : (n : ℕ) (u : State) (l : List Event) → u ≡ runFrom (start n tower) l → nextOf (start n tower) l ≡ concatMap (λ e. oneMore l e (step u e)) (alphabet n)
+pub next-by : (n : ℕ) (u : State) (l : List Event) → u ≡ runFrom (start n tower) l → nextOf (start n tower) l ≡ concatMap (λ e. extended l e (step u e)) (alphabet n)
 unfolding nextOf
-next-by n u l q = ap (λ v. concatMap (λ e. oneMore l e (step v e)) (alphabet n)) (sym q)
+next-by n u l q = ap (λ v. concatMap (λ e. extended l e (step v e)) (alphabet n)) (sym q)
 
 -- ── the events of a state ──
 
 -- what comes of an event at the state a of t, whose table is u
 abbrev pub byEvent : Tree → ℕ → State → Event → List (List Event)
-byEvent t a u e = oneMore (getD (listsIn t) a []) e (step u e)
+byEvent t a u e = extended (getD (listsIn t) a []) e (step u e)
 
-module _ (t : Tree) (ok : Sound t) (a : ℕ) (is : a ≤ t .count) (u : State) (n i : ℕ) (h : i < sizeOf n) {v : Tree} (g : Grew t (concatMap (byEvent t a u) (take i (alphabet n))) v) (e : Event) (q : e ≡ eventAt n i) where
+module _ (t : Tree) (ok : Sound t) (a : ℕ) (is : a ≤ t .count) (u : State) (n i : ℕ) (h : i < sizeOf n) {v : Tree} (g : Extends t (concatMap (byEvent t a u) (take i (alphabet n))) v) (e : Event) (q : e ≡ eventAt n i) where
   pub still-state : a ≤ v .count
-  still-state = omega (arith, grew-count ok g)
+  still-state = omega (arith, extends-count ok g)
 
   same-event : byEvent v a u e ≡ byEvent t a u (getD (alphabet n) i (Crash 0))
   unfolding eventAt
-  same-event = ap (λ l. oneMore l e (step u e)) (grew-keeps ok g a is) ∙ ap (byEvent t a u) q
+  same-event = ap (λ l. extended l e (step u e)) (extends-keeps ok g a is) ∙ ap (byEvent t a u) q
 
   pub event-room : length (listsIn t ++ concatMap (byEvent t a u) (alphabet n)) ≤ 601 → length (listsIn v ++ byEvent v a u e) ≤ 601
   event-room r = subst (λ ls. length (listsIn v ++ ls) ≤ 601) (sym same-event) (has-room (byEvent t a u) (alphabet n) (Crash 0) t i h g r)
 
-  pub event-on : {w : Tree} → Grew v (byEvent v a u e) w → Grew t (concatMap (byEvent t a u) (take (i + 1) (alphabet n))) w
-  event-on {w} x = next-turn (byEvent t a u) (alphabet n) (Crash 0) t i h g (subst (λ ls. Grew v ls w) same-event x)
+  pub event-on : {w : Tree} → Extends v (byEvent v a u e) w → Extends t (concatMap (byEvent t a u) (take (i + 1) (alphabet n))) w
+  event-on {w} x = next-turn (byEvent t a u) (alphabet n) (Crash 0) t i h g (subst (λ ls. Extends v ls w) same-event x)
 
 -- ── the states of a level ──
 
 -- the states from first up to end, of which a is one
-module _ (s : State) (t : Tree) (ok : Sound t) (first end a : ℕ) (some : first ≤ a) (before : a < end) (here : end ≤ t .count + 1) {v : Tree} (g : Grew t (concatMap (nextOf s) (take (a - first) (drop first (take end (listsIn t))))) v) where
+module _ (s : State) (t : Tree) (ok : Sound t) (first end a : ℕ) (some : first ≤ a) (before : a < end) (here : end ≤ t .count + 1) {v : Tree} (g : Extends t (concatMap (nextOf s) (take (a - first) (drop first (take end (listsIn t))))) v) where
   level-place : a - first < length (drop first (take end (listsIn t)))
   level-place = let l = lists-long t ok in omega (arith, l, length-drop first (take end (listsIn t)), length-take-le end (listsIn t) (omega arith))
 
   pub still-in : a ≤ v .count
-  still-in = omega (arith, grew-count ok g)
+  still-in = omega (arith, extends-count ok g)
 
   same-list : getD (listsIn v) a [] ≡ getD (drop first (take end (listsIn t))) (a - first) []
   same-list =
       let z : first + (a - first) ≡ a = omega arith in
-      grew-keeps ok g a (omega arith)
+      extends-keeps ok g a (omega arith)
       ∙ sym (getD-drop first (take end (listsIn t)) (a - first) [] ∙ (ap (λ i. getD (take end (listsIn t)) i []) z ∙ getD-take end (listsIn t) a [] before))
 
   pub level-room : length (listsIn t ++ concatMap (nextOf s) (drop first (take end (listsIn t)))) ≤ 601 → length (listsIn v ++ nextOf s (getD (listsIn v) a [])) ≤ 601
   level-room r = subst (λ l. length (listsIn v ++ nextOf s l) ≤ 601) (sym same-list) (has-room (nextOf s) (drop first (take end (listsIn t))) [] t (a - first) level-place g r)
 
-  pub level-on : {w : Tree} → Grew v (nextOf s (getD (listsIn v) a [])) w → Grew t (concatMap (nextOf s) (take (a + 1 - first) (drop first (take end (listsIn t))))) w
+  pub level-on : {w : Tree} → Extends v (nextOf s (getD (listsIn v) a [])) w → Extends t (concatMap (nextOf s) (take (a + 1 - first) (drop first (take end (listsIn t))))) w
   level-on {w} x =
       let z : a - first + 1 ≡ a + 1 - first = omega arith in
-      subst (λ i. Grew t (concatMap (nextOf s) (take i (drop first (take end (listsIn t))))) w) z
-      (next-turn (nextOf s) (drop first (take end (listsIn t))) [] t (a - first) level-place g (subst (λ l. Grew v (nextOf s l) w) same-list x))
+      subst (λ i. Extends t (concatMap (nextOf s) (take i (drop first (take end (listsIn t))))) w) z
+      (next-turn (nextOf s) (drop first (take end (listsIn t))) [] t (a - first) level-place g (subst (λ l. Extends v (nextOf s l) w) same-list x))

@@ -1,3 +1,4 @@
--- What a tree of states means, how it grows, and what `put_text` promises.
+-- What a tree of states means, how it is extended, what `put_text` promises, and which wrong programs that shuts out.
 pub mod Tree
 pub mod Printed
+pub mod Mutants

@@ -1,4 +1,5 @@
--- What `put_text` promises: the text of the input stands at the start of the buffer, and all else in it is as it was.
+-- What `put_text` promises: the text of the input stands at the start of the buffer, and all else in it is as it was. The text of an input that is refused is the line `stopped 0 22`: 02
+-- has the refusal printed, so its number is in the text, and not in what is answered.
 use Prim.Native.Nat.{ℕ}
 use mathlib.Core.Path.{_≡_}
 use mathlib.Core.List.{List}

@@ -1,4 +1,4 @@
--- What a tree of states means: the lists of its states; how it grows by one event; and its transitions.
+-- What the code's tree means: the lists of its states; how it is extended; and its transitions. A node is 01's cabinet, and no part of the tree.
 use Prim.Native.Nat.{ℕ, suc, _+_, _≤_, _<_}
 use mathlib.Core.Path.{_≡_}
 use mathlib.Core.List.{List, [], _∷_, _++_, map}
@@ -9,7 +9,7 @@ use Rattle.model.specs.declared.Event.{Event}
 use Rattle.model.specs.declared.Event.the-variants.{Crash}
 use Rattle.short_lists_text.specs.Rows.{concatMap}
 use Rattle.short_lists_text.specs.Lists.{alphabet}
-use Rattle.aldebaran_text.specs.System.{Transition}
+use Rattle.aldebaran_text.specs.System.{Transition, transition}
 use Rattle.aldebaran_text.specs.Text.{firstLine, transitionLine}
 use Rattle.list_tree.specs.declared.tree.Edge.{Edge}
 use Rattle.list_tree.specs.declared.tree.Tree.{Tree}
@@ -21,9 +21,9 @@ abbrev pub reached : List (List Event) → Edge → List Event
 reached ls x = getD ls (x .source) [] ++ (x .event ∷ [])
 
 -- lists, and behind them those of the states that edges lead into, one after another
-unfoldable pub listsBy : List (List Event) → List Edge → List (List Event)
-listsBy ls [] = ls
-listsBy ls (x ∷ xs) = listsBy (ls ++ (reached ls x ∷ [])) xs
+unfoldable pub listsOfEdges : List (List Event) → List Edge → List (List Event)
+listsOfEdges ls [] = ls
+listsOfEdges ls (x ∷ xs) = listsOfEdges (ls ++ (reached ls x ∷ [])) xs
 
 -- what stands where there is no edge
 abbrev pub noEdge : Edge
@@ -35,20 +35,20 @@ edgesIn t = take (t .count) (t .edges)
 
 -- the lists of the states 0, 1 and so on
 unfoldable pub listsIn : Tree → List (List Event)
-listsIn t = listsBy ([] ∷ []) (edgesIn t)
+listsIn t = listsOfEdges ([] ∷ []) (edgesIn t)
 
--- ── how it grows ──
+-- ── how it is extended ──
 
 -- l with e behind it, where that was accepted; else none
-abbrev pub oneMore : List Event → Event → Result → List (List Event)
-oneMore l e (refused r) = []
-oneMore l e (accepted u mark) = (l ++ (e ∷ [])) ∷ []
+abbrev pub extended : List Event → Event → Result → List (List Event)
+extended l e (refused r) = []
+extended l e (accepted u mark) = (l ++ (e ∷ [])) ∷ []
 
--- the accepted lists from s that have one event more than l, in order
+-- where l is an accepted list from s, the accepted lists that have one event more, in order
 unfoldable pub nextOf : State → List Event → List (List Event)
-nextOf s l = concatMap (λ e. oneMore l e (step (runFrom s l) e)) (alphabet (s .n))
+nextOf s l = concatMap (λ e. extended l e (step (runFrom s l) e)) (alphabet (s .n))
 
--- ── what is so of every tree ──
+-- ── what its functions require of a tree, and keep ──
 
 pub record Sound (t : Tree) : Type 0 where
   pub some : 1 ≤ t .n
@@ -56,24 +56,21 @@ pub record Sound (t : Tree) : Type 0 where
   pub space : length (t .edges) ≡ 600
   pub within : t .count ≤ 600
   -- the edge into k + 1 comes from a state before it
-  pub falls : (k : ℕ) → k < t .count → getD (t .edges) k noEdge .source ≤ k
+  pub source-before : (k : ℕ) → k < t .count → getD (t .edges) k noEdge .source ≤ k
 
--- the tree of n nodes with the list of no events alone
-pub record Rooted (n : ℕ) (t : Tree) : Type 0 where
+-- the tree for n nodes with the state 0 alone
+pub record IsRoot (n : ℕ) (t : Tree) : Type 0 where
   pub sound : Sound t
   pub same : t .n ≡ n
   pub lists : listsIn t ≡ [] ∷ []
 
 -- r is t with these lists behind its own
-pub record Grew (t : Tree) (more : List (List Event)) (r : Tree) : Type 0 where
+pub record Extends (t : Tree) (more : List (List Event)) (r : Tree) : Type 0 where
   pub sound : Sound r
   pub same : r .n ≡ t .n
   pub lists : listsIn r ≡ listsIn t ++ more
 
 -- ── its transitions ──
-
-abbrev pub transition : ℕ → Event → ℕ → Transition
-transition a e b = record { source = a; event = e; target = b }
 
 -- edges as transitions, of which the first leads into the state b
 unfoldable pub transitionsBy : ℕ → List Edge → List Transition

@@ -6,11 +6,11 @@ mod tree;
 ghost use mathlib.Core.Path.{_≡_};
 ghost use Rattle.list_tree.specs.Printed.{Printed};
 
-// The room for a text: no text is longer (`TextFits` in aldebaran_text).
-pub const TEXT: usize = 32768;
+// The room for a text: no text is longer (`TextLength` in aldebaran_text).
+pub const TEXT_SPACE: usize = 32768;
 
 // The text of any input at the start of out: how many bytes it has.
-pub fn put_text(input: &[u8], out: &mut [u8; TEXT]) -> usize
+pub fn put_text(input: &[u8], out: &mut [u8; TEXT_SPACE]) -> usize
     ensures { λ r. ⌜ Printed (now (input .entry)) (now (out .entry)) (now (out .exit)) r ⌝ }
 {
     if !list_events::fits(input, 4) {
@@ -18,5 +18,5 @@ pub fn put_text(input: &[u8], out: &mut [u8; TEXT]) -> usize
     }
     let n = input[0];
     let length = input[1];
-    line::put_tree(out, tree::grown(n, length))
+    line::put_tree(out, tree::tree_of(n, length))
 }

@@ -1,4 +1,4 @@
-// The text of a tree in the Aldebaran form, written into the free end of a lent buffer. The caller sees to the room.
+// The text of a tree in the Aldebaran form, written into the free end of a lent buffer, in which each function asks for the room that it needs.
 ghost use mathlib.Core.Path.{_≡_};
 ghost use mathlib.Core.List.{map, _++_};
 ghost use Prim.Native.Nat.{_+_, _≤_};
@@ -7,8 +7,9 @@ ghost use Rattle.listing.specs.Ascii.{bytes};
 ghost use Rattle.listing.specs.Decimal.{decimal};
 ghost use Rattle.listing.specs.Printing.{joined, Appended};
 ghost use Rattle.aldebaran_text.specs.Text as text;
-ghost use Rattle.list_tree.specs.Tree.{transition, edgesIn, transitionsBy, treeLines, Sound};
-use crate::TEXT;
+ghost use Rattle.aldebaran_text.specs.System.{transition};
+ghost use Rattle.list_tree.specs.Tree.{edgesIn, transitionsBy, treeLines, Sound};
+use crate::TEXT_SPACE;
 use crate::tree::Tree;
 use listing::put_bytes;
 use listing::put_number;
@@ -103,7 +104,7 @@ fn put_transitions(out: &mut [u8], at: usize, t: Tree) -> usize
 }
 
 // The text of a tree, at the start of out.
-pub fn put_tree(out: &mut [u8; TEXT], t: Tree) -> usize
+pub fn put_tree(out: &mut [u8; TEXT_SPACE], t: Tree) -> usize
     requires { ⌜ Sound t ⌝ }
     ensures { λ r. ⌜ Appended (now (out .entry)) 0 (joined (treeLines t)) (now (out .exit)) r ⌝ }
 {

@@ -8,11 +8,11 @@ ghost use Rattle.model.specs.State.{start, view};
 ghost use Rattle.model.specs.Step.{step, runFrom};
 ghost use Rattle.short_lists_text.specs.Rows.{concatMap};
 ghost use Rattle.aldebaran_text.specs.System.{states};
-ghost use Rattle.list_tree.specs.Tree.{listsIn, oneMore, nextOf, Sound, Rooted, Grew};
+ghost use Rattle.list_tree.specs.Tree.{listsIn, extended, nextOf, Sound, IsRoot, Extends};
 use model::Event;
 use model::Table;
 
-// Three nodes and lists of four events have so many states but the first, and all others have fewer.
+// With three nodes and lists of up to four events there are 601 states, and so 600 edges; all others have fewer.
 const EDGES: usize = 600;
 
 // How a state is reached: from the state `source`, by the event.
@@ -21,17 +21,17 @@ pub struct Edge {
     pub event: Event,
 }
 
-// A state for the list of no events, with number 0, and one for each of the first count edges: edges[k] leads into the state k + 1.
+// States of lists of events among n nodes (01's cabinets): state 0 is the list of no events, and there is one more for each of the first count edges: edges[k] leads into the state k + 1.
 pub struct Tree {
     pub n: u8,
     pub count: usize,
     pub edges: [Edge; EDGES],
 }
 
-// The list of no events alone.
+// The state 0 alone.
 fn root(n: u8) -> Tree
     requires { ⌜ (1 ≤ n) × (n ≤ 3) ⌝ }
-    ensures { λ r. ⌜ Rooted n r ⌝ }
+    ensures { λ r. ⌜ IsRoot n r ⌝ }
 {
     let none = Edge {
         source: 0,
@@ -47,7 +47,7 @@ fn root(n: u8) -> Tree
 // One state more.
 fn with_edge(t: Tree, a: usize, e: Event) -> Tree
     requires { ⌜ Sound t × (t .count < 600) × (a ≤ t .count) ⌝ }
-    ensures { λ r. ⌜ Grew t ((getD (listsIn t) a [] ++ (e ∷ [])) ∷ []) r ⌝ }
+    ensures { λ r. ⌜ Extends t ((getD (listsIn t) a [] ++ (e ∷ [])) ∷ []) r ⌝ }
 {
     let k = t.count;
     let mut next = t;
@@ -76,10 +76,10 @@ fn table_of(t: Tree, b: usize) -> Table
     o.table
 }
 
-// One state more where e is accepted on the table of the state a.
+// One state more, from the state a, where e is accepted on the given table.
 fn with_event(t: Tree, table: Table, a: usize, e: Event) -> Tree
-    requires { ⌜ Sound t × (a ≤ t .count) × (length (listsIn t ++ oneMore (getD (listsIn t) a []) e (step (view table) e)) ≤ 601) ⌝ }
-    ensures { λ r. ⌜ Grew t (oneMore (getD (listsIn t) a []) e (step (view table) e)) r ⌝ }
+    requires { ⌜ Sound t × (a ≤ t .count) × (length (listsIn t ++ extended (getD (listsIn t) a []) e (step (view table) e)) ≤ 601) ⌝ }
+    ensures { λ r. ⌜ Extends t (extended (getD (listsIn t) a []) e (step (view table) e)) r ⌝ }
 {
     let o = machine::step(table, e);
     let answer = o.answer;
@@ -89,10 +89,10 @@ fn with_event(t: Tree, table: Table, a: usize, e: Event) -> Tree
     with_edge(t, a, e)
 }
 
-// A state more for each event that is accepted on the table of the state a, in order.
+// One state more for each event that is accepted on the table of the state a, in order.
 fn with_next(t: Tree, a: usize) -> Tree
     requires { ⌜ Sound t × (a ≤ t .count) × (length (listsIn t ++ nextOf (start (t .n) tower) (getD (listsIn t) a [])) ≤ 601) ⌝ }
-    ensures { λ r. ⌜ Grew t (nextOf (start (t .n) tower) (getD (listsIn t) a [])) r ⌝ }
+    ensures { λ r. ⌜ Extends t (nextOf (start (t .n) tower) (getD (listsIn t) a [])) r ⌝ }
 {
     let n = t.n;
     let table = table_of(t, a);
@@ -111,7 +111,7 @@ fn with_next(t: Tree, a: usize) -> Tree
 // The same for each of the states from first up to end, which is not among them.
 fn with_level(t: Tree, first: usize, end: usize) -> Tree
     requires { ⌜ Sound t × (first ≤ end) × (end ≤ t .count + 1) × (length (listsIn t ++ concatMap (nextOf (start (t .n) tower)) (drop first (take end (listsIn t)))) ≤ 601) ⌝ }
-    ensures { λ r. ⌜ Grew t (concatMap (nextOf (start (t .n) tower)) (drop first (take end (listsIn t)))) r ⌝ }
+    ensures { λ r. ⌜ Extends t (concatMap (nextOf (start (t .n) tower)) (drop first (take end (listsIn t)))) r ⌝ }
 {
     let mut next = t;
     let mut a = first;
@@ -122,8 +122,8 @@ fn with_level(t: Tree, first: usize, end: usize) -> Tree
     next
 }
 
-// All lists of up to so many events among n nodes.
-pub fn grown(n: u8, most: u8) -> Tree
+// The tree of all accepted lists of up to `most` events among n nodes.
+pub fn tree_of(n: u8, most: u8) -> Tree
     requires { ⌜ (1 ≤ n) × (n ≤ 3) × (most ≤ 4) ⌝ }
     ensures { λ r. ⌜ Sound r × (listsIn r ≡ states most (start n tower)) ⌝ }
 {

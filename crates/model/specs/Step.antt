@@ -231,7 +231,7 @@ abbrev pub pairAtEnd : List ℕ → Outgoing → Bool
 pairAtEnd l Nothing = false
 pairAtEnd l (Send m) = eqb (countAt l (m .sender) (m .receiver)) trafficEnd
 
--- the table of grounds of an event, in 01's order, with 02's 17, 18 and 19 in their places; 2 to 6 are the list's, 15 is the listing's and 16 that of T-01's program
+-- the table of grounds of an event, in 01's order, with 02's 17, 18 and 19 in their places; 2 to 6 are the list's, 15 is the listing's, 16 and 22 those of the programs of T-01 and T-12, and 20 and 21 a controller's (T-11)
 unfoldable pub grounds : State → Event → List Ground
 grounds s e =
     -- "table handed in": "not in range"

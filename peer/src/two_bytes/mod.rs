@@ -16,6 +16,8 @@ pub struct Request {
     pub max_length: u8,
     /// What is printed for an input that is refused.
     pub refusal: &'static [u8],
+    /// n and the length of an input that is not refused.
+    pub read_input: fn(&[u8]) -> Option<(u8, u8)>,
     /// Prints the peer's text of any input.
     pub print: fn(&[u8], &mut Vec<u8>) -> Result<()>,
     /// What a text is of, and how many of them the peer has for n and a length.
@@ -32,6 +34,7 @@ pub type Reading = fn(u8, u8, &[u8]) -> std::result::Result<(), String>;
 pub static SHORT_LISTS: Request = Request {
     max_length: short::MAX_LENGTH,
     refusal: short::REFUSAL,
+    read_input: short::read_input,
     print: short::print,
     items: "lists",
     count: |n, length| {
@@ -45,6 +48,7 @@ pub static SHORT_LISTS: Request = Request {
 pub static ALDEBARAN: Request = Request {
     max_length: aldebaran::MAX_LENGTH,
     refusal: aldebaran::REFUSAL,
+    read_input: aldebaran::read_input,
     print: aldebaran::print,
     items: "states",
     count: |n, length| aldebaran::states(n, length).len() as u64,

@@ -1,7 +1,7 @@
 //! T-12's texts: the vectors' sums and texts, that their states are the lists of T-01, that the text read by itself
 //! has nothing wrong and any other text has, the inputs that are refused, and the program where it can't read or write.
 
-use crate::programs::{cannot_read, cannot_write, prints_texts};
+use crate::programs::{cannot_read, cannot_write, prints_texts, refuses_wrong_inputs};
 use peer::aldebaran::{print, read_input, states, text, REFUSAL};
 use peer::aldebaran_reading::read;
 use peer::sha256::sha256;
@@ -169,37 +169,10 @@ fn every_line_matters() {
     }
 }
 
-fn refused(input: &[u8]) -> bool {
-    let mut text = Vec::new();
-    print(input, &mut text).unwrap();
-    text == REFUSAL
-}
-
 #[test]
-fn every_wrong_input_of_up_to_two_bytes() {
+fn wrong_inputs() {
     assert_eq!(REFUSAL, b"stopped 0 22\n");
-    assert!(refused(&[]));
-    for a in 0..=255 {
-        assert!(refused(&[a]));
-        for b in 0..=255 {
-            let right = (1..=3).contains(&a) && b <= 4;
-            assert_eq!(read_input(&[a, b]), right.then_some((a, b)));
-            assert!(right || refused(&[a, b]));
-        }
-    }
-}
-
-#[test]
-fn longer_inputs() {
-    for length in 3..300 {
-        assert!(refused(&vec![1; length]));
-    }
-    let wrong_inputs = read_wrong_inputs(&vector("wrong-inputs.txt")).unwrap();
-    assert_eq!(wrong_inputs.len(), 10);
-    for wrong in wrong_inputs {
-        assert_eq!(wrong.text, REFUSAL);
-        assert!(refused(&wrong.input));
-    }
+    refuses_wrong_inputs(&ALDEBARAN, &vector("wrong-inputs.txt"));
 }
 
 const PROGRAM: &str = env!("CARGO_BIN_EXE_aldebaran");

@@ -2,6 +2,7 @@
 //! scripts that print something wrong.
 
 use peer::two_bytes::Request;
+use peer::vectors::read_wrong_inputs;
 use std::fs::{self, File};
 use std::io::Write;
 use std::path::{Path, PathBuf};
@@ -24,6 +25,29 @@ fn run(command: &mut Command, input: &[u8]) -> Output {
 fn complains(output: &Output, words: &str) -> bool {
     let told = String::from_utf8_lossy(&output.stderr);
     !output.status.success() && told.starts_with(words) && told.lines().count() == 1
+}
+
+/// Every wrong input of up to two bytes, some longer ones and the vectors' are refused, and no other of two bytes.
+pub fn refuses_wrong_inputs(request: &Request, wrong_inputs: &str) {
+    let refused = |input: &[u8]| request.text(input) == request.refusal;
+    assert!(refused(&[]));
+    for a in 0..=255 {
+        assert!(refused(&[a]));
+        for b in 0..=255 {
+            let right = (1..=3).contains(&a) && b <= request.max_length;
+            assert_eq!((request.read_input)(&[a, b]), right.then_some((a, b)));
+            assert!(right || refused(&[a, b]));
+        }
+    }
+    for length in 3..300 {
+        assert!(refused(&vec![1; length]));
+    }
+    let wrong_inputs = read_wrong_inputs(wrong_inputs).unwrap();
+    assert_eq!(wrong_inputs.len(), 10);
+    for wrong in wrong_inputs {
+        assert_eq!(wrong.text, request.refusal);
+        assert!(refused(&wrong.input));
+    }
 }
 
 /// A program of the peer's prints the text of each input.

@@ -1,7 +1,9 @@
 //! T-01's lists: their order, that they are the lists that the machine accepts and no others, the vectors'
 //! counts and texts, the inputs that are refused, and the program where it can't read or write.
 
-use crate::programs::{cannot_read, cannot_write, nobody_reads, prints_texts};
+use crate::programs::{
+    cannot_read, cannot_write, nobody_reads, prints_texts, refuses_wrong_inputs,
+};
 use peer::list::write_event;
 use peer::machine::{step, Event, Table, TOWER};
 use peer::sha256::sha256;
@@ -245,34 +247,10 @@ fn texts_of_the_vectors() {
     assert_eq!(texts, 11);
 }
 
-fn refused(input: &[u8]) -> bool {
-    let mut text = Vec::new();
-    print(input, &mut text).unwrap();
-    text == REFUSAL
-}
-
 #[test]
-fn every_wrong_input_of_up_to_two_bytes() {
-    assert!(refused(&[]));
-    for a in 0..=255 {
-        assert!(refused(&[a]));
-        for b in 0..=255 {
-            let right = (1..=3).contains(&a) && b <= 7;
-            assert_eq!(read_input(&[a, b]), right.then_some((a, b)));
-            assert!(right || refused(&[a, b]));
-        }
-    }
-}
-
-#[test]
-fn longer_inputs() {
-    for length in 3..300 {
-        assert!(refused(&vec![1; length]));
-    }
-    for wrong in read_wrong_inputs(&vector("wrong-inputs.txt")).unwrap() {
-        assert_eq!(wrong.text, REFUSAL);
-        assert!(refused(&wrong.input));
-    }
+fn wrong_inputs() {
+    assert_eq!(REFUSAL, b"stopped 0 16\n");
+    refuses_wrong_inputs(&SHORT_LISTS, &vector("wrong-inputs.txt"));
 }
 
 #[test]

@@ -19,13 +19,13 @@ shared-slice-read-n c = let z = two-bytes 4 _ (sym (c .before .before .fits2 .en
 shared-slice-read-length : tie.Need-shared-slice-read-length
 shared-slice-read-length c = let z = two-bytes 4 _ (sym (c .before .before .before .fits2 .ensures) ∙ not-false _ (c .before .before .if1 .left)) in search needs
 
-grown-requires : tie.Need-grown-requires
-grown-requires c κs = let f = c .before .before .before in fits-are 4 _ (sym (f .before .fits2 .ensures) ∙ not-false _ (f .if1 .left))
+tree-of-requires : tie.Need-tree-of-requires
+tree-of-requires c κs = let f = c .before .before .before in fits-are 4 _ (sym (f .before .fits2 .ensures) ∙ not-false _ (f .if1 .left))
 
 returns-2 : tie.Need-returns-2
 returns-2 c =
     let f = c .before .before .before .before .before in
-    let g = c .before .grown .ensures in
+    let g = c .before .tree-of .ensures in
     printed-tree _ _ _ _ (sym (f .before .fits2 .ensures) ∙ not-false _ (f .if1 .left)) _ (g .0) (g .1) (c .put-tree .ensures)
 
 pub put-text-spec : {M : Type 1} → statement M
@@ -38,6 +38,6 @@ put-text-spec =
     returns
     shared-slice-read-n
     shared-slice-read-length
-    grown-requires
-    (λ c κs. c .grown .ensures .0)
+    tree-of-requires
+    (λ c κs. c .tree-of .ensures .0)
     returns-2)

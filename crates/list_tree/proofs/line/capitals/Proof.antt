@@ -7,7 +7,7 @@ use mathlib.Core.List.{_++_, map}
 use denote.Ref.{now}
 use lib.ListN.{length, take, drop, length-set}
 use Rattle.aldebaran_text.specs.Text.{capital}
-use Rattle.list_tree.proofs.Raised.{raise-turn, raise-end}
+use Rattle.list_tree.proofs.Capitals.{changed-turn, changed-end}
 use Rattle.list_tree.proofs.line.capitals.Statement.{statement}
 use Rattle.list_tree.proofs.line.capitals.Tie as tie
 
@@ -23,7 +23,7 @@ loop-again c =
     let v = l .inv in
     let z = v .1 in
     let t = c .before .before .loop-test .taken in
-    (simp length-set (omega arith), simp length-set z, raise-turn capital _ (l .w) (l .i) _ (omega (arith, t, z)) (v .2) (c .capital .ensures))
+    (simp length-set (omega arith), simp length-set z, changed-turn capital _ (l .w) (l .i) _ (omega (arith, t, z)) (v .2) (c .capital .ensures))
 
 returns : tie.Need-returns Inv-loop μ-loop
 returns c =
@@ -31,7 +31,7 @@ returns c =
     let v = l .inv in
     let z = v .1 in
     let i = v .0 in
-    raise-end capital _ (l .w) (l .i) (omega (arith, c .loop-test .left, z, i)) (v .2)
+    changed-end capital _ (l .w) (l .i) (omega (arith, c .loop-test .left, z, i)) (v .2)
 
 pub capitals-spec : {M : Type 1} → statement M
 capitals-spec =

@@ -74,7 +74,7 @@ put-transitions-spec =
     let s = c .before .before .before .before .before in
     let t = c .before .before .loop-test .taken in
     let w = s .pre .0 .within in
-    let f = s .pre .0 .falls (l .k) t in
+    let f = s .pre .0 .source-before (l .k) t in
     omega arith)
     (λ c. let t = c .before .before .before .loop-test .taken in let w = c .before .before .before .before .before .before .pre .0 .within in omega arith)
     (λ c. let t = c .before .before .before .loop-test .taken in let w = c .before .before .before .before .before .before .pre .0 .within in omega arith)

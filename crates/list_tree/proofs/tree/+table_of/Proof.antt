@@ -49,7 +49,7 @@ pub +table-of-spec : {M : Type 1} → statement M
     let m = s .pre .0 in
     let h = p .1 in
     let n = c .before .if1 .left in
-    let f = p .0 .falls (s .args .b - 1) (omega arith) in
+    let f = p .0 .source-before (s .args .b - 1) (omega arith) in
     (omega (arith, f, m, n), (p .0, omega (arith, f, h, n))))
     (λ c κs. tt)
     (λ c.

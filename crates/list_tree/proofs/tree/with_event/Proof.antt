@@ -7,7 +7,7 @@ use mathlib.Core.List.{[], _∷_, _++_}
 use lib.ListN.{length, getD, length-append}
 use Rattle.model.specs.State.{view}
 use Rattle.list_tree.specs.Tree.{listsIn}
-use Rattle.list_tree.proofs.Trees.{lists-long, grew-none}
+use Rattle.list_tree.proofs.Trees.{lists-long, extends-none}
 use Rattle.list_tree.proofs.Accepted.{none-more, one-more}
 use Rattle.list_tree.proofs.tree.with_event.Statement.{statement}
 use Rattle.list_tree.proofs.tree.with_event.Tie as tie
@@ -17,7 +17,7 @@ returns c =
     let a = c .before in
     let o = a .before .step in
     let s = a .before .before in
-    rw (none-more _ _ _ (o .result .answer) (o .ensures .answer) (sym (a .is-accepted .ensures) ∙ not-true _ (c .if1 .taken))) (grew-none (s .args .t) (s .pre .0))
+    rw (none-more _ _ _ (o .result .answer) (o .ensures .answer) (sym (a .is-accepted .ensures) ∙ not-true _ (c .if1 .taken))) (extends-none (s .args .t) (s .pre .0))
 
 with-edge-requires : tie.Need-with-edge-requires
 with-edge-requires c κs =

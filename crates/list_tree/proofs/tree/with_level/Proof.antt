@@ -1,4 +1,4 @@
--- `list_tree::tree::with_level` meets its contract. The invariant: the tree has grown by what comes next to the lists of the states before a.
+-- `list_tree::tree::with_level` meets its contract. The invariant: what comes next to the lists of the states before a stands behind the states of before.
 use borrow.Author.Needs.{needs}
 use Prim.Native.Nat.{_+_, _-_, _≤_}
 use native.Mathlib.Omega.{arith}
@@ -9,14 +9,14 @@ use lib.Seq.{length-take-le}
 use Rattle.model.specs.Limits.{tower}
 use Rattle.model.specs.State.{start}
 use Rattle.short_lists_text.specs.Rows.{concatMap}
-use Rattle.list_tree.specs.Tree.{listsIn, nextOf, Grew}
+use Rattle.list_tree.specs.Tree.{listsIn, nextOf, Extends}
 use Rattle.list_tree.proofs.Trees.{lists-long}
 use Rattle.list_tree.proofs.Turns.{no-turn, all-turns, still-in, level-room, level-on}
 use Rattle.list_tree.proofs.tree.with_level.Statement.{statement}
 use Rattle.list_tree.proofs.tree.with_level.Tie as tie
 
 abbrev Inv-loop : tie.InvT-loop
-Inv-loop first end next₀ a₀ next a = (first ≤ a) × (a ≤ end) × Grew next₀ (concatMap (nextOf (start (next₀ .n) tower)) (take (a - first) (drop first (take end (listsIn next₀))))) next
+Inv-loop first end next₀ a₀ next a = (first ≤ a) × (a ≤ end) × Extends next₀ (concatMap (nextOf (start (next₀ .n) tower)) (take (a - first) (drop first (take end (listsIn next₀))))) next
 
 abbrev μ-loop : tie.MeasureT-loop
 μ-loop first end next₀ a₀ next a = end - a
@@ -27,7 +27,7 @@ loop-holds c =
     let f = c .args .first in
     let z : 0 ≡ f - f = omega arith in
     let xs = drop f (take (c .args .end) (listsIn t)) in
-    (omega arith, c .pre .1, subst (λ k. Grew t (concatMap (nextOf (start (t .n) tower)) (take k xs)) t) z (no-turn (nextOf (start (t .n) tower)) xs [] t (c .pre .0)))
+    (omega arith, c .pre .1, subst (λ k. Extends t (concatMap (nextOf (start (t .n) tower)) (take k xs)) t) z (no-turn (nextOf (start (t .n) tower)) xs [] t (c .pre .0)))
 
 with-next-requires : tie.Need-with-next-requires Inv-loop μ-loop
 with-next-requires c κs =
@@ -48,7 +48,7 @@ loop-again c =
     let t = s .args .t in
     let g = l .inv .2 in
     let f = l .inv .0 in
-    let x = subst (λ n. Grew (l .next) (nextOf (start n tower) (getD (listsIn (l .next)) (l .a) [])) (c .with-next .result)) (g .same) (c .with-next .ensures) in (
+    let x = subst (λ n. Extends (l .next) (nextOf (start n tower) (getD (listsIn (l .next)) (l .a) [])) (c .with-next .result)) (g .same) (c .with-next .ensures) in (
       omega (arith, f),
       omega (arith, c .before .loop-test .taken),
       level-on (start (t .n) tower) t (s .pre .0) (s .args .first) (s .args .end) (l .a) (l .inv .0) (c .before .loop-test .taken) (s .pre .2) g x,

@@ -1,4 +1,4 @@
--- `list_tree::tree::with_next` meets its contract. The invariant: the tree has grown by what comes of the events before i.
+-- `list_tree::tree::with_next` meets its contract. The invariant: what comes of the events before i stands behind the states of before.
 use borrow.Author.Needs.{needs}
 use Prim.Native.Nat.{_-_, _≤_, _<_}
 use native.Mathlib.Omega.{arith}
@@ -10,13 +10,13 @@ use Rattle.model.specs.declared.Event.the-variants.{Crash}
 use Rattle.short_lists_text.specs.Rows.{concatMap}
 use Rattle.short_lists_text.specs.Lists.{alphabet}
 use Rattle.list_events.specs.Events.{sizeOf}
-use Rattle.list_tree.specs.Tree.{listsIn, Grew}
+use Rattle.list_tree.specs.Tree.{listsIn, Extends}
 use Rattle.list_tree.proofs.Turns.{no-turn, all-turns, next-by, byEvent, still-state, event-room, event-on}
 use Rattle.list_tree.proofs.tree.with_next.Statement.{statement}
 use Rattle.list_tree.proofs.tree.with_next.Tie as tie
 
 abbrev Inv-loop : tie.InvT-loop
-Inv-loop a n table count events next₀ i₀ next i = (i ≤ count) × Grew next₀ (concatMap (byEvent next₀ a (view table)) (take i (alphabet n))) next
+Inv-loop a n table count events next₀ i₀ next i = (i ≤ count) × Extends next₀ (concatMap (byEvent next₀ a (view table)) (take i (alphabet n))) next
 
 abbrev μ-loop : tie.MeasureT-loop
 μ-loop a n table count events next₀ i₀ next i = count - i
@@ -60,7 +60,7 @@ returns c =
     let h = n .ensures .0 in
     let i = l .inv .0 in
     let q = next-by (t .n) (view (u .result)) (getD (listsIn t) (s .args .a) []) (u .ensures) in
-    subst (λ m. Grew t m (l .next)) (sym q) (all-turns (byEvent t (s .args .a) (view (u .result))) (alphabet (t .n)) (Crash 0) t (l .i) (omega (arith, c .loop-test .left, i, h)) (l .inv .1))
+    subst (λ m. Extends t m (l .next)) (sym q) (all-turns (byEvent t (s .args .a) (view (u .result))) (alphabet (t .n)) (Crash 0) t (l .i) (omega (arith, c .loop-test .left, i, h)) (l .inv .1))
 
 pub with-next-spec : {M : Type 1} → statement M
 with-next-spec =

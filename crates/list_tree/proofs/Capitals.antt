@@ -11,8 +11,8 @@ use Rattle.listing.proofs.Appended.{appended, appended-written}
 
 module _ (f : ℕ → ℕ) where
   -- one byte more
-  pub raise-turn : (o w : List ℕ) (i x : ℕ) → i < length o → w ≡ map f (take i o) ++ drop i o → x ≡ f (getD w i 0) → set w i x ≡ map f (take (i + 1) o) ++ drop (i + 1) o
-  raise-turn o w i x h q r =
+  pub changed-turn : (o w : List ℕ) (i x : ℕ) → i < length o → w ≡ map f (take i o) ++ drop i o → x ≡ f (getD w i 0) → set w i x ≡ map f (take (i + 1) o) ++ drop (i + 1) o
+  changed-turn o w i x h q r =
       let z : suc i ≡ i + 1 = omega arith in
       let d = drop-cons o i 0 h in
       let l : length (map f (take i o)) ≡ i = length-map (take i o) f ∙ length-take-le i o (omega arith) in
@@ -27,14 +27,14 @@ module _ (f : ℕ → ℕ) where
       ∙ (ap (λ (m : List ℕ). m ++ drop (suc i) o) (sym t) ∙ ap (λ j. map f (take j o) ++ drop j o) z))))
 
   -- all of them
-  pub raise-end : (o w : List ℕ) (i : ℕ) → i ≡ length o → w ≡ map f (take i o) ++ drop i o → w ≡ map f o
-  raise-end o w i q r =
+  pub changed-end : (o w : List ℕ) (i : ℕ) → i ≡ length o → w ≡ map f (take i o) ++ drop i o → w ≡ map f o
+  changed-end o w i q r =
       r ∙ (ap (λ j. map f (take j o) ++ drop j o) q
       ∙ (ap (λ (m : List ℕ). map f (take (length o) o) ++ m) (drop-length o) ∙ (append-nil _ ∙ ap (map f) (take-length o))))
 
   -- a piece behind others, with all its bytes changed
-  pub raised : (b s o v : List ℕ) (p r : ℕ) → p ≤ length b → Appended b p s o r → v ≡ map f (take (r - p) (drop p o)) → Appended b p (map f s) (take p o ++ (v ++ drop (r - p) (drop p o))) r
-  raised b s o v p r h a q =
+  pub changed : (b s o v : List ℕ) (p r : ℕ) → p ≤ length b → Appended b p s o r → v ≡ map f (take (r - p) (drop p o)) → Appended b p (map f s) (take p o ++ (v ++ drop (r - p) (drop p o))) r
+  changed b s o v p r h a q =
       let n = a .next in
       let w = appended-written a in
       let l : length (take p b) ≡ p = length-take-le p b h in

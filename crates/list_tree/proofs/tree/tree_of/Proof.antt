@@ -1,4 +1,4 @@
--- `list_tree::tree::grown` meets its contract. The invariant: the tree has the lists of up to k events.
+-- `list_tree::tree::tree_of` meets its contract. The invariant: the tree has the lists of up to k events.
 use borrow.Author.Needs.{needs}
 use Prim.Native.Nat.{_-_, _≤_}
 use native.Mathlib.Omega.{arith}
@@ -6,9 +6,9 @@ use mathlib.Core.Path.{_≡_, _∙_, ap}
 use Rattle.model.specs.Limits.{tower}
 use Rattle.model.specs.State.{start}
 use Rattle.aldebaran_text.specs.System.{states}
-use Rattle.list_tree.proofs.Grown.{Complete, root-complete, level-within, level-fits, level-complete}
-use Rattle.list_tree.proofs.tree.grown.Statement.{statement}
-use Rattle.list_tree.proofs.tree.grown.Tie as tie
+use Rattle.list_tree.proofs.Complete.{Complete, root-complete, level-within, level-fits, level-complete}
+use Rattle.list_tree.proofs.tree.tree_of.Statement.{statement}
+use Rattle.list_tree.proofs.tree.tree_of.Tie as tie
 
 abbrev Inv-loop : tie.InvT-loop
 Inv-loop n most t₀ first₀ k₀ t first k = (k ≤ most) × Complete n k first t
@@ -36,8 +36,8 @@ returns c =
     let q : l .k ≡ s .args .most = omega (arith, c .loop-test .left, i) in
     (l .inv .1 .sound, l .inv .1 .lists ∙ ap (λ k. states k (start (s .args .n) tower)) q)
 
-pub grown-spec : {M : Type 1} → statement M
-grown-spec =
+pub tree-of-spec : {M : Type 1} → statement M
+tree-of-spec =
     tie.close
     (tie.spec
     Inv-loop

@@ -13,7 +13,7 @@ use Rattle.short_lists_text.specs.Lists.{listsFrom}
 use Rattle.aldebaran_text.specs.System.{states}
 use Rattle.aldebaran_text.proofs.Text.{few}
 use Rattle.list_tree.specs.declared.tree.Tree.{Tree}
-use Rattle.list_tree.specs.Tree.{listsIn, nextOf, Sound, Rooted, Grew}
+use Rattle.list_tree.specs.Tree.{listsIn, nextOf, Sound, IsRoot, Extends}
 use Rattle.list_tree.proofs.Trees.{lists-long}
 use Rattle.list_tree.proofs.Levels.{first-level, last-level, next-level, level-long}
 
@@ -24,7 +24,7 @@ pub record Complete (n k first : ℕ) (t : Tree) : Type 0 where
   pub lists : listsIn t ≡ states k (start n tower)
   pub level : first + length (listsFrom k (start n tower)) ≡ length (states k (start n tower))
 
-pub root-complete : (n : ℕ) {t : Tree} → Rooted n t → Complete n 0 0 t
+pub root-complete : (n : ℕ) {t : Tree} → IsRoot n t → Complete n 0 0 t
 root-complete n r = record { sound = r .sound; same = r .same; lists = r .lists ∙ first-level (start n tower) .0; level = first-level (start n tower) .1 }
 
 module _ (n k first : ℕ) (t : Tree) (c : Complete n k first t) where
@@ -52,5 +52,5 @@ module _ (n k first : ℕ) (t : Tree) (c : Complete n k first t) where
   pub level-fits : 1 ≤ n → n ≤ 3 → k + 1 ≤ 4 → length (listsIn t ++ concatMap (nextOf (start (t .n) tower)) (drop first (take (t .count + 1) (listsIn t)))) ≤ 601
   level-fits p q h = let f = few n (k + 1) p q h in omega (arith, f, ap length more)
 
-  pub level-complete : {r : Tree} → Grew t (concatMap (nextOf (start (t .n) tower)) (drop first (take (t .count + 1) (listsIn t)))) r → Complete n (k + 1) (t .count + 1) r
+  pub level-complete : {r : Tree} → Extends t (concatMap (nextOf (start (t .n) tower)) (drop first (take (t .count + 1) (listsIn t)))) r → Complete n (k + 1) (t .count + 1) r
   level-complete g = record { sound = g .sound; same = g .same ∙ c .same; lists = g .lists ∙ more; level = omega (arith, states-long, level-long k s) }
