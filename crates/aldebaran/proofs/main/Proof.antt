@@ -4,10 +4,10 @@ use Rattle.aldebaran.proofs.main.Statement.{statement}
 use Rattle.aldebaran.proofs.main.Tie as tie
 
 array-share-prefix-input : tie.Need-array-share-prefix-input
-array-share-prefix-input c = rw (c .before .n .given .1) at (c .before .before .before .before .read-all .ensures) .0
+array-share-prefix-input c = rw (c .before .count .given .1) at (c .before .before .before .before .read-all .ensures) .0
 
 slice-aggregate-print : tie.Need-slice-aggregate-print
-slice-aggregate-print c = rw (c .before .before .n .given .1) at (c .before .before .before .before .before .read-all .ensures) .1
+slice-aggregate-print c = rw (c .before .before .count .given .1) at (c .before .before .before .before .before .read-all .ensures) .1
 
 pub main-spec : {M : Type 1} → statement M
 main-spec =
