@@ -1,7 +1,7 @@
 -- The number of a list among others: the test of equal lists, and places in lists that ascend.
 use Prim.Native.Nat.{ℕ, zero, suc, _<_}
 use native.Mathlib.Omega.{arith}
-use mathlib.Core.Bool.{Bool, true, false, _&&_, true≢false}
+use mathlib.Core.Bool.{Bool, true, false, true≢false}
 use mathlib.Core.Path.{_≡_, refl, sym, _∙_, ap, subst}
 use mathlib.Core.Logic.{inl, inr}
 use mathlib.Core.List.{List, [], _∷_}
@@ -49,12 +49,6 @@ list-self [] = refl
 list-self (e ∷ es) = rw (eq-eqb (tag e) (tag e) refl, numbers-self (contents e)) (list-self es)
 
 -- ── places ──
-
--- x is at a place of xs
-pub record Place {A : Type 0} (d x : A) (xs : List A) : Type 0 where
-  pub place : ℕ
-  pub within : place < length xs
-  pub is : getD xs place d ≡ x
 
 pub at-place : {A : Type 0} (d : A) (xs : List A) (i : ℕ) → i < length xs → Among (getD xs i d) xs
 at-place d [] i h = absurd (omega arith)

@@ -2,9 +2,8 @@
 use Prim.Native.Nat.{ℕ, zero, suc, _+_, _-_, _*_, _^_, _≤_, _<_}
 use native.Mathlib.Omega.{arith}
 use mathlib.Core.Bool.{Bool, true, false}
-use mathlib.Core.Path.{_≡_, refl, sym, _∙_, ap, subst}
-use mathlib.Core.Logic.{inl, inr}
-use mathlib.Core.List.{List, [], _∷_, _++_, map, append-assoc, head-eq-of-cons-eq, tail-eq-of-cons-eq}
+use mathlib.Core.Path.{_≡_, refl, _∙_, ap, subst}
+use mathlib.Core.List.{List, [], _∷_, _++_, map, head-eq-of-cons-eq, tail-eq-of-cons-eq}
 use lib.ListN.{length, take, getD, length-append}
 use Rattle.model.specs.Limits.{tower}
 use Rattle.model.specs.Pick.{pick, pick-true, pick-false}
@@ -17,9 +16,9 @@ use Rattle.listing.specs.Printing.{joined}
 use Rattle.listing.proofs.Decimal.{decimal-32-long, decimal-denotes}
 use Rattle.listing.proofs.Parted.{Each, Stops, each-map, parted, Inside, IsLine, line-after, joined-same}
 use Rattle.listing.proofs.Claims.{decimal-same}
-use Rattle.short_lists_text.specs.Rows.{Among, All}
+use Rattle.short_lists_text.specs.Rows.{All}
 use Rattle.short_lists_text.specs.Lists.{upFrom, listsFrom, isAccepted}
-use Rattle.short_lists_text.specs.Claims.{FitsBytes, SmallNumbers}
+use Rattle.short_lists_text.specs.Claims.{FitsBytes}
 use Rattle.short_lists_text.proofs.Refuses.{not-two, no-nodes, too-many, too-long, allowed, fits-are, first-three}
 use Rattle.short_lists_text.proofs.Bytes.{accepted-fits}
 use Rattle.short_lists_text.proofs.Lines.{Digit, decimal-digits, fits-small, all-of-each}
@@ -27,7 +26,6 @@ use Rattle.short_lists_text.proofs.Rows.{all-weaken}
 use Rattle.aldebaran_text.specs.System.{states, Transition, transition, transitions}
 use Rattle.aldebaran_text.specs.Text.{label, firstLine, transitionLine, statesOf, linesOf, fits, refusalText, textOf}
 use Rattle.aldebaran_text.specs.Claims.{transitionAt, IsFirstLine, IsLineOf, OneLine, Small, SystemText, TransitionLinesDetermine, TextLength, RefusedInputs}
-use Rattle.aldebaran_text.proofs.Numbers.{at-place}
 use Rattle.aldebaran_text.proofs.Transitions.{all-transitions}
 use Rattle.aldebaran_text.proofs.Labels.{Quotable, label-quotable, label-distinct, label-short}
 use Rattle.aldebaran_text.proofs.Cases.{aldebaran-cases}

@@ -3,7 +3,7 @@ use Prim.Native.Nat.{ℕ, zero, suc, _+_, _-_, _≤_, _<_}
 use native.Mathlib.Omega.{arith}
 use mathlib.Core.Bool.{Bool, true, false}
 use mathlib.Core.Path.{_≡_, refl, sym, _∙_, ap, subst}
-use mathlib.Core.Logic.{_⊎_, inl, inr}
+use mathlib.Core.Logic.{inl, inr}
 use mathlib.Core.List.{List, [], _∷_, _++_}
 use lib.Dec.{eqb, ltb}
 use lib.ListN.{length, take, drop, getD, length-append, length-drop}
@@ -15,7 +15,7 @@ use Rattle.model.specs.Claims.{Accepts}
 use Rattle.model.specs.declared.Event.{Event}
 use Rattle.model.specs.declared.Event.the-variants.{Crash}
 use Rattle.model.proofs.Whole.{run-append}
-use Rattle.short_lists_text.specs.Rows.{Among, All}
+use Rattle.short_lists_text.specs.Rows.{All}
 use Rattle.short_lists_text.specs.Lists.{isAccepted, AcceptedFrom, TaskFits, Legal}
 use Rattle.short_lists_text.proofs.Rows.{all-append}
 use Rattle.short_lists_text.proofs.Legal.{accepts-at}

@@ -6,7 +6,7 @@ use mathlib.Core.List.{List, [], _∷_, _++_, append-nil, map}
 use lib.ListN.{length, drop, length-append}
 use lib.Seq.{drop-at}
 use Rattle.model.specs.State.{State}
-use Rattle.model.specs.Step.{Result, refused, accepted, step, kept, after, runFrom}
+use Rattle.model.specs.Step.{Result, refused, accepted, step, kept, runFrom}
 use Rattle.model.specs.declared.Mark.{Mark}
 use Rattle.model.specs.declared.Event.{Event}
 use Rattle.short_lists_text.specs.Rows.{concatMap}

@@ -1,7 +1,7 @@
 -- The table of a state, by the table of the state before it.
 use Prim.Native.Nat.{ℕ, _+_, _-_, _≤_}
 use native.Mathlib.Omega.{arith}
-use mathlib.Core.Path.{_≡_, refl, sym, _∙_, ap}
+use mathlib.Core.Path.{_≡_, sym, _∙_, ap}
 use mathlib.Core.List.{[]}
 use lib.ListN.{getD}
 use Rattle.model.specs.State.{State}

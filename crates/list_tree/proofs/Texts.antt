@@ -1,5 +1,5 @@
 -- The text of a tree: one line more; and where its lists are the states of a system, it is the system's text.
-use Prim.Native.Nat.{ℕ, zero, suc, _+_, _-_, _≤_, _<_}
+use Prim.Native.Nat.{ℕ, zero, suc, _+_, _≤_, _<_}
 use native.Mathlib.Omega.{arith}
 use mathlib.Core.Path.{_≡_, refl, sym, _∙_, ap}
 use mathlib.Core.List.{List, [], _∷_, _++_, append-nil, map}
@@ -9,7 +9,7 @@ use Rattle.model.specs.State.{State}
 use Rattle.model.proofs.Lists.{map-append}
 use Rattle.listing.specs.Printing.{joined, Appended}
 use Rattle.short_lists_text.proofs.Counts.{joined-last}
-use Rattle.aldebaran_text.specs.System.{states, numberIn, Transition, transition, withoutLast, lastOf, transitionInto, transitions}
+use Rattle.aldebaran_text.specs.System.{states, numberIn, Transition, transition, withoutLast, lastOf, transitions}
 use Rattle.aldebaran_text.specs.Text.{transitionLine, linesOf}
 use Rattle.aldebaran_text.proofs.States.{all-states}
 use Rattle.aldebaran_text.proofs.Transitions.{without-last, last-of, transitions-long, transitions-at}

@@ -1,11 +1,11 @@
 -- The lists of a tree: one edge more, places, and the list of a state by its edge.
-use Prim.Native.Nat.{ℕ, zero, suc, _+_, _-_, _≤_, _<_}
+use Prim.Native.Nat.{ℕ, zero, suc, _+_, _≤_, _<_}
 use native.Mathlib.Omega.{arith}
 use mathlib.Core.Bool.{Bool, true, false}
 use mathlib.Core.Path.{_≡_, refl, sym, _∙_, ap, subst}
 use mathlib.Core.List.{List, [], _∷_, _++_, append-nil, append-assoc}
 use lib.Dec.{eqb}
-use lib.ListN.{length, take, getD, set, replicate, length-append, length-set, length-replicate, List·getD-append}
+use lib.ListN.{length, take, getD, set, length-append, length-set, List·getD-append}
 use lib.Seq.{length-take-le, take-suc-set, getD-take, getD-at, getD-set-same, getD-set-other}
 use borrow.Author.Tests.{eqb-true, eqb-false}
 use Rattle.model.specs.declared.Event.{Event}

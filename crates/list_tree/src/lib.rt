@@ -3,7 +3,6 @@
 mod line;
 mod tree;
 
-ghost use mathlib.Core.Path.{_≡_};
 ghost use Rattle.list_tree.specs.Printed.{Printed};
 
 // The room for a text: no text is longer (`TextLength` in aldebaran_text).

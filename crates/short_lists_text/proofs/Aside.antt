@@ -3,7 +3,7 @@ use Prim.Native.Nat.{ℕ, zero, suc, _+_, _<_}
 use native.Mathlib.Omega.{arith}
 use mathlib.Core.Bool.{true}
 use mathlib.Core.Path.{_≡_, refl, sym, _∙_, ap, subst}
-use mathlib.Core.List.{List, [], _∷_, map}
+use mathlib.Core.List.{_∷_, map}
 use Rattle.model.specs.Limits.{trafficEnd}
 use Rattle.model.specs.State.{State, countsAside, inRange}
 use Rattle.model.specs.Step.{Result, refused, accepted, step, kept, aside}

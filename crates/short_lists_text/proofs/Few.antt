@@ -29,7 +29,7 @@ rows-long f b h [] = omega arith
 rows-long f b h (x ∷ xs) = let r = rows-long f b h xs in let q = h x in simp length-append (omega arith)
 
 -- 7 events of each node, and 2 of each ordered pair
-pub alphabet-long : (n : ℕ) → 1 ≤ n → n ≤ 3 → length (alphabet n) ≤ 33
+alphabet-long : (n : ℕ) → 1 ≤ n → n ≤ 3 → length (alphabet n) ≤ 33
 unfolding alphabet pairsOf upFrom without pick
 alphabet-long zero a b = absurd (omega arith)
 alphabet-long (suc zero) a b = omega arith

@@ -2,7 +2,7 @@
 use Prim.Native.Nat.{ℕ}
 use mathlib.Core.Bool.{true, true≢false}
 use mathlib.Core.Path.{_≡_, refl, sym, ap, subst}
-use mathlib.Core.List.{List, [], _∷_, _++_, append-assoc, append-nil}
+use mathlib.Core.List.{List, [], _∷_, _++_, append-nil}
 use Rattle.model.specs.Claims.{Accepts}
 use Rattle.model.specs.State.{State}
 use Rattle.model.specs.Step.{Result, refused, accepted, step, after, runFrom}
@@ -11,13 +11,13 @@ use Rattle.model.specs.declared.Event.{Event}
 use Rattle.model.specs.declared.Event.the-variants.{Crash, Recover, Check, Timeout, Tick, Expire, Finish, Deliver, Lose}
 use Rattle.listing.specs.Ascii.{bytes}
 use Rattle.short_lists_text.specs.Rows.{All}
-use Rattle.short_lists_text.specs.Lists.{onlyTask, isAccepted, AcceptedFrom, TaskFits, Legal}
+use Rattle.short_lists_text.specs.Lists.{isAccepted, AcceptedFrom, TaskFits, Legal}
 use Rattle.short_lists_text.specs.Text.{eventText, moreText, eventsText, listLine}
 use Rattle.short_lists_text.specs.Claims.{LegalByRun, LegalIs, LineIs}
 
 -- ── accepted in turn ──
 
-pub accepts-one : (s : State) (e : Event) → isAccepted (step s e) ≡ true → Accepts s e
+accepts-one : (s : State) (e : Event) → isAccepted (step s e) ≡ true → Accepts s e
 accepts-one s e q = by (step s e) refl q
   where
     by : (r : Result) → step s e ≡ r → isAccepted r ≡ true → Accepts s e
@@ -29,7 +29,7 @@ unfolding runFrom
 accepts-at s [] e rest a = accepts-one s e (a .0)
 accepts-at s (b ∷ bs) e rest a = accepts-at (after s b) bs e rest (a .1)
 
-pub in-turn : (s : State) (l : List Event) → ((before : List Event) (e : Event) (rest : List Event) → l ≡ before ++ (e ∷ rest) → Accepts (runFrom s before) e) → AcceptedFrom s l
+in-turn : (s : State) (l : List Event) → ((before : List Event) (e : Event) (rest : List Event) → l ≡ before ++ (e ∷ rest) → Accepts (runFrom s before) e) → AcceptedFrom s l
 unfolding runFrom
 in-turn s [] f = tt
 in-turn s (e ∷ es) f = (ap isAccepted (f [] e es refl .is), in-turn (after s e) es (λ before d rest q. f (e ∷ before) d rest (ap (λ l. e ∷ l) q)))

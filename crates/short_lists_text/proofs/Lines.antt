@@ -35,7 +35,7 @@ abbrev pub Digit : ℕ → Type 0
 Digit b = (48 ≤ b) × (b ≤ 57)
 
 -- from `a` on
-abbrev pub Letter : ℕ → Type 0
+abbrev Letter : ℕ → Type 0
 Letter b = 97 ≤ b
 
 -- neither a comma nor a line's end
@@ -63,7 +63,7 @@ unfolding spaced
 spaced-within [] = tt
 spaced-within (x ∷ xs) = ((λ e. omega arith, λ e. omega arith), each-append Within (decimal x) (spaced xs) (each-map Digit Within digit-within (decimal x) (decimal-digits x)) (spaced-within xs))
 
-pub spaced-same : (xs ys : List ℕ) → All (λ x. x < 2 ^ 32) xs → All (λ x. x < 2 ^ 32) ys → spaced xs ≡ spaced ys → xs ≡ ys
+spaced-same : (xs ys : List ℕ) → All (λ x. x < 2 ^ 32) xs → All (λ x. x < 2 ^ 32) ys → spaced xs ≡ spaced ys → xs ≡ ys
 unfolding spaced
 spaced-same [] [] f g e = refl
 spaced-same [] (y ∷ ys) f g e = let z = ap length e in absurd (omega arith)
@@ -79,7 +79,7 @@ spaced-same (x ∷ xs) (y ∷ ys) f g e =
 
 -- ── an event ──
 
-pub name-letters : (e : Event) → Each Letter (nameOf e)
+name-letters : (e : Event) → Each Letter (nameOf e)
 unfolding nameOf
 name-letters (Crash i) = omega arith
 name-letters (Recover i) = omega arith
@@ -91,7 +91,7 @@ name-letters (Finish i t) = omega arith
 name-letters (Deliver a b) = omega arith
 name-letters (Lose a b) = omega arith
 
-pub name-some : (e : Event) → 1 ≤ length (nameOf e)
+name-some : (e : Event) → 1 ≤ length (nameOf e)
 unfolding nameOf
 name-some (Crash i) = omega arith
 name-some (Recover i) = omega arith
@@ -104,7 +104,7 @@ name-some (Deliver a b) = omega arith
 name-some (Lose a b) = omega arith
 
 -- the event of a name and numbers: of `check` and `crash` the second letter tells, of `tick` and `timeout` the third
-unfoldable pub eventBy : List ℕ → List ℕ → Event
+unfoldable eventBy : List ℕ → List ℕ → Event
 eventBy w c =
     pick (eqb (getD w 1 0) 104) (Check (getD c 0 0))
     (pick (eqb (getD w 0 0) 99) (Crash (getD c 0 0))
@@ -116,7 +116,7 @@ eventBy w c =
     (pick (eqb (getD w 0 0) 100) (Deliver (getD c 0 0) (getD c 1 0))
     (Lose (getD c 0 0) (getD c 1 0)))))))))
 
-pub by-name : (e : Event) → eventBy (nameOf e) (numbersOf e) ≡ e
+by-name : (e : Event) → eventBy (nameOf e) (numbersOf e) ≡ e
 unfolding eventBy nameOf pick
 by-name (Crash i) = refl
 by-name (Recover i) = refl
@@ -194,7 +194,7 @@ fits-small (Finish i t) f = omega arith
 fits-small (Deliver a b) f = omega arith
 fits-small (Lose a b) f = omega arith
 
-pub accepted-small : (s : State) (l : List Event) → AcceptedFrom s l → All SmallNumbers l
+accepted-small : (s : State) (l : List Event) → AcceptedFrom s l → All SmallNumbers l
 accepted-small s [] a = tt
 accepted-small s (e ∷ l) a = (fits-small e (accepted-fits s e (a .0)), accepted-small (after s e) l (a .1))
 

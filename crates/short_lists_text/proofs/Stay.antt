@@ -1,7 +1,7 @@
 -- Lists that a step makes which does the same at the first events of a run; T-06 takes none of T-01's lists away, as none of their events meets 18.
 use Prim.Native.Nat.{ℕ, zero, suc, _+_, _≤_, _<_}
 use native.Mathlib.Omega.{arith}
-use mathlib.Core.Path.{_≡_, refl, sym, _∙_, ap, ap₂, subst}
+use mathlib.Core.Path.{_≡_, refl, sym, _∙_, ap, subst}
 use mathlib.Core.List.{List, [], _∷_, _++_, map}
 use lib.ListN.{length, length-append}
 use borrow.Author.Tests.{eqb-true}
@@ -13,7 +13,6 @@ use Rattle.model.proofs.Whole.{run-append}
 use Rattle.model.proofs.Checks.{check-rules}
 use Rattle.model.specs.declared.Event.{Event}
 use Rattle.listing.specs.Printing.{joined}
-use Rattle.short_lists_text.specs.Rows.{concatMap}
 use Rattle.short_lists_text.specs.Lists.{alphabet, continued, listsFrom}
 use Rattle.short_lists_text.specs.Text.{linesOf, textOf}
 use Rattle.short_lists_text.specs.Claims.{listsBy, formerResult, stepWithoutEighteen, ListsStay}

@@ -2,7 +2,6 @@
 use borrow.Author.Needs.{needs}
 use borrow.Author.Tests.{not-true, not-false}
 use mathlib.Core.Path.{sym, _∙_}
-use denote.Ref.{now}
 use Rattle.short_lists_text.proofs.Refuses.{two-bytes, fits-are}
 use Rattle.list_tree.proofs.Whole.{printed-refusal, printed-tree}
 use Rattle.list_tree.proofs.put_text.Statement.{statement}

@@ -2,9 +2,8 @@
 use borrow.Author.Needs.{needs}
 use Prim.Native.Nat.{_-_, _≤_}
 use native.Mathlib.Omega.{arith}
-use mathlib.Core.Path.{_≡_, refl, _∙_}
+use mathlib.Core.Path.{_≡_, refl}
 use mathlib.Core.List.{_++_, map}
-use denote.Ref.{now}
 use lib.ListN.{length, take, drop, length-set}
 use Rattle.aldebaran_text.specs.Text.{capital}
 use Rattle.list_tree.proofs.Capitals.{changed-turn, changed-end}
