@@ -42,7 +42,7 @@ pub struct Edge {
     pub target: u64,
 }
 
-/// Where a text breaks the format's rules first.
+/// Where a text breaks the form's rules first.
 #[derive(Clone, Debug, PartialEq, Eq)]
 pub struct Fault {
     /// From 1.

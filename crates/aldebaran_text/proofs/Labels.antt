@@ -110,32 +110,18 @@ label-distinct e f g h q =
 
 -- ── how long ──
 
-name-short : (e : Event) → length (map capital (nameOf e)) ≤ 7
-unfolding nameOf
-name-short (Crash i) = omega arith
-name-short (Recover i) = omega arith
-name-short (Check i) = omega arith
-name-short (Timeout i) = omega arith
-name-short (Tick i) = omega arith
-name-short (Expire i) = omega arith
-name-short (Finish i t) = omega arith
-name-short (Deliver a b) = omega arith
-name-short (Lose a b) = omega arith
-
-numbers-short : (e : Event) → FitsBytes e → length (spaced (numbersOf e)) ≤ 10
-numbers-short (Crash i) f = let l = one-short f in omega arith
-numbers-short (Recover i) f = let l = one-short f in omega arith
-numbers-short (Check i) f = let l = one-short f in omega arith
-numbers-short (Timeout i) f = let l = one-short f in omega arith
-numbers-short (Tick i) f = let l = one-short f in omega arith
-numbers-short (Expire i) f = let l = one-short f in omega arith
-numbers-short (Finish i t) f = task-short (f .0) (f .1)
-numbers-short (Deliver a b) f = let l = two-short (f .0) (f .1) in omega arith
-numbers-short (Lose a b) f = let l = two-short (f .0) (f .1) in omega arith
-
-pub label-short : (e : Event) → FitsBytes e → length (label e) ≤ 17
-unfolding label
-label-short e f = let a = name-short e in let b = numbers-short e f in omega (arith, a, b, length-append (map capital (nameOf e)) (spaced (numbersOf e)))
+-- as in `FINISH 255 65535`
+pub label-short : (e : Event) → FitsBytes e → length (label e) ≤ 16
+unfolding label nameOf capital pick
+label-short (Crash i) f = let l = one-short f in omega arith
+label-short (Recover i) f = let l = one-short f in omega arith
+label-short (Check i) f = let l = one-short f in omega arith
+label-short (Timeout i) f = let l = one-short f in omega arith
+label-short (Tick i) f = let l = one-short f in omega arith
+label-short (Expire i) f = let l = one-short f in omega arith
+label-short (Finish i t) f = let l = task-short (f .0) (f .1) in omega arith
+label-short (Deliver a b) f = let l = two-short (f .0) (f .1) in omega arith
+label-short (Lose a b) f = let l = two-short (f .0) (f .1) in omega arith
 
 -- ── all of it ──
 

@@ -99,7 +99,7 @@ first-short t s g h =
     let b = decimal-32-long s h in
     simp length-append (omega arith)
 
-line-short : (x : Transition) → Fits x → length (transitionLine x) ≤ 46
+line-short : (x : Transition) → Fits x → length (transitionLine x) ≤ 45
 unfolding transitionLine
 line-short x f =
     let s = f .source in
@@ -109,7 +109,7 @@ line-short x f =
     let c = label-short (x .event) (f .event) in
     simp length-append (omega arith)
 
-lines-short : (xs : List Transition) → All Fits xs → length (joined (map transitionLine xs)) ≤ 46 * length xs
+lines-short : (xs : List Transition) → All Fits xs → length (joined (map transitionLine xs)) ≤ 45 * length xs
 unfolding joined
 lines-short [] a = omega arith
 lines-short (x ∷ xs) a =

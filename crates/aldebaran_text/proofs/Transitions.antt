@@ -19,7 +19,7 @@ use Rattle.short_lists_text.specs.Rows.{All}
 use Rattle.short_lists_text.specs.Lists.{isAccepted, AcceptedFrom, TaskFits, Legal}
 use Rattle.short_lists_text.proofs.Rows.{all-append}
 use Rattle.short_lists_text.proofs.Legal.{accepts-at}
-use Rattle.aldebaran_text.specs.System.{states, numberIn, Transition, withoutLast, lastOf, transitionInto, transitionsFrom, transitions}
+use Rattle.aldebaran_text.specs.System.{states, numberIn, Transition, withoutLast, lastOf, transitionInto, transitionsInto, transitions}
 use Rattle.aldebaran_text.specs.Claims.{StateBefore, listOf, transitionAt, IsTransition, HasTransition, AllTransitions, EveryTransition}
 use Rattle.aldebaran_text.proofs.Numbers.{at-place, ascending-at, number-of}
 use Rattle.aldebaran_text.proofs.States.{never-itself, all-states}
@@ -71,13 +71,13 @@ run-one s l e = run-append s l (e ∷ [])
 
 -- ── transitions by their places ──
 
-into-long : (ls : List (List Event)) (b : ℕ) (ms : List (List Event)) → length (transitionsFrom ls b ms) ≡ length ms
-unfolding transitionsFrom
+into-long : (ls : List (List Event)) (b : ℕ) (ms : List (List Event)) → length (transitionsInto ls b ms) ≡ length ms
+unfolding transitionsInto
 into-long ls b [] = refl
 into-long ls b (m ∷ ms) = ap suc (into-long ls (suc b) ms)
 
-into-at : (ls : List (List Event)) (b : ℕ) (ms : List (List Event)) (k : ℕ) (d : Transition) → k < length ms → getD (transitionsFrom ls b ms) k d ≡ transitionInto ls (b + k) (getD ms k [])
-unfolding transitionsFrom
+into-at : (ls : List (List Event)) (b : ℕ) (ms : List (List Event)) (k : ℕ) (d : Transition) → k < length ms → getD (transitionsInto ls b ms) k d ≡ transitionInto ls (b + k) (getD ms k [])
+unfolding transitionsInto
 into-at ls b [] k d h = absurd (omega arith)
 into-at ls b (m ∷ ms) zero d h = let z : b ≡ b + 0 = omega arith in ap (λ c. transitionInto ls c m) z
 into-at ls b (m ∷ ms) (suc k) d h = let z : suc b + k ≡ b + suc k = omega arith in into-at ls (suc b) ms k d (omega arith) ∙ ap (λ c. transitionInto ls c (getD ms k [])) z

@@ -55,7 +55,7 @@ pub record AldebaranCases : Type 0 where
       ++ (bytes "(7, \"CRASH 1\", 16)\n(7, \"CHECK 1\", 17)\n(7, \"TIMEOUT 1\", 18)\n(8, \"CRASH 1\", 19)\n(8, \"CHECK 1\", 20)\n(8, \"TIMEOUT 1\", 21)\n"
       ++ (bytes "(9, \"RECOVER 1\", 22)\n(10, \"CRASH 1\", 23)\n(10, \"CHECK 1\", 24)\n(10, \"TIMEOUT 1\", 25)\n"
       ++ bytes "(11, \"CRASH 1\", 26)\n(11, \"CHECK 1\", 27)\n(11, \"TIMEOUT 1\", 28)\n")))))
-  -- numbers of three digits, as the text for three nodes and L = 4 has them; a tick or a finish is in none of the vectors' texts, four events are too few for them
+  -- numbers of three digits, as the text for three nodes and L = 4 has them; a tick or a finish is in none of the 15 texts, four events are too few for them
   pub first-line : firstLine 600 601 ≡ bytes "des (0, 600, 601)\n"
   pub line : transitionLine (transition 25 (Deliver 1 2) 140) ≡ bytes "(25, \"DELIVER 1 2\", 140)\n"
   -- "the event's name in capitals and its numbers, parted by single spaces"

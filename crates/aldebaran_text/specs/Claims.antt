@@ -84,7 +84,7 @@ pub record HasTransition (m : ℕ) (s : State) (a : ℕ) (e : Event) : Type 0 wh
   pub event : transitionAt m s place .event ≡ e
 
 pub record AllTransitions (m : ℕ) (s : State) : Type 0 where
-  -- t = s - 1
+  -- there is one less than there are states: of the text's two counts, t = s - 1
   pub count : countOf m s + 1 ≡ length (states m s)
   -- "ordered by b": line k + 1 behind the first is that of the transition into the state k + 1
   pub each : (k : ℕ) → k < countOf m s → IsTransition m s (k + 1) (transitionAt m s k)
@@ -109,7 +109,7 @@ pub record LabelIs : Type 0 where
   pub finish : (i : ℕ) (t : TaskNo) → label (Finish i t) ≡ bytes "FINISH " ++ (decimal i ++ (bytes " " ++ decimal (t .number)))
   pub deliver : (a b : ℕ) → label (Deliver a b) ≡ bytes "DELIVER " ++ (decimal a ++ (bytes " " ++ decimal b))
   pub lose : (a b : ℕ) → label (Lose a b) ≡ bytes "LOSE " ++ (decimal a ++ (bytes " " ++ decimal b))
-  -- what a reader asks of a label between quotation marks: neither a quotation mark (34) nor a line's end (10) is in it
+  -- two things that a reader asks of a label between quotation marks: neither a quotation mark (34) nor a line's end (10) is in it
   pub quotable : (e : Event) → All (λ b. (b ≡ 34 → ⊥) × (b ≡ 10 → ⊥)) (label e)
   -- different events whose numbers are below 2 ^ 32 have different labels
   pub distinct : (e f : Event) → SmallNumbers e → SmallNumbers f → label e ≡ label f → e ≡ f

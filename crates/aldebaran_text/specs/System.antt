@@ -68,10 +68,10 @@ abbrev pub transitionInto : List (List Event) → ℕ → List Event → Transit
 transitionInto ls b l = transition (numberIn ls (withoutLast l)) (lastOf l) b
 
 -- the transitions into states with these lists, of which the first has the number b
-unfoldable pub transitionsFrom : List (List Event) → ℕ → List (List Event) → List Transition
-transitionsFrom ls b [] = []
-transitionsFrom ls b (l ∷ more) = transitionInto ls b l ∷ transitionsFrom ls (suc b) more
+unfoldable pub transitionsInto : List (List Event) → ℕ → List (List Event) → List Transition
+transitionsInto ls b [] = []
+transitionsInto ls b (l ∷ more) = transitionInto ls b l ∷ transitionsInto ls (suc b) more
 
 -- all of them, "ordered by b": one into each state but 0
 unfoldable pub transitions : List (List Event) → List Transition
-transitions ls = transitionsFrom ls 1 (drop 1 ls)
+transitions ls = transitionsInto ls 1 (drop 1 ls)

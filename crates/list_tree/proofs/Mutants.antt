@@ -1,4 +1,4 @@
--- Each wrong program prints another byte than the text has at some place.
+-- Each wrong program prints another byte than the text has at some place, or another number of bytes.
 use Prim.Native.Nat.{ℕ, _+_}
 use native.Mathlib.Omega.{arith}
 use mathlib.Core.Path.{_≡_, sym, _∙_, ap}
@@ -9,15 +9,15 @@ use Rattle.listing.specs.Ascii.{bytes}
 use Rattle.aldebaran_text.specs.Text.{textOf}
 use Rattle.aldebaran_text.proofs.Text.{text-some}
 use Rattle.aldebaran_text.proofs.Cases.{aldebaran-cases}
-use Rattle.list_tree.specs.Printed.{Printed}
+use Rattle.list_tree.specs.Printed.{SystemPrinted}
 use Rattle.list_tree.specs.Mutants.{Never, NoOtherText}
 
 -- what was written is the text
-shows : {l b o : List ℕ} {r : ℕ} → Printed l b o r → take r o ≡ textOf l
+shows : {l b o : List ℕ} {r : ℕ} → SystemPrinted l b o r → take r o ≡ textOf l
 shows {l} {b} {o} {r} p = ap (take r) (p .buffer) ∙ take-at (textOf l) (drop (0 + length (textOf l)) b) r (sym (p .count))
 
 -- the byte at place k of a text that is known
-byte : (k : ℕ) {l x t b o : List ℕ} {r : ℕ} → textOf l ≡ t → Printed l b o r → take r o ≡ x → getD t k 0 ≡ getD x k 0
+byte : (k : ℕ) {l x t b o : List ℕ} {r : ℕ} → textOf l ≡ t → SystemPrinted l b o r → take r o ≡ x → getD t k 0 ≡ getD x k 0
 byte k q p e = ap (λ (z : List ℕ). getD z k 0) (sym q ∙ (sym (shows p) ∙ e))
 
 none : (l : List ℕ) → Never l []

@@ -5,19 +5,19 @@ use mathlib.Core.Path.{_≡_}
 use mathlib.Core.List.{List, [], _∷_, _++_}
 use lib.ListN.{take}
 use Rattle.listing.specs.Ascii.{bytes}
-use Rattle.list_tree.specs.Printed.{Printed}
+use Rattle.list_tree.specs.Printed.{SystemPrinted}
 
 -- where the promise is met for the input l, the text is not x
 abbrev pub Never : List ℕ → List ℕ → Type 0
-Never l x = (b o : List ℕ) (r : ℕ) → Printed l b o r → take r o ≡ x → ⊥
+Never l x = (b o : List ℕ) (r : ℕ) → SystemPrinted l b o r → take r o ≡ x → ⊥
 
 pub record NoOtherText : Type 0 where
   -- the promise leaves nothing free: for one input and one buffer there is one answer, and one buffer after it
-  pub only : {l b o p : List ℕ} {r q : ℕ} → Printed l b o r → Printed l b p q → (o ≡ p) × (r ≡ q)
+  pub only : {l b o p : List ℕ} {r q : ℕ} → SystemPrinted l b o r → SystemPrinted l b p q → (o ≡ p) × (r ≡ q)
   -- one that prints nothing
   pub silent : (l : List ℕ) → Never l []
   -- one that prints the same text for all inputs
-  pub same : {b c o p : List ℕ} {r q : ℕ} → Printed (1 ∷ 0 ∷ []) b o r → Printed (1 ∷ 1 ∷ []) c p q → take r o ≡ take q p → ⊥
+  pub same : {b c o p : List ℕ} {r q : ℕ} → SystemPrinted (1 ∷ 0 ∷ []) b o r → SystemPrinted (1 ∷ 1 ∷ []) c p q → take r o ≡ take q p → ⊥
   -- one that turns every input away
   pub turns-away : Never (1 ∷ 0 ∷ []) (bytes "stopped 0 22\n")
   -- one that refuses with T-01's number, and one that takes a length that T-01 takes

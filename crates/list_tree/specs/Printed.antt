@@ -8,6 +8,6 @@ use Rattle.listing.specs.Printing.{written}
 use Rattle.aldebaran_text.specs.Text.{textOf}
 
 -- for the input l, where the buffer held b before and holds o after it, and r is answered
-pub record Printed (l b o : List ℕ) (r : ℕ) : Type 0 where
+pub record SystemPrinted (l b o : List ℕ) (r : ℕ) : Type 0 where
   pub count : r ≡ length (textOf l)
   pub buffer : o ≡ written b 0 (textOf l)

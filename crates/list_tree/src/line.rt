@@ -1,4 +1,4 @@
-// The text of a tree in the Aldebaran form, written into the free end of a lent buffer, in which each function asks for the room that it needs.
+// The text of a tree in the Aldebaran form, written into the free end of a lent buffer, in which each function asks for the room that it needs. Each answers the offset behind what it wrote.
 ghost use mathlib.Core.Path.{_≡_};
 ghost use mathlib.Core.List.{map, _++_};
 ghost use Prim.Native.Nat.{_+_, _≤_};

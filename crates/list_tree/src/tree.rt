@@ -12,7 +12,7 @@ ghost use Rattle.list_tree.specs.Tree.{listsIn, extended, nextOf, Sound,
 use model::Event;
 use model::Table;
 
-// With three nodes and lists of up to four events there are 601 states, and so 600 edges; all others have fewer.
+// With three nodes and lists of up to four events there are 601 states, and so 600 edges; with fewer nodes or shorter lists there are fewer.
 const EDGES: usize = 600;
 
 // How a state is reached: from the state `source`, by the event.
@@ -44,7 +44,7 @@ fn root(n: u8) -> Tree
     }
 }
 
-// One state more.
+// One state more, reached from the state a by e.
 fn with_edge(t: Tree, a: usize, e: Event) -> Tree
     requires { ⌜ Sound t × (t .count < 600) × (a ≤ t .count) ⌝ }
     ensures { λ r. ⌜ Extends t ((getD (listsIn t) a [] ++ (e ∷ [])) ∷ []) r ⌝ }

@@ -46,7 +46,7 @@ unfoldable pub joined : List (List ℕ) → List ℕ
 joined [] = []
 joined (x ∷ xs) = x ++ joined xs
 
--- s behind the first p bytes of b: o has both before r, and is as long as b
+-- s behind the first p bytes of b: o has both before r, is as long as b, and has what b has from r on
 pub record Appended (b : List ℕ) (p : ℕ) (s : List ℕ) (o : List ℕ) (r : ℕ) : Type 0 where
   pub long : length o ≡ length b
   pub next : r ≡ p + length s

@@ -3,7 +3,7 @@
 //!
 //! NAME: states 5, transitions 4, labels 4, deterministic, deadlocks 3, depth 2, tree
 //!
-//! or, on standard error, where it breaks the format's rules, which edge it repeats or which state it
+//! or, on standard error, where it breaks the form's rules, which edge it repeats or which state it
 //! does not reach; and last `N passed, M failed`. The exit code is 1 if a system failed and 2 if a file
 //! could not be read; it counts as failed, and the others are read all the same.
 

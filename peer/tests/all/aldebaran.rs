@@ -2,12 +2,12 @@
 //! has nothing wrong and any other text has, the inputs that are refused, and the program where it can't read or write.
 
 use crate::programs::{cannot_read, cannot_write, prints_texts, refuses_wrong_inputs};
-use peer::aldebaran::{print, read_input, states, text, REFUSAL};
+use peer::aldebaran::{states, text, REFUSAL};
 use peer::aldebaran_reading::read;
 use peer::sha256::sha256;
 use peer::short;
 use peer::two_bytes::ALDEBARAN;
-use peer::vectors::{read_sums, read_wrong_inputs};
+use peer::vectors::read_sums;
 use std::path::PathBuf;
 
 #[test]

@@ -7,9 +7,9 @@ use crate::programs::{
 use peer::list::write_event;
 use peer::machine::{step, Event, Table, TOWER};
 use peer::sha256::sha256;
-use peer::short::{self, alphabet, print, print_lists, read_input, Counts, REFUSAL};
+use peer::short::{self, alphabet, print, print_lists, Counts, REFUSAL};
 use peer::two_bytes::SHORT_LISTS;
-use peer::vectors::{read_hex, read_sums, read_wrong_inputs, table_text, write_hex};
+use peer::vectors::{read_hex, read_sums, table_text, write_hex};
 use std::collections::BTreeMap;
 use std::path::PathBuf;
 
