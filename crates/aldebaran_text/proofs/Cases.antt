@@ -8,17 +8,18 @@ use Rattle.model.specs.Range.{activityInRange, nodeInRange, messageInRange, cou
 use Rattle.model.specs.State.{waits, oldest, withoutOldest, howMany, every, upTo, countsInRange, trafficInRange, inRange}
 use Rattle.model.specs.Grounds.{judged}
 use Rattle.model.specs.Step.{reactionTo, remaining, effect, grounds, step, runFrom}
+use Rattle.number_bytes.specs.Bytes.{sameBytes}
 use Rattle.listing.specs.Decimal.{digits, decimal}
 use Rattle.listing.specs.Lines.{row, stoppedLine}
 use Rattle.listing.specs.Printing.{joined}
 use Rattle.short_lists_text.specs.Lists.{upFrom, without, pairsOf, alphabet, listsFrom}
 use Rattle.short_lists_text.specs.Text.{nameOf, spaced, fitsTo}
-use Rattle.aldebaran_text.specs.System.{states, sameEvent, sameList, numberIn, transitionsInto, transitions}
+use Rattle.aldebaran_text.specs.System.{states, sameEvent, sameList, numberIn, numbered, transitions}
 use Rattle.aldebaran_text.specs.Text.{capital, label, firstLine, transitionLine, textOf}
 use Rattle.aldebaran_text.specs.Cases.{AldebaranCases}
 
 pub aldebaran-cases : AldebaranCases
-unfolding pick onesIn ones leadingZeros inviteNext merges handNext finishes forwardNext askedAll askAt askAfter checked timedOut ticked expired resumed onAreYouCoordinator onAreYouThere onInvitation onAccept onReady onReply received react activityInRange nodeInRange messageInRange countInRange waits oldest withoutOldest howMany every upTo countsInRange trafficInRange inRange reactionTo remaining effect grounds judged step runFrom digits decimal row stoppedLine joined upFrom without pairsOf alphabet listsFrom nameOf spaced states sameEvent sameList numberIn transitionsInto transitions capital label firstLine transitionLine fitsTo textOf
+unfolding pick onesIn ones leadingZeros inviteNext merges handNext finishes forwardNext askedAll askAt askAfter checked timedOut ticked expired resumed onAreYouCoordinator onAreYouThere onInvitation onAccept onReady onReply received react activityInRange nodeInRange messageInRange countInRange waits oldest withoutOldest howMany every upTo countsInRange trafficInRange inRange reactionTo remaining effect grounds judged step runFrom digits decimal row stoppedLine joined upFrom without pairsOf alphabet listsFrom nameOf spaced states sameBytes sameEvent sameList numberIn numbered transitions capital label firstLine transitionLine fitsTo textOf
 aldebaran-cases =
     record {
       none = refl;

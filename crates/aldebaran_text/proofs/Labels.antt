@@ -2,8 +2,8 @@
 use Prim.Native.Nat.{ℕ, _+_, _≤_, _<_}
 use native.Mathlib.Omega.{arith}
 use mathlib.Core.Path.{_≡_, refl, sym, _∙_, ap}
-use mathlib.Core.List.{List, [], _∷_, _++_, append-nil, map}
-use lib.ListN.{length, length-append}
+use mathlib.Core.List.{List, [], _∷_, _++_, map}
+use lib.ListN.{length}
 use borrow.Author.Tests.{lt-leb}
 use Rattle.model.specs.Pick.{pick, pick-false}
 use Rattle.model.specs.declared.TaskNo.{TaskNo}
@@ -15,20 +15,15 @@ use Rattle.listing.specs.Decimal.{decimal}
 use Rattle.listing.proofs.Parted.{Each, each-append, each-map, parted}
 use Rattle.short_lists_text.specs.Text.{nameOf, numbersOf, spaced, eventText}
 use Rattle.short_lists_text.specs.Claims.{FitsBytes, SmallNumbers}
-use Rattle.short_lists_text.proofs.Spaced.{one-short, two-short, task-short}
+use Rattle.short_lists_text.proofs.Spaced.{spaced-one, spaced-two, one-short, two-short, task-short}
 use Rattle.short_lists_text.proofs.Lines.{Digit, decimal-digits, spaced-stops, event-same, all-of-each}
 use Rattle.aldebaran_text.specs.Text.{capital, label}
 use Rattle.aldebaran_text.specs.Claims.{LabelIs}
 
 -- ── each event's ──
 
-one-number : (i : ℕ) → spaced (i ∷ []) ≡ bytes " " ++ decimal i
-unfolding spaced
-one-number i = ap (λ (l : List ℕ). bytes " " ++ l) (append-nil (decimal i))
-
 two-numbers : (i x : ℕ) → spaced (i ∷ x ∷ []) ≡ bytes " " ++ (decimal i ++ (bytes " " ++ decimal x))
-unfolding spaced
-two-numbers i x = ap (λ (l : List ℕ). bytes " " ++ (decimal i ++ (bytes " " ++ l))) (append-nil (decimal x))
+two-numbers i x = spaced-two i x ∙ ap (λ (l : List ℕ). l ++ (32 ∷ decimal x)) (spaced-one i)
 
 -- ── its letters ──
 
@@ -128,12 +123,12 @@ label-short (Lose a b) f = let l = two-short (f .0) (f .1) in omega arith
 pub label-is : LabelIs
 unfolding label nameOf capital pick
 label-is = record {
-  crash = λ i. ap (λ (l : List ℕ). bytes "CRASH" ++ l) (one-number i);
-  recover = λ i. ap (λ (l : List ℕ). bytes "RECOVER" ++ l) (one-number i);
-  check = λ i. ap (λ (l : List ℕ). bytes "CHECK" ++ l) (one-number i);
-  timeout = λ i. ap (λ (l : List ℕ). bytes "TIMEOUT" ++ l) (one-number i);
-  tick = λ i. ap (λ (l : List ℕ). bytes "TICK" ++ l) (one-number i);
-  expire = λ i. ap (λ (l : List ℕ). bytes "EXPIRE" ++ l) (one-number i);
+  crash = λ i. ap (λ (l : List ℕ). bytes "CRASH" ++ l) (spaced-one i);
+  recover = λ i. ap (λ (l : List ℕ). bytes "RECOVER" ++ l) (spaced-one i);
+  check = λ i. ap (λ (l : List ℕ). bytes "CHECK" ++ l) (spaced-one i);
+  timeout = λ i. ap (λ (l : List ℕ). bytes "TIMEOUT" ++ l) (spaced-one i);
+  tick = λ i. ap (λ (l : List ℕ). bytes "TICK" ++ l) (spaced-one i);
+  expire = λ i. ap (λ (l : List ℕ). bytes "EXPIRE" ++ l) (spaced-one i);
   finish = λ i t. ap (λ (l : List ℕ). bytes "FINISH" ++ l) (two-numbers i (t .number));
   deliver = λ a b. ap (λ (l : List ℕ). bytes "DELIVER" ++ l) (two-numbers a b);
   lose = λ a b. ap (λ (l : List ℕ). bytes "LOSE" ++ l) (two-numbers a b);

@@ -1,36 +1,24 @@
--- The number of a list among others: the test of equal lists, and places in lists that ascend.
-use Prim.Native.Nat.{ℕ, zero, suc, _<_}
+-- The number of a list among others: the test of equal lists, places in lists that ascend, and what is numbered.
+use Prim.Native.Nat.{ℕ, zero, suc, _+_, _<_}
 use native.Mathlib.Omega.{arith}
 use mathlib.Core.Bool.{Bool, true, false, true≢false}
 use mathlib.Core.Path.{_≡_, refl, sym, _∙_, ap, subst}
 use mathlib.Core.Logic.{inl, inr}
-use mathlib.Core.List.{List, [], _∷_}
+use mathlib.Core.List.{List, [], _∷_, _++_}
 use lib.Dec.{eqb}
 use lib.ListN.{length, getD}
 use borrow.Author.Tests.{eqb-true, eq-eqb}
 use Rattle.model.specs.Pick.{pick, pick-true, pick-false}
 use Rattle.model.specs.declared.Event.{Event}
 use Rattle.model.proofs.Local.{both-left, both-right}
+use Rattle.number_bytes.proofs.Same.{same-self, same-is}
 use Rattle.short_lists_text.specs.Rows.{Among, All, Ascending}
 use Rattle.short_lists_text.specs.Order.{tag, contents}
 use Rattle.short_lists_text.proofs.Order.{same-event}
 use Rattle.short_lists_text.proofs.Rows.{all-of}
-use Rattle.aldebaran_text.specs.System.{sameNumbers, sameEvent, sameList, numberIn}
+use Rattle.aldebaran_text.specs.System.{sameEvent, sameList, numberIn, numbered}
 
 -- ── the same list ──
-
-numbers-same : (xs ys : List ℕ) → sameNumbers xs ys ≡ true → xs ≡ ys
-numbers-same [] [] q = refl
-numbers-same [] (y ∷ ys) q = absurd (true≢false (sym q))
-numbers-same (x ∷ xs) [] q = absurd (true≢false (sym q))
-numbers-same (x ∷ xs) (y ∷ ys) q =
-    let h = eqb-true x y (both-left (eqb x y) _ q) in
-    let t = numbers-same xs ys (both-right (eqb x y) _ q) in
-    rw (h, t)
-
-numbers-self : (xs : List ℕ) → sameNumbers xs xs ≡ true
-numbers-self [] = refl
-numbers-self (x ∷ xs) = rw (eq-eqb x x refl) (numbers-self xs)
 
 pub list-same : (l m : List Event) → sameList l m ≡ true → l ≡ m
 unfolding sameList sameEvent
@@ -39,14 +27,14 @@ list-same [] (f ∷ fs) q = absurd (true≢false (sym q))
 list-same (e ∷ es) [] q = absurd (true≢false (sym q))
 list-same (e ∷ es) (f ∷ fs) q =
     let o = both-left (sameEvent e f) _ q in
-    let h = same-event e f (eqb-true (tag e) (tag f) (both-left (eqb (tag e) (tag f)) _ o)) (numbers-same (contents e) (contents f) (both-right (eqb (tag e) (tag f)) _ o)) in
+    let h = same-event e f (eqb-true (tag e) (tag f) (both-left (eqb (tag e) (tag f)) _ o)) (same-is (contents e) (contents f) (both-right (eqb (tag e) (tag f)) _ o)) in
     let t = list-same es fs (both-right (sameEvent e f) _ q) in
     rw (h, t)
 
 pub list-self : (l : List Event) → sameList l l ≡ true
 unfolding sameList sameEvent
 list-self [] = refl
-list-self (e ∷ es) = rw (eq-eqb (tag e) (tag e) refl, numbers-self (contents e)) (list-self es)
+list-self (e ∷ es) = rw (eq-eqb (tag e) (tag e) refl, same-self (contents e)) (list-self es)
 
 -- ── places ──
 
@@ -91,3 +79,24 @@ module _ (R : List Event → List Event → Type 0) (never : (l : List Event) �
   number-at [] a b h = absurd (omega arith)
   number-at (l ∷ ls) a zero h = rw (list-self l, pick-true)
   number-at (l ∷ ls) a (suc b) h = rw (other l (getD ls b []) (all-at (R l) [] ls b (a .0) (omega arith)), pick-false) (ap suc (number-at ls (a .1) b (omega arith)))
+
+-- ── what is numbered ──
+
+module _ {A B : Type 0} (f : ℕ → A → B) where
+  pub numbered-long : (b : ℕ) (xs : List A) → length (numbered f b xs) ≡ length xs
+  unfolding numbered
+  numbered-long b [] = refl
+  numbered-long b (x ∷ xs) = ap suc (numbered-long (suc b) xs)
+
+  pub numbered-at : (b : ℕ) (xs : List A) (k : ℕ) (d : B) (e : A) → k < length xs → getD (numbered f b xs) k d ≡ f (b + k) (getD xs k e)
+  unfolding numbered
+  numbered-at b [] k d e h = absurd (omega arith)
+  numbered-at b (x ∷ xs) zero d e h = let z : b ≡ b + 0 = omega arith in ap (λ c. f c x) z
+  numbered-at b (x ∷ xs) (suc k) d e h = let z : suc b + k ≡ b + suc k = omega arith in numbered-at (suc b) xs k d e (omega arith) ∙ ap (λ c. f c (getD xs k e)) z
+
+  pub numbered-more : (b : ℕ) (xs : List A) (x : A) → numbered f b (xs ++ (x ∷ [])) ≡ numbered f b xs ++ (f (b + length xs) x ∷ [])
+  unfolding numbered
+  numbered-more b [] x = let z : b ≡ b + 0 = omega arith in ap (λ c. f c x ∷ []) z
+  numbered-more b (y ∷ xs) x =
+      let z : suc b + length xs ≡ b + suc (length xs) = omega arith in
+      ap (λ l. f b y ∷ l) (numbered-more (suc b) xs x ∙ ap (λ c. numbered f (suc b) xs ++ (f c x ∷ [])) z)

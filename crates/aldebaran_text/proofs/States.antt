@@ -13,17 +13,12 @@ use Rattle.model.specs.declared.Event.{Event}
 use Rattle.short_lists_text.specs.Rows.{Among, All, Ascending}
 use Rattle.short_lists_text.specs.Order.{ListBefore}
 use Rattle.short_lists_text.specs.Lists.{listsFrom, Legal}
-use Rattle.short_lists_text.proofs.Rows.{all-of, all-weaken, all-append, among-left, among-right, ascending-append, alone}
+use Rattle.short_lists_text.proofs.Rows.{all-of, all-by, all-weaken, all-append, among-left, among-right, ascending-append, alone}
 use Rattle.short_lists_text.proofs.Order.{strict-order}
 use Rattle.short_lists_text.proofs.Whole.{all-lists}
 use Rattle.aldebaran_text.specs.System.{states}
 use Rattle.aldebaran_text.specs.Claims.{StateBefore, AllStates, EveryState}
 use Rattle.aldebaran_text.proofs.Numbers.{number-at}
-
--- what is so of each that is among them is so of all
-all-by : {A : Type 0} (P : A → Type 0) (xs : List A) → ((x : A) → Among x xs → P x) → All P xs
-all-by P [] f = tt
-all-by P (x ∷ xs) f = (f x (inl refl), all-by P xs (λ y m. f y (inr m)))
 
 -- ── only accepted lists ──
 

@@ -19,6 +19,7 @@ use Rattle.listing.proofs.Claims.{decimal-same}
 use Rattle.short_lists_text.specs.Rows.{All}
 use Rattle.short_lists_text.specs.Lists.{upFrom, listsFrom, isAccepted}
 use Rattle.short_lists_text.specs.Claims.{FitsBytes}
+use Rattle.short_lists_text.proofs.Few.{of-three}
 use Rattle.short_lists_text.proofs.Refuses.{not-two, no-nodes, too-many, too-long, allowed, fits-are, first-three}
 use Rattle.short_lists_text.proofs.Bytes.{accepted-fits}
 use Rattle.short_lists_text.proofs.Lines.{Digit, decimal-digits, fits-small, all-of-each}
@@ -42,11 +43,11 @@ up-to-four m s h = let z : m + (4 - m) ≡ 4 = omega arith in subst (λ k. lengt
 
 of-four : (n : ℕ) → 1 ≤ n → n ≤ 3 → length (states 4 (start n tower)) ≤ 601
 unfolding upFrom
-of-four zero p q = absurd (omega arith)
-of-four (suc zero) p q = let e = ap (λ l. getD l 4 0) (aldebaran-cases .states-of-one) in omega (arith, e)
-of-four (suc (suc zero)) p q = let e = ap (λ l. getD l 4 0) (aldebaran-cases .states-of-two) in omega (arith, e)
-of-four (suc (suc (suc zero))) p q = let e = ap (λ l. getD l 4 0) (aldebaran-cases .states-of-three) in omega (arith, e)
-of-four (suc (suc (suc (suc n)))) p q = absurd (omega arith)
+of-four =
+    of-three (λ n. length (states 4 (start n tower)) ≤ 601)
+    (let e = ap (λ l. getD l 4 0) (aldebaran-cases .states-of-one) in omega (arith, e))
+    (let e = ap (λ l. getD l 4 0) (aldebaran-cases .states-of-two) in omega (arith, e))
+    (let e = ap (λ l. getD l 4 0) (aldebaran-cases .states-of-three) in omega (arith, e))
 
 pub few : (n m : ℕ) → 1 ≤ n → n ≤ 3 → m ≤ 4 → length (states m (start n tower)) ≤ 601
 few n m p q h = let a = up-to-four m (start n tower) h in let b = of-four n p q in omega arith

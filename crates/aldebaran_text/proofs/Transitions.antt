@@ -19,9 +19,9 @@ use Rattle.short_lists_text.specs.Rows.{All}
 use Rattle.short_lists_text.specs.Lists.{isAccepted, AcceptedFrom, TaskFits, Legal}
 use Rattle.short_lists_text.proofs.Rows.{all-append}
 use Rattle.short_lists_text.proofs.Legal.{accepts-at}
-use Rattle.aldebaran_text.specs.System.{states, numberIn, Transition, withoutLast, lastOf, transitionInto, transitionsInto, transitions}
+use Rattle.aldebaran_text.specs.System.{states, numberIn, Transition, withoutLast, lastOf, transitionInto, transitions}
 use Rattle.aldebaran_text.specs.Claims.{StateBefore, listOf, transitionAt, IsTransition, HasTransition, AllTransitions, EveryTransition}
-use Rattle.aldebaran_text.proofs.Numbers.{at-place, ascending-at, number-of}
+use Rattle.aldebaran_text.proofs.Numbers.{at-place, ascending-at, number-of, numbered-long, numbered-at}
 use Rattle.aldebaran_text.proofs.States.{never-itself, all-states}
 
 -- ── a list and its last event ──
@@ -71,26 +71,15 @@ run-one s l e = run-append s l (e ∷ [])
 
 -- ── transitions by their places ──
 
-into-long : (ls : List (List Event)) (b : ℕ) (ms : List (List Event)) → length (transitionsInto ls b ms) ≡ length ms
-unfolding transitionsInto
-into-long ls b [] = refl
-into-long ls b (m ∷ ms) = ap suc (into-long ls (suc b) ms)
-
-into-at : (ls : List (List Event)) (b : ℕ) (ms : List (List Event)) (k : ℕ) (d : Transition) → k < length ms → getD (transitionsInto ls b ms) k d ≡ transitionInto ls (b + k) (getD ms k [])
-unfolding transitionsInto
-into-at ls b [] k d h = absurd (omega arith)
-into-at ls b (m ∷ ms) zero d h = let z : b ≡ b + 0 = omega arith in ap (λ c. transitionInto ls c m) z
-into-at ls b (m ∷ ms) (suc k) d h = let z : suc b + k ≡ b + suc k = omega arith in into-at ls (suc b) ms k d (omega arith) ∙ ap (λ c. transitionInto ls c (getD ms k [])) z
-
 pub transitions-long : (ls : List (List Event)) → length (transitions ls) ≡ length ls - 1
 unfolding transitions
-transitions-long ls = into-long ls 1 (drop 1 ls) ∙ length-drop 1 ls
+transitions-long ls = numbered-long (transitionInto ls) 1 (drop 1 ls) ∙ length-drop 1 ls
 
 pub transitions-at : (ls : List (List Event)) (k : ℕ) (d : Transition) → k + 1 < length ls → getD (transitions ls) k d ≡ transitionInto ls (k + 1) (getD ls (k + 1) [])
 unfolding transitions
 transitions-at ls k d h =
     let z : 1 + k ≡ k + 1 = omega arith in
-    into-at ls 1 (drop 1 ls) k d (omega (arith, h, length-drop 1 ls)) ∙ (ap (λ m. transitionInto ls (1 + k) m) (getD-drop 1 ls k []) ∙ ap (λ b. transitionInto ls b (getD ls b [])) z)
+    numbered-at (transitionInto ls) 1 (drop 1 ls) k d [] (omega (arith, h, length-drop 1 ls)) ∙ (ap (λ m. transitionInto ls (1 + k) m) (getD-drop 1 ls k []) ∙ ap (λ b. transitionInto ls b (getD ls b [])) z)
 
 -- ── of the states ──
 

@@ -10,6 +10,7 @@ use Rattle.model.specs.Pick.{pick}
 use Rattle.model.specs.State.{State}
 use Rattle.model.specs.declared.Event.{Event}
 use Rattle.model.specs.declared.Event.the-variants.{Crash}
+use Rattle.number_bytes.specs.Bytes.{sameBytes}
 use Rattle.short_lists_text.specs.Order.{tag, contents}
 use Rattle.short_lists_text.specs.Lists.{listsFrom}
 
@@ -22,16 +23,9 @@ states (suc m) s = states m s ++ listsFrom (suc m) s
 
 -- ── their numbers ──
 
--- the same numbers, one after another
-abbrev pub sameNumbers : List ℕ → List ℕ → Bool
-sameNumbers [] [] = true
-sameNumbers [] (y ∷ ys) = false
-sameNumbers (x ∷ xs) [] = false
-sameNumbers (x ∷ xs) (y ∷ ys) = eqb x y && sameNumbers xs ys
-
--- the same event: the same tag and the same contents, as in T-01's order
+-- the same event: the same tag and the same contents, the bytes that T-01's order compares
 unfoldable pub sameEvent : Event → Event → Bool
-sameEvent e f = eqb (tag e) (tag f) && sameNumbers (contents e) (contents f)
+sameEvent e f = eqb (tag e) (tag f) && sameBytes (contents e) (contents f)
 
 -- the same events, one after another
 unfoldable pub sameList : List Event → List Event → Bool
@@ -67,11 +61,11 @@ lastOf l = getD l (length l - 1) (Crash 0)
 abbrev pub transitionInto : List (List Event) → ℕ → List Event → Transition
 transitionInto ls b l = transition (numberIn ls (withoutLast l)) (lastOf l) b
 
--- the transitions into states with these lists, of which the first has the number b
-unfoldable pub transitionsInto : List (List Event) → ℕ → List (List Event) → List Transition
-transitionsInto ls b [] = []
-transitionsInto ls b (l ∷ more) = transitionInto ls b l ∷ transitionsInto ls (suc b) more
+-- f of each of them and of its number, where the first has the number b
+unfoldable pub numbered : {A B : Type 0} → (ℕ → A → B) → ℕ → List A → List B
+numbered f b [] = []
+numbered f b (x ∷ xs) = f b x ∷ numbered f (suc b) xs
 
 -- all of them, "ordered by b": one into each state but 0
 unfoldable pub transitions : List (List Event) → List Transition
-transitions ls = transitionsInto ls 1 (drop 1 ls)
+transitions ls = numbered (transitionInto ls) 1 (drop 1 ls)

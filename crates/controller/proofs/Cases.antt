@@ -6,8 +6,8 @@ use Rattle.model.specs.Grounds.{judged}
 use Rattle.model.specs.Procedures.{inviteNext, merges, handNext, finishes, forwardNext, askedAll, askAt, askAfter}
 use Rattle.model.specs.React.{checked, timedOut, ticked, expired, resumed, onAreYouCoordinator, onAreYouThere, onInvitation, onAccept, onReady, onReply, received, react}
 use Rattle.model.specs.Range.{activityInRange, nodeInRange, messageInRange}
-use Rattle.number_bytes.specs.Bytes.{number, bytes}
-use Rattle.message_fields.specs.Fields.{fields, messageIn, sameBytes, isMessage}
+use Rattle.number_bytes.specs.Bytes.{number, bytes, sameBytes}
+use Rattle.message_fields.specs.Fields.{fields, messageIn, isMessage}
 use Rattle.controller.specs.Controller.{reactionIn, controllerGrounds, controllerStep}
 use Rattle.controller.specs.Network.{waitsIn, oldestIn, withoutIn, stepBy, runBy}
 use Rattle.controller.specs.Cases.{ControllerCases}

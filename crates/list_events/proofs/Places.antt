@@ -12,6 +12,7 @@ use Rattle.model.specs.Pick.{pick}
 use Rattle.model.specs.declared.Event.{Event}
 use Rattle.model.specs.declared.Event.the-variants.{Crash}
 use Rattle.short_lists_text.specs.Lists.{upFrom, without, pairsOf, alphabet}
+use Rattle.short_lists_text.proofs.Few.{of-three}
 use Rattle.list_events.specs.Events.{sizeOf, eventAt, single, receiver, eventCount, eventBy, ByPlace}
 
 map-at : (f : ℕ → Event) (k c i : ℕ) (d : Event) → i < c → getD (map f (upFrom k c)) i d ≡ f (k + i)
@@ -35,14 +36,6 @@ three-nodes = refl
 at-place : (n c i : ℕ) → alphabet n ≡ map (eventBy n) (upFrom 0 c) → i < c → eventAt n i ≡ eventBy n i
 unfolding eventAt
 at-place n c i q h = let z : 0 + i ≡ i = omega arith in ap (λ l. getD l i (Crash 0)) q ∙ (map-at (eventBy n) 0 c i (Crash 0) h ∙ ap (eventBy n) z)
-
--- what holds of 1, 2 and 3
-pub of-three : (P : ℕ → Type 0) → P 1 → P 2 → P 3 → (n : ℕ) → 1 ≤ n → n ≤ 3 → P n
-of-three P a b c zero h k = absurd (omega arith)
-of-three P a b c (suc zero) h k = a
-of-three P a b c (suc (suc zero)) h k = b
-of-three P a b c (suc (suc (suc zero))) h k = c
-of-three P a b c (suc (suc (suc (suc n)))) h k = absurd (omega arith)
 
 sizes : (n : ℕ) → 1 ≤ n → n ≤ 3 → sizeOf n ≡ eventCount n
 unfolding pick upFrom without pairsOf alphabet

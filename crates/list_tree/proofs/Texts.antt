@@ -1,5 +1,5 @@
 -- The text of a tree: one line more; and where its lists are the states of a system, it is the system's text.
-use Prim.Native.Nat.{ℕ, zero, suc, _+_, _≤_, _<_}
+use Prim.Native.Nat.{ℕ, suc, _+_, _≤_, _<_}
 use native.Mathlib.Omega.{arith}
 use mathlib.Core.Path.{_≡_, refl, sym, _∙_, ap}
 use mathlib.Core.List.{List, [], _∷_, _++_, append-nil, map}
@@ -11,11 +11,12 @@ use Rattle.listing.specs.Printing.{joined, Appended}
 use Rattle.short_lists_text.proofs.Counts.{joined-last}
 use Rattle.aldebaran_text.specs.System.{states, numberIn, Transition, transition, withoutLast, lastOf, transitions}
 use Rattle.aldebaran_text.specs.Text.{transitionLine, linesOf}
+use Rattle.aldebaran_text.proofs.Numbers.{numbered-long, numbered-at, numbered-more}
 use Rattle.aldebaran_text.proofs.States.{all-states}
 use Rattle.aldebaran_text.proofs.Transitions.{without-last, last-of, transitions-long, transitions-at}
 use Rattle.list_tree.specs.declared.tree.Edge.{Edge}
 use Rattle.list_tree.specs.declared.tree.Tree.{Tree}
-use Rattle.list_tree.specs.Tree.{reached, noEdge, edgesIn, listsIn, Sound, transitionsBy, treeLines}
+use Rattle.list_tree.specs.Tree.{reached, noEdge, edgesIn, listsIn, Sound, edgeInto, transitionsBy, treeLines}
 use Rattle.list_tree.proofs.Trees.{edges-long, lists-long, edge-at, list-at}
 
 -- ── lines one after another ──
@@ -23,46 +24,28 @@ use Rattle.list_tree.proofs.Trees.{edges-long, lists-long, edge-at, lis
 pub none-appended : (b : List ℕ) (p : ℕ) → p ≤ length b → Appended b p [] b p
 none-appended b p h = record { long = refl; next = omega arith; fits = h; text = sym (append-nil (take p b)); behind = refl }
 
-by-more : (b : ℕ) (xs : List Edge) (x : Edge) → transitionsBy b (xs ++ (x ∷ [])) ≡ transitionsBy b xs ++ (transition (x .source) (x .event) (b + length xs) ∷ [])
-unfolding transitionsBy
-by-more b [] x = let z : b ≡ b + 0 = omega arith in ap (λ c. transition (x .source) (x .event) c ∷ []) z
-by-more b (y ∷ xs) x =
-    let z : suc b + length xs ≡ b + suc (length xs) = omega arith in
-    ap (λ l. transition (y .source) (y .event) b ∷ l) (by-more (suc b) xs x ∙ ap (λ c. transitionsBy (suc b) xs ++ (transition (x .source) (x .event) c ∷ [])) z)
-
 pub line-more : (es : List Edge) (k : ℕ) → k < length es
-    → joined (map transitionLine (transitionsBy 1 (take (k + 1) es))) ≡ joined (map transitionLine (transitionsBy 1 (take k es))) ++ transitionLine (transition (getD es k noEdge .source) (getD es k noEdge .event) (k + 1))
+    → joined (map transitionLine (transitionsBy (take (k + 1) es))) ≡ joined (map transitionLine (transitionsBy (take k es))) ++ transitionLine (transition (getD es k noEdge .source) (getD es k noEdge .event) (k + 1))
 line-more es k h =
     let x = getD es k noEdge in
     let z : suc k ≡ k + 1 = omega arith in
     let l = length-take-le k es (omega arith) in
     let y : 1 + length (take k es) ≡ k + 1 = omega arith in
-    ap (λ j. joined (map transitionLine (transitionsBy 1 (take j es)))) (sym z)
-    ∙ (ap (λ (xs : List Edge). joined (map transitionLine (transitionsBy 1 xs))) (take-suc es k noEdge h)
-    ∙ (ap (λ (xs : List Transition). joined (map transitionLine xs)) (by-more 1 (take k es) x)
-    ∙ (ap joined (map-append transitionLine (transitionsBy 1 (take k es)) (transition (x .source) (x .event) (1 + length (take k es)) ∷ []))
-    ∙ (joined-last (map transitionLine (transitionsBy 1 (take k es))) (transitionLine (transition (x .source) (x .event) (1 + length (take k es))))
-    ∙ ap (λ c. joined (map transitionLine (transitionsBy 1 (take k es))) ++ transitionLine (transition (x .source) (x .event) c)) y))))
+    ap (λ j. joined (map transitionLine (transitionsBy (take j es)))) (sym z)
+    ∙ (ap (λ (xs : List Edge). joined (map transitionLine (transitionsBy xs))) (take-suc es k noEdge h)
+    ∙ (ap (λ (xs : List Transition). joined (map transitionLine xs)) (numbered-more edgeInto 1 (take k es) x)
+    ∙ (ap joined (map-append transitionLine (transitionsBy (take k es)) (transition (x .source) (x .event) (1 + length (take k es)) ∷ []))
+    ∙ (joined-last (map transitionLine (transitionsBy (take k es))) (transitionLine (transition (x .source) (x .event) (1 + length (take k es))))
+    ∙ ap (λ c. joined (map transitionLine (transitionsBy (take k es))) ++ transitionLine (transition (x .source) (x .event) c)) y))))
 
 -- ── the system's text ──
-
-by-long : (b : ℕ) (xs : List Edge) → length (transitionsBy b xs) ≡ length xs
-unfolding transitionsBy
-by-long b [] = refl
-by-long b (x ∷ xs) = ap suc (by-long (suc b) xs)
-
-by-at : (b : ℕ) (xs : List Edge) (k : ℕ) (d : Transition) → k < length xs → getD (transitionsBy b xs) k d ≡ transition (getD xs k noEdge .source) (getD xs k noEdge .event) (b + k)
-unfolding transitionsBy
-by-at b [] k d h = absurd (omega arith)
-by-at b (x ∷ xs) zero d h = let z : b ≡ b + 0 = omega arith in ap (transition (x .source) (x .event)) z
-by-at b (x ∷ xs) (suc k) d h = let z : suc b + k ≡ b + suc k = omega arith in by-at (suc b) xs k d (omega arith) ∙ ap (transition (getD xs k noEdge .source) (getD xs k noEdge .event)) z
 
 module _ (t : Tree) (ok : Sound t) (m : ℕ) (s : State) (q : listsIn t ≡ states m s) where
   long : length (states m s) ≡ t .count + 1
   long = sym (ap length q) ∙ lists-long t ok
 
   -- the edge into k + 1 is the transition into it: its source is the state of the list without the last event, since no list has two states
-  each : (k : ℕ) (d : Transition) → k < t .count → getD (transitionsBy 1 (edgesIn t)) k d ≡ getD (transitions (states m s)) k d
+  each : (k : ℕ) (d : Transition) → k < t .count → getD (transitionsBy (edgesIn t)) k d ≡ getD (transitions (states m s)) k d
   each k d h =
       let x = getD (t .edges) k noEdge in
       let f = ok .source-before k h in
@@ -75,16 +58,16 @@ module _ (t : Tree) (ok : Sound t) (m : ℕ) (s : State) (q : listsIn t ≡ stat
       in
       let b : lastOf (getD (states m s) (k + 1) []) ≡ x .event = ap lastOf e ∙ last-of (getD (states m s) (x .source) []) (x .event) in
       let z : 1 + k ≡ k + 1 = omega arith in
-      by-at 1 (edgesIn t) k d (omega (arith, h, edges-long t ok))
+      numbered-at edgeInto 1 (edgesIn t) k d noEdge (omega (arith, h, edges-long t ok))
       ∙ (ap (λ (y : Edge). transition (y .source) (y .event) (1 + k)) (edge-at t ok k h)
       ∙ (ap (transition (x .source) (x .event)) z
       ∙ (ap (λ i. transition i (x .event) (k + 1)) (sym a)
       ∙ (ap (λ g. transition (numberIn (states m s) (withoutLast (getD (states m s) (k + 1) []))) g (k + 1)) (sym b)
       ∙ sym (transitions-at (states m s) k d (omega (arith, h, long)))))))
 
-  transitions-are : transitionsBy 1 (edgesIn t) ≡ transitions (states m s)
+  transitions-are : transitionsBy (edgesIn t) ≡ transitions (states m s)
   transitions-are =
-      let c = by-long 1 (edgesIn t) ∙ edges-long t ok in
+      let c = numbered-long edgeInto 1 (edgesIn t) ∙ edges-long t ok in
       let e = transitions-long (states m s) in
       ext-getD (transition 0 (noEdge .event) 0) _ _ (omega (arith, c, e, long)) (λ i h. each i _ (omega (arith, h, c)))
 

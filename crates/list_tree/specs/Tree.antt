@@ -1,5 +1,5 @@
 -- What the code's tree means: the lists of its states; how it is extended; and its transitions. A node is 01's cabinet, and no part of the tree.
-use Prim.Native.Nat.{ℕ, suc, _+_, _≤_, _<_}
+use Prim.Native.Nat.{ℕ, _+_, _≤_, _<_}
 use mathlib.Core.Path.{_≡_}
 use mathlib.Core.List.{List, [], _∷_, _++_, map}
 use lib.ListN.{length, take, getD}
@@ -9,7 +9,7 @@ use Rattle.model.specs.declared.Event.{Event}
 use Rattle.model.specs.declared.Event.the-variants.{Crash}
 use Rattle.short_lists_text.specs.Rows.{concatMap}
 use Rattle.short_lists_text.specs.Lists.{alphabet}
-use Rattle.aldebaran_text.specs.System.{Transition, transition}
+use Rattle.aldebaran_text.specs.System.{Transition, transition, numbered}
 use Rattle.aldebaran_text.specs.Text.{firstLine, transitionLine}
 use Rattle.list_tree.specs.declared.tree.Edge.{Edge}
 use Rattle.list_tree.specs.declared.tree.Tree.{Tree}
@@ -72,11 +72,14 @@ pub record Extends (t : Tree) (more : List (List Event)) (r : Tree) : Type 0 whe
 
 -- ── its transitions ──
 
--- edges as transitions, of which the first leads into the state b
-unfoldable pub transitionsBy : ℕ → List Edge → List Transition
-transitionsBy b [] = []
-transitionsBy b (x ∷ xs) = transition (x .source) (x .event) b ∷ transitionsBy (suc b) xs
+-- the edge into the state b as a transition
+abbrev pub edgeInto : ℕ → Edge → Transition
+edgeInto b x = transition (x .source) (x .event) b
+
+-- edges as transitions, of which the first leads into the state 1
+abbrev pub transitionsBy : List Edge → List Transition
+transitionsBy xs = numbered edgeInto 1 xs
 
 -- its text's lines
 abbrev pub treeLines : Tree → List (List ℕ)
-treeLines t = firstLine (t .count) (t .count + 1) ∷ map transitionLine (transitionsBy 1 (edgesIn t))
+treeLines t = firstLine (t .count) (t .count + 1) ∷ map transitionLine (transitionsBy (edgesIn t))

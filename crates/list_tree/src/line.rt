@@ -88,7 +88,7 @@ fn put_transition(out: &mut [u8], at: usize, source: u32, e: Event, target: u32)
 // The lines of all transitions.
 fn put_transitions(out: &mut [u8], at: usize, t: Tree) -> usize
     requires { ⌜ Sound t × (at ≤ 32) × (length (now out) ≡ 32768) ⌝ }
-    ensures { λ r. ⌜ Appended (now (out .entry)) at (joined (map text.transitionLine (transitionsBy 1 (edgesIn t)))) (now (out .exit)) r ⌝ }
+    ensures { λ r. ⌜ Appended (now (out .entry)) at (joined (map text.transitionLine (transitionsBy (edgesIn t)))) (now (out .exit)) r ⌝ }
 {
     let count = t.count;
     let mut p = at;

@@ -2,8 +2,8 @@
 use mathlib.Core.Path.{refl}
 use Rattle.model.specs.Pick.{pick}
 use Rattle.model.specs.Range.{messageInRange}
-use Rattle.number_bytes.specs.Bytes.{number, bytes}
-use Rattle.message_fields.specs.Fields.{fields, messageIn, sameBytes, isMessage, reading}
+use Rattle.number_bytes.specs.Bytes.{number, bytes, sameBytes}
+use Rattle.message_fields.specs.Fields.{fields, messageIn, isMessage, reading}
 use Rattle.message_fields.specs.Claims.{FieldCases}
 
 pub field-cases : FieldCases

@@ -2,22 +2,23 @@
 use Prim.Native.Nat.{ℕ, zero, suc, _+_, _≤_, _<_}
 use native.Mathlib.Numerals.{add-one}
 use native.Mathlib.Omega.{arith}
-use mathlib.Core.Bool.{Bool, true, false, _&&_, true≢false}
-use mathlib.Core.Path.{_≡_, refl, sym, _∙_, ap}
+use mathlib.Core.Bool.{Bool, true, false, _&&_}
+use mathlib.Core.Path.{_≡_, refl, _∙_, ap}
 use mathlib.Core.List.{List, [], _∷_, _++_}
 use lib.Dec.{eqb, leb}
 use lib.ListN.{length, getD, take, drop, replicate, drop-of-length-le}
 use lib.Seq.{drop-cons, length-take-le, take-append-seam}
-use borrow.Author.Tests.{eqb-true, eq-eqb, ne-eqb, le-leb, lt-leb}
+use borrow.Author.Tests.{eq-eqb, ne-eqb, le-leb, lt-leb}
 use Rattle.model.specs.Pick.{pick}
 use Rattle.model.specs.Range.{carriesGroup}
 use Rattle.model.specs.declared.Message.{Message}
 use Rattle.model.proofs.Lists.{left-turn, left-end}
-use Rattle.model.proofs.Local.{both-left, both-right, right-fails}
-use Rattle.number_bytes.specs.Bytes.{bytes}
+use Rattle.model.proofs.Local.{right-fails}
+use Rattle.number_bytes.specs.Bytes.{bytes, sameBytes}
 use Rattle.number_bytes.proofs.Numbers.{written-over}
+use Rattle.number_bytes.proofs.Same.{same-lengths}
 use Rattle.message_fields.specs.declared.Packet.{Packet}
-use Rattle.message_fields.specs.Fields.{groupField, taskField, yesField, carriesTask, carriesYes, onlyIf, fields, mostBytes, sameBytes, Packed}
+use Rattle.message_fields.specs.Fields.{groupField, taskField, yesField, carriesTask, carriesYes, onlyIf, fields, mostBytes, Packed}
 use Rattle.message_fields.specs.Parts.{callFields}
 
 -- ── by the kind ──
@@ -103,25 +104,6 @@ pub unpacked : (p : Packet) (m : Message) → Packed p (fields m) → take (p .l
 unpacked p m h = rw (h .bytes, h .length, written-over (replicate mostBytes 0) (fields m) (at-most m)) (take-append-seam (fields m) _)
 
 -- ── the same bytes ──
-pub same-lengths : (xs ys : List ℕ) → (length xs ≡ length ys → ⊥) → sameBytes xs ys ≡ false
-unfolding sameBytes
-same-lengths [] [] h = absurd (h refl)
-same-lengths [] (y ∷ ys) h = refl
-same-lengths (x ∷ xs) [] h = refl
-same-lengths (x ∷ xs) (y ∷ ys) h = right-fails (eqb x y) (same-lengths xs ys (λ q. h (ap suc q)))
-
-pub same-self : (xs : List ℕ) → sameBytes xs xs ≡ true
-unfolding sameBytes
-same-self [] = refl
-same-self (x ∷ xs) = rw (eq-eqb x x refl) (same-self xs)
-
-pub same-is : (xs ys : List ℕ) → sameBytes xs ys ≡ true → xs ≡ ys
-unfolding sameBytes
-same-is [] [] h = refl
-same-is [] (y ∷ ys) h = absurd (true≢false (sym h))
-same-is (x ∷ xs) [] h = absurd (true≢false (sym h))
-same-is (x ∷ xs) (y ∷ ys) h = rw (eqb-true x y (both-left (eqb x y) _ h), same-is xs ys (both-right (eqb x y) _ h))
-
 -- at place i of s and of the first k of b
 module _ (s b : List ℕ) (k : ℕ) (h : k ≤ length b) (e : length s ≡ k) (i : ℕ) where
   pub same-turn : i < k → sameBytes (drop i s) (drop i (take k b)) ≡ eqb (getD s i 0) (getD b i 0) && sameBytes (drop (i + 1) s) (drop (i + 1) (take k b))

@@ -13,15 +13,16 @@ use Rattle.model.proofs.Fields.{IsGroup, message-facts}
 use Rattle.model.proofs.Range.{is-message}
 use Rattle.model.proofs.Local.{both-left, both-right}
 use Rattle.model.specs.declared.Message.{Message}
-use Rattle.number_bytes.specs.Bytes.{number, bytes, yesOf, yesNumber}
+use Rattle.number_bytes.specs.Bytes.{number, bytes, sameBytes, yesOf, yesNumber}
 use Rattle.number_bytes.proofs.Numbers.{read, one-is}
+use Rattle.number_bytes.proofs.Same.{same-self, same-is}
 use Rattle.number_bytes.proofs.Records.{yes-back, yes-small}
 use Rattle.message_fields.specs.declared.MessageRead.{MessageRead}
 use Rattle.message_fields.specs.declared.MessageRead.the-variants.{Wrong, Got}
-use Rattle.message_fields.specs.Fields.{field, groupField, taskField, yesField, carriesTask, carriesYes, fields, messageIn, sameBytes, isMessage, readNumber, reading, carried}
+use Rattle.message_fields.specs.Fields.{field, groupField, taskField, yesField, carriesTask, carriesYes, fields, messageIn, isMessage, readNumber, reading, carried}
 use Rattle.message_fields.specs.Parts.{callFields}
 use Rattle.message_fields.specs.Claims.{OneForm}
-use Rattle.message_fields.proofs.Forms.{Kind, low, middle, five, six, high, kind-of, no-group-low, no-group-high, a-group, plain-low, plain-high, grouped, ready, reply, at-most, same-self, same-is}
+use Rattle.message_fields.proofs.Forms.{Kind, low, middle, five, six, high, kind-of, no-group-low, no-group-high, a-group, plain-low, plain-high, grouped, ready, reply, at-most}
 
 -- ── read back ──
 

@@ -10,7 +10,7 @@ use lib.ListN.{length, replicate}
 use Rattle.model.specs.Pick.{pick}
 use Rattle.model.specs.Range.{carriesGroup, messageInRange}
 use Rattle.model.specs.declared.Message.{Message}
-use Rattle.number_bytes.specs.Bytes.{number, bytes, written, yesOf, yesNumber}
+use Rattle.number_bytes.specs.Bytes.{number, bytes, sameBytes, written, yesOf, yesNumber}
 use Rattle.message_fields.specs.declared.Packet.{Packet}
 use Rattle.message_fields.specs.declared.MessageRead.{MessageRead}
 use Rattle.message_fields.specs.declared.MessageRead.the-variants.{Wrong, Got}
@@ -80,13 +80,6 @@ messageIn l = record {
   task = record { number = pick (carriesTask (number 1 l 5)) (number 2 l 23) 0 };
   yes = carriesYes (number 1 l 5) && yesOf (number 1 l 16);
 }
-
--- the same bytes, as many and each the same
-unfoldable pub sameBytes : List ℕ → List ℕ → Bool
-sameBytes [] [] = true
-sameBytes [] (y ∷ ys) = false
-sameBytes (x ∷ xs) [] = false
-sameBytes (x ∷ xs) (y ∷ ys) = eqb x y && sameBytes xs ys
 
 -- The bytes are those of a message among n nodes. 20: "a message's bytes are not of that form, hold a number out of range or have the same sender and receiver". They are of that form where
 -- they are just the bytes of the message whose numbers stand in them: a wrong tag, order or length, a field that is missing, one too many or not carried by the kind, a yes or no that

@@ -22,7 +22,7 @@ ghost use Prim.Native.Nat.{_≤_};
 ghost use lib.ListN.{length, take};
 ghost use Rattle.model.specs.Pick.{pick};
 ghost use Rattle.model.specs.Range.{carriesGroup};
-ghost use Rattle.number_bytes.specs.Bytes.{number, written};
+ghost use Rattle.number_bytes.specs.Bytes.{number, sameBytes, written};
 ghost use Rattle.message_fields.specs.Fields as spec;
 ghost use Rattle.message_fields.specs.Parts.{fieldHead, callFields};
 
@@ -202,7 +202,7 @@ fn message_in(s: &[u8]) -> Message
 // Whether s has just the first k bytes of b.
 fn is_same(s: &[u8], b: [u8; 25], k: u8) -> bool
     requires { ⌜ k ≤ 25 ⌝ }
-    ensures { λ r. ⌜ r ≡ spec.sameBytes (now (s .entry)) (take k b) ⌝ }
+    ensures { λ r. ⌜ r ≡ sameBytes (now (s .entry)) (take k b) ⌝ }
 {
     let end = k as usize;
     if s.len() != end {

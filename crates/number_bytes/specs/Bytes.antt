@@ -1,7 +1,7 @@
--- Numbers as bytes, high byte first, and what else the byte forms of both machines' tables share: records of one size, bytes written over others, a status and a yes
+-- Numbers as bytes, high byte first, and what else several byte forms share: a test of equal bytes, records of one size, bytes written over others, a status and a yes
 -- or no as a number.
 use Prim.Native.Nat.{ℕ, zero, suc, _+_, _*_, _/_, _%_, _^_}
-use mathlib.Core.Bool.{Bool, true, false}
+use mathlib.Core.Bool.{Bool, true, false, _&&_}
 use mathlib.Core.List.{List, [], _∷_, _++_}
 use lib.Dec.{eqb, ltb}
 use lib.ListN.{length, getD, drop, set}
@@ -20,6 +20,13 @@ number (suc k) l at = getD l at 0 * 256 ^ k + number k l (at + 1)
 unfoldable pub bytes : ℕ → ℕ → List ℕ
 bytes zero x = []
 bytes (suc k) x = x / 256 ^ k % 256 ∷ bytes k x
+
+-- the same bytes, as many and each the same
+unfoldable pub sameBytes : List ℕ → List ℕ → Bool
+sameBytes [] [] = true
+sameBytes [] (y ∷ ys) = false
+sameBytes (x ∷ xs) [] = false
+sameBytes (x ∷ xs) (y ∷ ys) = eqb x y && sameBytes xs ys
 
 -- ── records of one size, one after another ──
 

@@ -22,6 +22,14 @@ use Rattle.short_lists_text.specs.Rows.{concatMap}
 use Rattle.short_lists_text.specs.Lists.{upFrom, nodesOf, without, pairsOf, alphabet, continued, listsFrom}
 use Rattle.short_lists_text.specs.Claims.{FewLists}
 
+-- what holds of 1, 2 and 3
+pub of-three : (P : ℕ → Type 0) → P 1 → P 2 → P 3 → (n : ℕ) → 1 ≤ n → n ≤ 3 → P n
+of-three P a b c zero h k = absurd (omega arith)
+of-three P a b c (suc zero) h k = a
+of-three P a b c (suc (suc zero)) h k = b
+of-three P a b c (suc (suc (suc zero))) h k = c
+of-three P a b c (suc (suc (suc (suc n)))) h k = absurd (omega arith)
+
 -- ── lengths ──
 
 rows-long : {A B : Type 0} (f : A → List B) (b : ℕ) → ((x : A) → length (f x) ≤ b) → (xs : List A) → length (concatMap f xs) ≤ length xs * b
@@ -31,11 +39,7 @@ rows-long f b h (x ∷ xs) = let r = rows-long f b h xs in let q = h x in simp l
 -- 7 events of each node, and 2 of each ordered pair
 alphabet-long : (n : ℕ) → 1 ≤ n → n ≤ 3 → length (alphabet n) ≤ 33
 unfolding alphabet pairsOf upFrom without pick
-alphabet-long zero a b = absurd (omega arith)
-alphabet-long (suc zero) a b = omega arith
-alphabet-long (suc (suc zero)) a b = omega arith
-alphabet-long (suc (suc (suc zero))) a b = omega arith
-alphabet-long (suc (suc (suc (suc n)))) a b = absurd (omega arith)
+alphabet-long = of-three (λ n. length (alphabet n) ≤ 33) (omega arith) (omega arith) (omega arith)
 
 -- ── from any table of at most three nodes ──
 
@@ -64,11 +68,7 @@ module _ (later : State → List (List Event)) where
 
   first-events : (n : ℕ) → 1 ≤ n → n ≤ 3 → concatMap (λ e. continued e (step (start n tower) e) later) (alphabet n) ≡ concatMap (recovered n) (nodesOf n)
   unfolding pick onesIn ones leadingZeros inviteNext merges handNext finishes forwardNext askedAll askAt askAfter checked timedOut ticked expired resumed onAreYouCoordinator onAreYouThere onInvitation onAccept onReady onReply received react activityInRange nodeInRange messageInRange countInRange waits oldest withoutOldest howMany every upTo countsInRange trafficInRange inRange reactionTo remaining effect grounds judged step upFrom without pairsOf alphabet
-  first-events zero p q = absurd (omega arith)
-  first-events (suc zero) p q = refl
-  first-events (suc (suc zero)) p q = refl
-  first-events (suc (suc (suc zero))) p q = refl
-  first-events (suc (suc (suc (suc n)))) p q = absurd (omega arith)
+  first-events = of-three (λ n. concatMap (λ e. continued e (step (start n tower) e) later) (alphabet n) ≡ concatMap (recovered n) (nodesOf n)) refl refl refl
 
 nodes-long : (k c : ℕ) → length (upFrom k c) ≡ c
 unfolding upFrom

@@ -2,7 +2,6 @@
 use Prim.Native.Nat.{ℕ, _^_, _≤_, _<_}
 use native.Mathlib.Omega.{arith}
 use mathlib.Core.Path.{_≡_, refl, sym, _∙_, ap, subst}
-use mathlib.Core.Logic.{inl, inr}
 use mathlib.Core.List.{List, [], _∷_, _++_, append-assoc, head-eq-of-cons-eq, tail-eq-of-cons-eq, map}
 use lib.Dec.{eqb}
 use lib.ListN.{length, getD, length-append}
@@ -18,12 +17,12 @@ use Rattle.listing.specs.Lines.{row}
 use Rattle.listing.proofs.Decimal.{decimal-each}
 use Rattle.listing.proofs.Parted.{Each, Stops, each-append, each-map, each-at, parted, Inside, IsLine, joined-same}
 use Rattle.listing.proofs.Claims.{decimal-same}
-use Rattle.short_lists_text.specs.Rows.{Among, All, Ascending}
+use Rattle.short_lists_text.specs.Rows.{All, Ascending}
 use Rattle.short_lists_text.specs.Order.{ListBefore}
 use Rattle.short_lists_text.specs.Lists.{listsFrom, AcceptedFrom}
 use Rattle.short_lists_text.specs.Text.{nameOf, numbersOf, spaced, eventText, moreText, eventsText, listLine, countLine, linesOf}
 use Rattle.short_lists_text.specs.Claims.{FitsBytes, SmallNumbers, ListLinesDetermine}
-use Rattle.short_lists_text.proofs.Rows.{alone}
+use Rattle.short_lists_text.proofs.Rows.{all-by, alone}
 use Rattle.short_lists_text.proofs.Order.{strict-order}
 use Rattle.short_lists_text.proofs.Whole.{all-lists}
 use Rattle.short_lists_text.proofs.Bytes.{accepted-fits}
@@ -225,11 +224,7 @@ lines-ascend [] a b = tt
 lines-ascend (l ∷ ls) a b = (lines-above l ls (a .0) (a .1) (b .0), lines-ascend ls (a .1) (b .1))
 
 all-small : (k : ℕ) (s : State) → All (All SmallNumbers) (listsFrom k s)
-all-small k s = from-among (listsFrom k s) (λ l m. accepted-small s l (all-lists k s .only l m .taken))
-  where
-    from-among : (ls : List (List Event)) → ((l : List Event) → Among l ls → All SmallNumbers l) → All (All SmallNumbers) ls
-    from-among [] f = tt
-    from-among (l ∷ ls) f = (f l (inl refl), from-among ls (λ m h. f m (inr h)))
+all-small k s = all-by (All SmallNumbers) (listsFrom k s) (λ l m. accepted-small s l (all-lists k s .only l m .taken))
 
 -- ── the text ──
 

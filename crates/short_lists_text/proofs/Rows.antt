@@ -11,6 +11,11 @@ pub all-of : {A : Type 0} (P : A → Type 0) (x : A) (xs : List A) → All P xs 
 all-of P x (y ∷ ys) a (inl e) = subst P (sym e) (a .0)
 all-of P x (y ∷ ys) a (inr m) = all-of P x ys (a .1) m
 
+-- what is so of each that is among them is so of all
+pub all-by : {A : Type 0} (P : A → Type 0) (xs : List A) → ((x : A) → Among x xs → P x) → All P xs
+all-by P [] f = tt
+all-by P (x ∷ xs) f = (f x (inl refl), all-by P xs (λ y m. f y (inr m)))
+
 pub all-weaken : {A : Type 0} (P Q : A → Type 0) (xs : List A) → ((x : A) → P x → Q x) → All P xs → All Q xs
 all-weaken P Q [] f a = tt
 all-weaken P Q (x ∷ xs) f a = (f x (a .0), all-weaken P Q xs f (a .1))

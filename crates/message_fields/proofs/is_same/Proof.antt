@@ -5,7 +5,7 @@ use mathlib.Core.Path.{_≡_, refl, sym, _∙_}
 use lib.ListN.{take, drop}
 use borrow.Author.Needs.{needs}
 use borrow.Author.Tests.{eq-eqb, ne-eqb}
-use Rattle.message_fields.specs.Fields.{sameBytes}
+use Rattle.number_bytes.specs.Bytes.{sameBytes}
 use Rattle.message_fields.proofs.Forms.{same-none, same-turn, same-end}
 use Rattle.message_fields.proofs.is_same.Statement.{statement}
 use Rattle.message_fields.proofs.is_same.Tie as tie

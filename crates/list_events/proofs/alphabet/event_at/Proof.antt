@@ -7,7 +7,8 @@ use borrow.Author.Tests.{lt-ltb, le-ltb}
 use mathlib.Core.Path.{_≡_}
 use Rattle.model.specs.Pick.{pick}
 use Rattle.list_events.specs.Events.{sizeOf, eventAt, pairCount, eventCount, eventBy}
-use Rattle.list_events.proofs.Places.{of-three, by-place}
+use Rattle.short_lists_text.proofs.Few.{of-three}
+use Rattle.list_events.proofs.Places.{by-place}
 use Rattle.list_events.proofs.alphabet.event_at.Statement.{statement}
 use Rattle.list_events.proofs.alphabet.event_at.Tie as tie
 

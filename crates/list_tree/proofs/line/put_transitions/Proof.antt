@@ -8,6 +8,7 @@ use denote.Ref.{now}
 use lib.ListN.{take}
 use Rattle.listing.specs.Printing.{joined, Appended}
 use Rattle.listing.proofs.Appended.{appended-twice}
+use Rattle.aldebaran_text.specs.System.{numbered}
 use Rattle.aldebaran_text.specs.Text.{transitionLine}
 use Rattle.list_tree.specs.Tree.{transitionsBy}
 use Rattle.list_tree.proofs.Texts.{none-appended, line-more}
@@ -15,13 +16,13 @@ use Rattle.list_tree.proofs.line.put_transitions.Statement.{statement}
 use Rattle.list_tree.proofs.line.put_transitions.Tie as tie
 
 abbrev Inv-loop : tie.InvT-loop
-Inv-loop out₀ at t count p₀ k₀ out p k = (k ≤ count) × (p ≤ at + 45 * k) × Appended out₀ at (joined (map transitionLine (transitionsBy 1 (take k (t .edges))))) out p
+Inv-loop out₀ at t count p₀ k₀ out p k = (k ≤ count) × (p ≤ at + 45 * k) × Appended out₀ at (joined (map transitionLine (transitionsBy (take k (t .edges))))) out p
 
 abbrev μ-loop : tie.MeasureT-loop
 μ-loop out₀ at t count p₀ k₀ out p k = count - k
 
 loop-holds : tie.Need-loop-holds Inv-loop μ-loop
-unfolding joined transitionsBy
+unfolding joined numbered
 loop-holds c =
     let s = c .before in
     let h = s .pre .1 in
