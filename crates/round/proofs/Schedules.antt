@@ -67,7 +67,7 @@ events-append d (m ∷ ms) ns =
     ∙ sym (append-assoc (moveEvents d m) (eventsOf (moved d m) ms) (eventsOf (driven (moved d m) ms) ns))
 
 -- ── how many go out ──
-tally-append : (f : State → Event → ℕ) (s : State) (es fs : List Event) → tally f s (es ++ fs) ≡ tally f s es + tally f (runFrom s es) fs
+pub tally-append : (f : State → Event → ℕ) (s : State) (es fs : List Event) → tally f s (es ++ fs) ≡ tally f s es + tally f (runFrom s es) fs
 unfolding tally runFrom
 tally-append f s [] fs = omega arith
 tally-append f s (e ∷ es) fs = omega (arith, tally-append f (after s e) es fs)

@@ -1,0 +1,4 @@
+pub mod Suits
+pub mod Weights
+pub mod Falls
+pub mod Turns
