@@ -8,10 +8,10 @@ use lib.Dec.{leb}
 use lib.ListN.{length}
 use borrow.Author.Tests.{leb-false}
 use Rattle.model.specs.Pick.{pick, by-test}
-use Rattle.listing.specs.Printing.{Print}
+use Rattle.listing.specs.Printing.{Print, Printed}
 use Rattle.listing.specs.declared.Put.{Put}
 use Rattle.listing.specs.declared.Put.the-variants as Put
-use Rattle.run_list.specs.Text.{textOf, Printed}
+use Rattle.run_list.specs.Text.{linesOf, textOf}
 use Rattle.run_list.proofs.Bound.{text-fits}
 use Rattle.exports_print.specs.Boundary.{noRoom, printNumber, PrintExported}
 
@@ -36,7 +36,7 @@ module _ (l b : List ℕ) where
       (λ _ z. absurd (let f = text-fits l in omega arith))
       (λ q _. leb-false (length (textOf l)) (length b) q)
 
-  pub exported : (o : List ℕ) (a : Put) → Printed l b o a → (r : ℕ) → r ≡ putLength a → PrintExported l b o r
+  pub exported : (o : List ℕ) (a : Put) → Printed (linesOf l) b o a → (r : ℕ) → r ≡ putLength a → PrintExported l b o r
   exported o a p r e =
       let n : r ≡ printNumber l b = e ∙ ap putLength (p .answer) ∙ length-put in
       record {

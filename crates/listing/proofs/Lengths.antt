@@ -18,7 +18,7 @@ use Rattle.model.specs.State.{State, every, inRange}
 use Rattle.model.proofs.Local.{both-left, both-right}
 use Rattle.model.proofs.Fields.{NodeFacts, node-facts, in-range-size, in-range-nodes}
 use Rattle.listing.specs.Ascii.{bytes}
-use Rattle.listing.specs.Lines.{row, cabinetsLine, refusedLine, stoppedLine, nodeLine, messagesLine, sentWord, deliveredWord, lostWord, totalLine, totalLines, nodeLines, tableLines}
+use Rattle.listing.specs.Lines.{row, cabinetsLine, refusedLine, stoppedLine, nodeLine, messagesLine, turnsLine, sentWord, deliveredWord, lostWord, totalLine, totalLines, nodeLines, tableLines}
 use Rattle.listing.specs.Printing.{joined}
 use Rattle.listing.proofs.Decimal.{decimal-short}
 use Rattle.listing.proofs.Totals.{in-range-totals}
@@ -46,6 +46,11 @@ cabinets-long n h = one-long (bytes "cabinets") 2 (omega arith) (omega arith)
 pub messages-long : (k : ℕ) → k ≤ 64 → length (messagesLine k) ≤ 12
 unfolding messagesLine
 messages-long k h = one-long (bytes "messages") 2 (omega arith) (omega arith)
+
+-- A number of turns of at most seven digits.
+pub turns-long : (k : ℕ) → k < 10 ^ 7 → length (turnsLine k) ≤ 14
+unfolding turnsLine
+turns-long k h = one-long (bytes "turns") 7 (omega arith) h
 
 -- A total of at most k digits.
 pub total-long : (w : List ℕ) (k : ℕ) {x : ℕ} → 1 ≤ k → x < 10 ^ k → length (totalLine w x) ≤ length w + k + 2

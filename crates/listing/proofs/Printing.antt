@@ -6,14 +6,14 @@ use mathlib.Core.Path.{_≡_, refl, sym, _∙_, ap}
 use mathlib.Core.Bool.{Bool, true, false, _&&_}
 use mathlib.Core.List.{List, [], _∷_, _++_, append-assoc, append-nil}
 use lib.ListN.{length, take, drop, length-append, length-drop, take-append-drop, drop-of-length-le}
-use lib.Seq.{length-take-le, take-all, take-take, drop-drop, drop-at, take-at}
+use lib.Seq.{length-take-le, take-append-seam, take-all, take-take, drop-drop, drop-at, take-at}
 use lib.Dec.{leb, eqb}
-use borrow.Author.Tests.{le-leb, lt-leb, leb-true}
-use Rattle.model.specs.Pick.{pick, by-test}
+use borrow.Author.Tests.{le-leb, lt-leb, leb-true, leb-false}
+use Rattle.model.specs.Pick.{pick, pick-true, pick-false, by-test}
 use Rattle.model.proofs.Local.{both-left, both-right}
 use Rattle.listing.specs.declared.Put.{Put}
 use Rattle.listing.specs.declared.Put.the-variants.{Next, NoRoom}
-use Rattle.listing.specs.Printing.{putNumber, putNext, Print, shown, room, written, printed, joined}
+use Rattle.listing.specs.Printing.{putNumber, putNext, Print, shown, room, written, printed, joined, Printed, Whole}
 
 -- What follows a print: the lines ys, unless it was refused.
 abbrev andThen : Print → List (List ℕ) → Print
@@ -119,6 +119,38 @@ module _ (b o : List ℕ) (p : ℕ) (a : Put) (xs : List (List ℕ)) (e : shown 
 
   pub printed-no-room : p ≤ length b → length b < p + length (joined xs) → a ≡ NoRoom
   printed-no-room q h = answer-refused a (ap (λ (r : Print). r .refusal) e ∙ printed-short b p xs q h)
+
+-- Lines printed from the start of a buffer are what `Printed` says.
+pub printed-holds : (xs : List (List ℕ)) (b o : List ℕ) (a : Put) → shown a o ≡ printed b 0 xs → Printed xs b o a
+printed-holds xs b o a e = by (leb (length (joined xs)) (length b)) refl
+  where
+    z : 0 + length (joined xs) ≡ length (joined xs)
+    z = omega arith
+
+    by : (t : Bool) → leb (length (joined xs)) (length b) ≡ t → Printed xs b o a
+    by true f =
+        let h = leb-true (length (joined xs)) (length b) f in
+        let w = rw z at (printed-whole b o 0 a xs e (omega arith)) in
+        record { answer = rw (f, pick-true) (w .0); whole = λ k. w .1; lines = e }
+    by false f =
+        let h = leb-false (length (joined xs)) (length b) f in
+        let w = printed-no-room b o 0 a xs e (omega arith) (omega arith) in
+        record { answer = rw (f, pick-false) w; whole = λ k. (let v : ⊥ = omega arith in absurd v); lines = e }
+
+-- A buffer in which they fit then holds all their bytes.
+module _ (xs : List (List ℕ)) (b o : List ℕ) (a : Put) (e : Printed xs b o a) (fits : length (joined xs) ≤ length b) where
+  answered : a ≡ Next (length (joined xs))
+  answered = rw (le-leb _ _ fits, pick-true) at (e .answer)
+
+  pub whole-next : (n : ℕ) → a ≡ Next n → Whole xs b o n
+  whole-next n f =
+      let m : n ≡ length (joined xs) = (let k = sym f ∙ answered in cc) in
+      let y : take n o ≡ joined xs = rw (m, e .whole fits) (take-append-seam (joined xs) (drop (length (joined xs)) b)) in
+      let z : length o ≡ length b = rw (e .whole fits) (simp (length-append, length-drop) (omega (arith, fits))) in
+      record { size = m; bytes = rw m (e .whole fits); within = omega (arith, fits); counted = rw y m }
+
+  pub never-refused : a ≡ NoRoom → ⊥
+  never-refused f = let k = sym f ∙ answered in let z : _≡_ {A = ℕ} 0 1 = cc in omega arith
 
 -- One line.
 pub line-refused : (b s : List ℕ) (p : ℕ) → length b < p + length s → shown NoRoom b ≡ printed b p (s ∷ [])

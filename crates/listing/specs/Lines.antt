@@ -35,6 +35,10 @@ nodeLine i c = decimal i ++ row (statusNumber (c .status) ∷ c .coordinator ∷
 unfoldable pub messagesLine : ℕ → List ℕ
 messagesLine k = bytes "messages" ++ row (k ∷ [])
 
+-- T-13: how many turns of the round were made until no message waits
+unfoldable pub turnsLine : ℕ → List ℕ
+turnsLine k = bytes "turns" ++ row (k ∷ [])
+
 -- T-05: "three more lines, `sent`, `delivered` and `lost`, each with its total": their words
 abbrev pub sentWord : List ℕ
 sentWord = bytes "sent"

@@ -46,6 +46,23 @@ unfoldable pub joined : List (List ℕ) → List ℕ
 joined [] = []
 joined (x ∷ xs) = x ++ joined xs
 
+-- What printing the lines xs from the start of a buffer that held b answers, a, and leaves there, o.
+pub record Printed (xs : List (List ℕ)) (b o : List ℕ) (a : Put) : Type 0 where
+  -- the length of their bytes, or 15 where they do not fit
+  pub answer : a ≡ pick (leb (length (joined xs)) (length b)) (Next (length (joined xs))) NoRoom
+  -- where they fit they stand there whole, and behind them what was there
+  pub whole : length (joined xs) ≤ length b → o ≡ joined xs ++ drop (length (joined xs)) b
+  -- in any case the lines are written one after the other, up to the first that does not fit
+  pub lines : shown a o ≡ printed b 0 xs
+
+-- What printing them answers, r, and leaves there, o, where there is always room: their bytes, and behind them what was there, b.
+pub record Whole (xs : List (List ℕ)) (b o : List ℕ) (r : ℕ) : Type 0 where
+  pub size : r ≡ length (joined xs)
+  pub bytes : o ≡ joined xs ++ drop r b
+  -- so r counts bytes of the buffer, as writing them out asks
+  pub within : r ≤ length o
+  pub counted : r ≡ length (take r o)
+
 -- s behind the first p bytes of b: o has both before r, is as long as b, and has what b has from r on
 pub record Appended (b : List ℕ) (p : ℕ) (s : List ℕ) (o : List ℕ) (r : ℕ) : Type 0 where
   pub long : length o ≡ length b

@@ -15,7 +15,7 @@ ghost use Rattle.model.specs.Answers.{statusNumber};
 ghost use Rattle.model.specs.Counts as counts;
 ghost use Rattle.model.specs.State.{startingNode, view};
 ghost use Rattle.listing.specs.Decimal.{decimal};
-ghost use Rattle.listing.specs.Lines.{row, cabinetsLine, refusedLine, stoppedLine, nodeLine, messagesLine, sentWord, deliveredWord, lostWord, totalLine, totalLines, tableLines};
+ghost use Rattle.listing.specs.Lines.{row, cabinetsLine, refusedLine, stoppedLine, nodeLine, messagesLine, turnsLine, sentWord, deliveredWord, lostWord, totalLine, totalLines, tableLines};
 ghost use Rattle.listing.specs.Printing.{shown, written, printed, Appended};
 ghost use Rattle.listing.specs.Parts.{padded};
 
@@ -267,6 +267,13 @@ pub fn put_messages(out: &mut [u8], at: usize, k: u32) -> Put
     ensures { λ r. ⌜ shown r (now (out .exit)) ≡ printed (now (out .entry)) at (messagesLine k ∷ []) ⌝ }
 {
     put_one(out, at, b"messages ", k as u64)
+}
+
+// How many turns were made.
+pub fn put_turns(out: &mut [u8], at: usize, k: u32) -> Put
+    ensures { λ r. ⌜ shown r (now (out .exit)) ≡ printed (now (out .entry)) at (turnsLine k ∷ []) ⌝ }
+{
+    put_one(out, at, b"turns ", k as u64)
 }
 
 // The total of what was sent.

@@ -23,7 +23,7 @@ use Rattle.event_list.specs.declared.First.the-variants as First
 use Rattle.event_list.specs.Format.{firstOf, Reading, begun, listed, reading}
 use Rattle.event_list.proofs.Reading.{first-good}
 use Rattle.listing.specs.Lines.{cabinetsLine, nodeLine, messagesLine, nodeLines, tableLines, totalLines}
-use Rattle.run_list.specs.Text.{refusedLines, endingLines, runLines, linesOf}
+use Rattle.run_list.specs.Text.{refusedLines, endingLines, runLines, linesWith}
 use Rattle.run_list.specs.Claims.{linesBefore, linesBehind, Behind}
 
 nodes-good : (l : List ℕ) (n : ℕ) (lim : Limits) (r : Reading) → reading l ≡ begun n lim r → MayStart TwoPairs n lim
@@ -73,7 +73,7 @@ line-of n lim r i m l h =
     ∙ ap (λ (z : ℕ). nodeLines 1 (take (i - 1) (s .nodes)) ++ (nodeLine i (nodeAt s i) ∷ nodeLines (i + 1) (drop z (s .nodes)))) y))
 
 pub behind : (l : List ℕ) (n : ℕ) (lim : Limits) (r : Reading) → reading l ≡ begun n lim r → Behind l n lim r
-unfolding linesOf
+unfolding linesWith
 behind l n lim r e =
     let g = nodes-good l n lim r e in
     let h = holds TwoPairs n lim g in

@@ -1,14 +1,10 @@
 -- How long the text of a list can be, and what a buffer of a given length then holds.
 use Prim.Native.Nat.{ℕ, _+_, _*_, _≤_, _<_}
 use native.Mathlib.Omega.{arith}
-use mathlib.Core.Path.{_≡_, refl, sym, _∙_}
-use mathlib.Core.Bool.{Bool, true, false}
+use mathlib.Core.Path.{_≡_, refl, _∙_}
 use mathlib.Core.List.{List, [], _∷_, _++_}
-use lib.ListN.{length, take, drop, length-append, length-drop}
-use lib.Seq.{take-append-seam}
-use lib.Dec.{leb}
-use borrow.Author.Tests.{le-leb, leb-true, leb-false}
-use Rattle.model.specs.Pick.{pick-true, pick-false, by-test}
+use lib.ListN.{length}
+use Rattle.model.specs.Pick.{by-test}
 use Rattle.model.specs.State.{State, start}
 use Rattle.model.specs.Step.{step, after, run}
 use Rattle.model.specs.Answers.{resultNumber}
@@ -25,13 +21,11 @@ use Rattle.event_list.specs.declared.First.{First}
 use Rattle.event_list.specs.declared.First.the-variants as First
 use Rattle.event_list.specs.Format.{stopNumber, firstOf, Ending, complete, stopped, rest}
 use Rattle.event_list.proofs.Reading.{first-good, reads-all}
-use Rattle.listing.specs.declared.Put.{Put}
 use Rattle.listing.specs.declared.Put.the-variants as Put
 use Rattle.listing.specs.Lines.{cabinetsLine, refusedLine, stoppedLine, tableLines}
-use Rattle.listing.specs.Printing.{shown, printed, joined}
+use Rattle.listing.specs.Printing.{joined}
 use Rattle.listing.proofs.Lengths.{cabinets-long, refused-long, stopped-long, table-long, joined-append, joined-one}
-use Rattle.listing.proofs.Printing.{printed-whole, printed-no-room}
-use Rattle.run_list.specs.Text.{noteLines, refusedLines, endingLines, linesOf, textOf, Printed, textLimit, TextFits, Whole}
+use Rattle.run_list.specs.Text.{noteLines, refusedLines, endingLines, textOf, textLimit, TextFits}
 use Rattle.run_list.proofs.Laws.{left, lines-failed, lines-begun}
 
 -- ── numbers of refusals have two digits at most ──
@@ -72,7 +66,7 @@ run-table-long n lim vs m =
     let z = in-range-size (run n lim vs) g .1 in
     omega arith
 
-left-long : (l : List ℕ) (n : ℕ) (lim : Limits) → MayStart TwoPairs n lim → 4 ≤ length l → length l ≤ 65536 → length (joined (left l (start n lim) 4 1)) ≤ 17 * 16384 + (34 * 16 + 12 + 53)
+left-long : (l : List ℕ) (n : ℕ) (lim : Limits) → MayStart TwoPairs n lim → 4 ≤ length l → length l ≤ 65536 → length (joined (left tableLines l (start n lim) 4 1)) ≤ 17 * 16384 + (34 * 16 + 12 + 53)
 left-long l n lim m j k =
     let r = rest l 4 in
     let f = reads-all .few l 4 j in
@@ -88,44 +82,9 @@ pub text-fits : TextFits
 text-fits l = by (firstOf l) refl
   where
     by : (x : First) → x ≡ firstOf l → length (textOf l) ≤ textLimit
-    by (First.Stopped s) i = rw (lines-failed l i refl, joined-one (stoppedLine 0 (stopNumber s))) (let h = stopped-long 0 (stopNumber s) (omega arith) (stop-small s) in omega arith)
+    by (First.Stopped s) i = rw (lines-failed tableLines l i refl, joined-one (stoppedLine 0 (stopNumber s))) (let h = stopped-long 0 (stopNumber s) (omega arith) (stop-small s) in omega arith)
     by (First.Nodes n lim) i =
         let g = first-good l i refl in
         let c = cabinets-long n (start-small n lim (g .2)) in
         let r = left-long l n lim (g .2) (g .0) (g .1) in
-        rw (lines-begun l i refl, joined-append (cabinetsLine n ∷ []) (left l (start n lim) 4 1), joined-one (cabinetsLine n)) (omega arith)
-
--- Lines printed from the start of a buffer are what `Printed` says.
-pub printed-holds : (l b o : List ℕ) (a : Put) → shown a o ≡ printed b 0 (linesOf l) → Printed l b o a
-printed-holds l b o a e = by (leb (length (textOf l)) (length b)) refl
-  where
-    z : 0 + length (textOf l) ≡ length (textOf l)
-    z = omega arith
-
-    by : (t : Bool) → leb (length (textOf l)) (length b) ≡ t → Printed l b o a
-    by true f =
-        let h = leb-true (length (textOf l)) (length b) f in
-        let w = rw z at (printed-whole b o 0 a (linesOf l) e (omega arith)) in
-        record { answer = rw (f, pick-true) (w .0); whole = λ k. w .1; lines = e }
-    by false f =
-        let h = leb-false (length (textOf l)) (length b) f in
-        let w = printed-no-room b o 0 a (linesOf l) e (omega arith) (omega arith) in
-        record { answer = rw (f, pick-false) w; whole = λ k. (let v : ⊥ = omega arith in absurd v); lines = e }
-
--- A buffer of textLimit bytes then holds the whole text.
-module _ (l b o : List ℕ) (a : Put) (e : Printed l b o a) (h : textLimit ≤ length b) where
-  fits : length (textOf l) ≤ length b
-  fits = let t = text-fits l in omega arith
-
-  answered : a ≡ Put.Next (length (textOf l))
-  answered = rw (le-leb _ _ fits, pick-true) at (e .answer)
-
-  pub whole-next : (n : ℕ) → a ≡ Put.Next n → Whole l b o n
-  whole-next n f =
-      let m : n ≡ length (textOf l) = (let k = sym f ∙ answered in cc) in
-      let y : take n o ≡ textOf l = rw (m, e .whole fits) (take-append-seam (textOf l) (drop (length (textOf l)) b)) in
-      let z : length o ≡ length b = rw (e .whole fits) (simp (length-append, length-drop) (omega (arith, fits))) in
-      record { size = m; bytes = rw m (e .whole fits); within = omega (arith, fits); counted = rw y m }
-
-  pub never-refused : a ≡ Put.NoRoom → ⊥
-  never-refused f = let k = sym f ∙ answered in let z : _≡_ {A = ℕ} 0 1 = cc in omega arith
+        rw (lines-begun tableLines l i refl, joined-append (cabinetsLine n ∷ []) (left tableLines l (start n lim) 4 1), joined-one (cabinetsLine n)) (omega arith)

@@ -26,7 +26,7 @@ use Rattle.event_list.specs.Format.{Reading, lengthOf, cutShort, checked, event
 use Rattle.listing.specs.Decimal.{digits, decimal}
 use Rattle.listing.specs.Lines.{row, cabinetsLine, refusedLine, stoppedLine, nodeLine, messagesLine, totalLine, totalLines, nodeLines, tableLines}
 use Rattle.listing.specs.Printing.{joined}
-use Rattle.run_list.specs.Text.{noteLines, refusedLines, endingLines, linesOf, textOf}
+use Rattle.run_list.specs.Text.{noteLines, refusedLines, endingLines, linesWith, textOf}
 use Rattle.event_list.specs.Cases.{nodes, standNodes, recover, crash, check, expire, finish, deliver, lose}
 use Rattle.run_list.specs.Cases.{k10-events, k10-list, unanswered-list, ListCases}
 use Rattle.run_list.proofs.Laws.{lines-begun, start-in-range}
@@ -56,12 +56,12 @@ quick-text l n lim i k =
     let g = start-in-range l i refl in
     let m = start-room (length (rest l 4 .events)) k in
     ap joined
-    (lines-begun l i refl
+    (lines-begun tableLines l i refl
     ∙ ap (λ (x : List (List ℕ)). cabinetsLine n ∷ x)
     (ap₂ (λ (x : List (List ℕ)) (s : State). x ++ (endingLines (rest l 4 .ending) ++ tableLines s)) (quick-refused (start n lim) 1 (rest l 4 .events) g m) (run-counting (start n lim) (rest l 4 .events) g m)))
 
 pub list-cases : ListCases
-unfolding pick onesIn ones leadingZeros inviteNext merges handNext finishes forwardNext askedAll askAt askAfter isChecked timedOut ticked expired resumed onAreYouCoordinator onAreYouThere onInvitation onAccept onReady onReply received react waits oldest withoutOldest reactionTo remaining effect grounds judged lengthOf cutShort checked eventOf nextAt limitsOf nodesOf firstOf readFrom rest reading digits decimal row cabinetsLine refusedLine stoppedLine nodeLine messagesLine totalLine totalLines total nodeLines tableLines joined noteLines linesOf
+unfolding pick onesIn ones leadingZeros inviteNext merges handNext finishes forwardNext askedAll askAt askAfter isChecked timedOut ticked expired resumed onAreYouCoordinator onAreYouThere onInvitation onAccept onReady onReply received react waits oldest withoutOldest reactionTo remaining effect grounds judged lengthOf cutShort checked eventOf nextAt limitsOf nodesOf firstOf readFrom rest reading digits decimal row cabinetsLine refusedLine stoppedLine nodeLine messagesLine totalLine totalLines total nodeLines tableLines joined noteLines linesWith
 list-cases =
     record {
       in-model = named-cases;

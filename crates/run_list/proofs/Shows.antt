@@ -25,7 +25,7 @@ use Rattle.listing.specs.Lines.{cabinetsLine, refusedLine, stoppedLine, message
 use Rattle.listing.specs.Printing.{joined}
 use Rattle.listing.proofs.Parted.{Each, Stops, each-map, each-append, parted, IsLine, joined-same}
 use Rattle.listing.proofs.Claims.{lines-determine, cabinets-line, refused-line, stopped-line, table-lines, table-same, table-small, node-low}
-use Rattle.run_list.specs.Text.{noteLines, refusedLines, endingLines, runLines, linesOf, textOf}
+use Rattle.run_list.specs.Text.{noteLines, refusedLines, endingLines, runLines, linesWith, textOf}
 use Rattle.run_list.specs.Shows.{Refusal, refusals, SameText, TextDetermines}
 use Rattle.model.proofs.Refusals.{result-small}
 use Rattle.run_list.proofs.Bound.{stop-small}
@@ -216,7 +216,7 @@ read-same l k n m x x′ r q e f t =
 
 -- where the whole list or the first field failed
 failed-text : (l : List ℕ) (s : Stop) → reading l ≡ failed s → textOf l ≡ joined (stoppedLine 0 (stopNumber s) ∷ [])
-unfolding linesOf
+unfolding linesWith
 failed-text l s e = rw e
 
 failed-same : (l k : List ℕ) (s t : Stop) → reading l ≡ failed s → reading k ≡ failed t → textOf l ≡ textOf k → s ≡ t

@@ -11,11 +11,11 @@ use Rattle.model.specs.declared.Limits.{Limits}
 use Rattle.model.specs.declared.Node.{Node}
 use Rattle.event_list.specs.Format.{Reading, begun, reading}
 use Rattle.listing.specs.Lines.{nodeLine}
-use Rattle.listing.specs.Printing.{joined}
+use Rattle.listing.specs.Printing.{joined, Printed, Whole}
 use Rattle.listing.specs.Decimal.{decimal}
 use Rattle.listing.specs.declared.Put.{Put}
 use Rattle.listing.specs.declared.Put.the-variants.{NoRoom}
-use Rattle.run_list.specs.Text.{textOf, Printed, Whole}
+use Rattle.run_list.specs.Text.{linesOf, textOf}
 use Rattle.run_list.specs.Claims.{linesBefore}
 use Rattle.event_list.specs.Cases.{nodes, recover}
 use Rattle.listing.specs.Ascii.{bytes}
@@ -23,8 +23,8 @@ use Rattle.run_list.specs.Cases.{k10-list}
 
 -- o is what a printer of the list l left in its buffer: one that meets `Printed`, where there was room, or one that meets `Whole`
 pub data Holds (l o : List ℕ) : Type 0 where
-  by-print : {b : List ℕ} {a : Put} → Printed l b o a → length (textOf l) ≤ length b → Holds l o
-  by-whole : {b : List ℕ} {r : ℕ} → Whole l b o r → Holds l o
+  by-print : {b : List ℕ} {a : Put} → Printed (linesOf l) b o a → length (textOf l) ≤ length b → Holds l o
+  by-whole : {b : List ℕ} {r : ℕ} → Whole (linesOf l) b o r → Holds l o
 
 -- numbers, each behind a space
 unfoldable pub spaced : List ℕ → List ℕ
@@ -57,4 +57,4 @@ pub record NoMutantText : Type 0 where
   pub next-ground : (o y : List ℕ) → Holds (nodes 2 ++ (recover 1 ++ recover 1)) o → o ≡ bytes "cabinets 2\nrefused 2 1" ++ y → ⊥
   pub stops-elsewhere : (o y : List ℕ) → Holds (nodes 2 ++ (0x11 ∷ [])) o → o ≡ bytes "cabinets 2\nstopped 0" ++ y → ⊥
   -- and none that finds no room where there is
-  pub no-room : (b o : List ℕ) {a : Put} → Printed k10-list b o a → length (textOf k10-list) ≤ length b → a ≡ NoRoom → ⊥
+  pub no-room : (b o : List ℕ) {a : Put} → Printed (linesOf k10-list) b o a → length (textOf k10-list) ≤ length b → a ≡ NoRoom → ⊥

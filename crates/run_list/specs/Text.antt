@@ -2,8 +2,8 @@
 use mathlib.Core.Path.{_≡_}
 use mathlib.Core.List.{List, [], _∷_, _++_}
 use Prim.Native.Nat.{ℕ, _+_, _*_, _≤_}
-use lib.ListN.{length, take, drop}
-use lib.Dec.{eqb, leb}
+use lib.ListN.{length}
+use lib.Dec.{eqb}
 use Rattle.model.specs.Pick.{pick}
 use Rattle.model.specs.State.{State, start}
 use Rattle.model.specs.Step.{step, after, runFrom}
@@ -33,33 +33,31 @@ abbrev pub endingLines : Ending → List (List ℕ)
 endingLines complete = []
 endingLines (stopped b s) = stoppedLine b (stopNumber s) ∷ []
 
--- what is printed of a run from s, the first event of which is event e: "then the table so far", and so where nothing is refused
-abbrev pub runLines : State → ℕ → Reading → List (List ℕ)
-runLines s e r = refusedLines s e (r .events) ++ (endingLines (r .ending) ++ tableLines (runFrom s (r .events)))
+-- what is printed of a run from s, the first event of which is event e; what is printed of the table behind it, f says
+abbrev pub runLinesWith : (State → List (List ℕ)) → State → ℕ → Reading → List (List ℕ)
+runLinesWith f s e r = refusedLines s e (r .events) ++ (endingLines (r .ending) ++ f (runFrom s (r .events)))
 
 -- by what the list says
-abbrev pub listedLines : Listed → List (List ℕ)
+abbrev pub listedLines : (State → List (List ℕ)) → Listed → List (List ℕ)
 -- "if the whole list or the first field failed, that line is all that is printed, without `cabinets n`"; both fail at offset 0
-listedLines (failed s) = stoppedLine 0 (stopNumber s) ∷ []
+listedLines f (failed s) = stoppedLine 0 (stopNumber s) ∷ []
 -- "It prints `cabinets n`; .. (e counts events from 1 ..)"
-listedLines (begun n lim r) = cabinetsLine n ∷ runLines (start n lim) 1 r
+listedLines f (begun n lim r) = cabinetsLine n ∷ runLinesWith f (start n lim) 1 r
 
 -- the lines that are printed for a list
-unfoldable pub linesOf : List ℕ → List (List ℕ)
-linesOf l = listedLines (reading l)
+unfoldable pub linesWith : (State → List (List ℕ)) → List ℕ → List (List ℕ)
+linesWith f l = listedLines f (reading l)
+
+-- The bench program's: "then the table so far", and so where nothing is refused. T-13's program prints something else of the table (rest_list).
+abbrev pub runLines : State → ℕ → Reading → List (List ℕ)
+runLines s e r = runLinesWith tableLines s e r
+
+abbrev pub linesOf : List ℕ → List (List ℕ)
+linesOf l = linesWith tableLines l
 
 -- and their bytes
 abbrev pub textOf : List ℕ → List ℕ
 textOf l = joined (linesOf l)
-
--- What printing the list l into a buffer that held b answers, a, and leaves there, o.
-pub record Printed (l b o : List ℕ) (a : Put) : Type 0 where
-  -- the text's length, or 15 where it does not fit
-  pub answer : a ≡ pick (leb (length (textOf l)) (length b)) (Next (length (textOf l))) NoRoom
-  -- a text that fits stands there whole, and behind it what was there
-  pub whole : length (textOf l) ≤ length b → o ≡ textOf l ++ drop (length (textOf l)) b
-  -- in any case the lines are written one after the other, up to the first that does not fit
-  pub lines : shown a o ≡ printed b 0 (linesOf l)
 
 -- A bound: `cabinets n`, a line for each of at most 16,383 events (of four bytes or more) and for a stop, and the table of 16 nodes with its three totals, 53 bytes:
 -- a total of a table in range, at most 240 × 33,554,430, has ten digits.
@@ -69,14 +67,6 @@ textLimit = 12 + 17 * 16384 + (34 * 16 + 12 + 53)
 -- No text is longer.
 abbrev pub TextFits : Type 0
 TextFits = (l : List ℕ) → length (textOf l) ≤ textLimit
-
--- What printing the list l into a buffer of that size answers, r, and leaves there, o: the text, and behind it what was there, b.
-pub record Whole (l b o : List ℕ) (r : ℕ) : Type 0 where
-  pub size : r ≡ length (textOf l)
-  pub bytes : o ≡ textOf l ++ drop r b
-  -- so r counts bytes of the buffer, as writing them out asks
-  pub within : r ≤ length o
-  pub counted : r ≡ length (take r o)
 
 -- ── the first line ──
 

@@ -17,8 +17,8 @@ ghost use Rattle.model.specs.State.{view, inRange};
 ghost use Rattle.model.specs.State as state;
 ghost use Rattle.event_list.specs.Format.{stopNumber, rest};
 ghost use Rattle.listing.specs.Lines.{stoppedLine, tableLines};
-ghost use Rattle.listing.specs.Printing.{shown, printed};
-ghost use Rattle.run_list.specs.Text.{noteLines, runLines, linesOf, Printed, Headed, Whole};
+ghost use Rattle.listing.specs.Printing.{shown, printed, Printed, Whole};
+ghost use Rattle.run_list.specs.Text.{noteLines, runLines, linesOf, Headed};
 
 // What is printed before the first event: all of it, where the first field failed or a line has no room; or the line of n nodes. Then a run of
 // n nodes with these limits follows, and is printed from the offset on.
@@ -132,7 +132,7 @@ fn print_lines(list: &[u8], out: &mut [u8]) -> Put
 
 // The text of list at the start of out, and its length; or refusal 15.
 pub fn print(list: &[u8], out: &mut [u8]) -> Put
-    ensures { λ a. ⌜ Printed (now (list .entry)) (now (out .entry)) (now (out .exit)) a ⌝ }
+    ensures { λ a. ⌜ Printed (linesOf (now (list .entry))) (now (out .entry)) (now (out .exit)) a ⌝ }
 {
     print_lines(list, out)
 }
@@ -142,7 +142,7 @@ pub const TEXT_LIMIT: usize = 279149;
 
 // The text of list at the start of out, and its length: there is always room.
 pub fn print_whole(list: &[u8], out: &mut [u8; TEXT_LIMIT]) -> usize
-    ensures { λ r. ⌜ Whole (now (list .entry)) (now (out .entry)) (now (out .exit)) r ⌝ }
+    ensures { λ r. ⌜ Whole (linesOf (now (list .entry))) (now (out .entry)) (now (out .exit)) r ⌝ }
 {
     match print(list, out) {
         Put::Next(n) => n,

@@ -1,8 +1,6 @@
 // The bench program over a table that is kept for the whole session: reads a list from standard input, applies its events in place,
 // and writes what is printed for it to standard output.
 // Where the list can't be read nothing is printed, and standard error says why; so it does where the text can't be written.
-mod in_place;
-
 use run_list::TEXT_LIMIT;
 use standard_io::Input;
 ghost use mathlib.Core.Path.{_≡_};
@@ -26,7 +24,7 @@ fn text_space() -> [u8; TEXT_LIMIT]
 // The text of the list, to standard output.
 fn print(list: &[u8]) {
     let mut text = text_space();
-    let n = in_place::print_whole(list, &mut text);
+    let n = session_list::print_whole(list, &mut text);
     standard_io::write_all(&text[..n]);
 }
 

@@ -1,6 +1,6 @@
 -- `run_list::print` meets its contract.
 use borrow.Author.Needs.{needs}
-use Rattle.run_list.proofs.Bound.{printed-holds}
+use Rattle.listing.proofs.Printing.{printed-holds}
 use Rattle.run_list.proofs.print.Statement.{statement}
 use Rattle.run_list.proofs.print.Tie as tie
 

@@ -16,6 +16,7 @@ use Rattle.machine.proofs.Laws.{sized}
 use Rattle.packed.specs.Seen.{seen}
 use Rattle.packed.proofs.Turns.{same-start, start-empty, Ready, few, counted, counts-low, rulable, refused-turn, has-room, within-below, accepted-turn, ready-again}
 use Rattle.event_list.proofs.Reading.{next-past}
+use Rattle.listing.specs.Lines.{tableLines}
 use Rattle.listing.specs.Printing.{printed}
 use Rattle.run_list.proofs.Laws.{same-lines, left, left-done, left-stopped, left-quiet, turn-next, turn-refused}
 use Rattle.run_list.proofs.run.Statement.{statement}
@@ -23,7 +24,7 @@ use Rattle.run_list.proofs.run.Tie as tie
 
 abbrev Inv-loop : tie.InvT-loop
 Inv-loop list out₀ from t₀ q₀ at₀ e₀ p₀ out t q at e p =
-    (e ≤ at) × (at ≤ length list) × Ready (t .n) (t .limits) (t .nodes) q (t .waiting) (t .sent) (t .delivered) (t .lost) × SentWithin (seen (t .n) (t .limits) (t .nodes) q (t .waiting) (t .sent) (t .delivered) (t .lost)) × (length out ≡ length out₀) × (printed out p (left list (seen (t .n) (t .limits) (t .nodes) q (t .waiting) (t .sent) (t .delivered) (t .lost)) at e) ≡ printed out₀ from (left list (view t₀) 4 1))
+    (e ≤ at) × (at ≤ length list) × Ready (t .n) (t .limits) (t .nodes) q (t .waiting) (t .sent) (t .delivered) (t .lost) × SentWithin (seen (t .n) (t .limits) (t .nodes) q (t .waiting) (t .sent) (t .delivered) (t .lost)) × (length out ≡ length out₀) × (printed out p (left tableLines list (seen (t .n) (t .limits) (t .nodes) q (t .waiting) (t .sent) (t .delivered) (t .lost)) at e) ≡ printed out₀ from (left tableLines list (view t₀) 4 1))
 
 -- An event takes at least four bytes.
 abbrev μ-loop : tie.MeasureT-loop
@@ -52,7 +53,7 @@ returns c =
     let l = v .before .loop in
     let t = l .t in
     let s = v .before .before .before .before .before .args in
-    k .put-table .ensures ∙ rw (same-lines t (l .q), ← left-done (now (s .list)) (seen (t .n) (t .limits) (t .nodes) (l .q) (t .waiting) (t .sent) (t .delivered) (t .lost)) (l .at) (l .e) (v .event-at .ensures) (m .enum-told .given .1)) (l .inv .5)
+    k .put-table .ensures ∙ rw (same-lines t (l .q), ← left-done tableLines (now (s .list)) (seen (t .n) (t .limits) (t .nodes) (l .q) (t .waiting) (t .sent) (t .delivered) (t .lost)) (l .at) (l .e) (v .event-at .ensures) (m .enum-told .given .1)) (l .inv .5)
 
 -- a refusal of the list
 returns-2 : tie.Need-returns-2 Inv-loop μ-loop
@@ -63,7 +64,7 @@ returns-2 c =
     let l = v .before .loop in
     let t = l .t in
     let s = v .before .before .before .before .before .args in
-    k .stop .ensures ∙ rw (same-lines t (l .q), ← left-stopped (now (s .list)) (seen (t .n) (t .limits) (t .nodes) (l .q) (t .waiting) (t .sent) (t .delivered) (t .lost)) (l .at) (l .e) (v .event-at .ensures) (m .s .given .1)) (l .inv .5)
+    k .stop .ensures ∙ rw (same-lines t (l .q), ← left-stopped tableLines (now (s .list)) (seen (t .n) (t .limits) (t .nodes) (l .q) (t .waiting) (t .sent) (t .delivered) (t .lost)) (l .at) (l .e) (v .event-at .ensures) (m .s .given .1)) (l .inv .5)
 
 rule-requires : tie.Need-rule-requires Inv-loop μ-loop
 rule-requires c κs =
@@ -250,7 +251,7 @@ loop-again c =
       rw (p, b, k, d, y) (ready-again _ _ _ _ _ _ _ _ (h .2) e _ (a .seat .ensures .0) _ _ (r .rule .ensures) yes low _ _ (x .2) (x .0)),
       rw (p, b) (subst SentWithin (sym (t .1)) (run-within _ (e ∷ []) (h .3))),
       h .4,
-      rw (p, b, k, d, y) (ap (printed (l .out) (l .p)) (sym (left-quiet list _ (l .at) (l .e) (v .event-at .ensures) (m .event .given .1) 0 (t .0) _ (t .1) refl)) ∙ h .5),
+      rw (p, b, k, d, y) (ap (printed (l .out) (l .p)) (sym (left-quiet tableLines list _ (l .at) (l .e) (v .event-at .ensures) (m .event .given .1) 0 (t .0) _ (t .1) refl)) ∙ h .5),
     )
 
 -- an event that is refused: its line has no room, or stands there
@@ -266,7 +267,7 @@ returns-3 c =
     let list = now (v .before .before .before .before .before .args .list) in
     let t = refused-turn _ _ _ _ _ _ _ _ (l .inv .2) _ _ (a .seat .ensures .0) _ _ (r .rule .ensures) (sym (i .before .is-accepted .ensures) ∙ i .if1 .left) in
     sym
-    (turn-refused list _ (l .at) (l .e) (v .event-at .ensures) (m .event .given .1) _ (t .0) _ (t .1) _ _ _ _ (w .note .ensures) (c .enum-told2 .given .1))
+    (turn-refused tableLines list _ (l .at) (l .e) (v .event-at .ensures) (m .event .given .1) _ (t .0) _ (t .1) _ _ _ _ (w .note .ensures) (c .enum-told2 .given .1))
     ∙ l .inv .5
 
 add-e-2 : tie.Need-add-e-2 Inv-loop μ-loop
@@ -300,7 +301,7 @@ loop-again-2 c =
       h .3,
       search needs,
       sym
-          (turn-next list _ (l .at) (l .e) (v .event-at .ensures) (m .event .given .1) _ (t .0) _ (t .1) _ _ _ _ (w .note .ensures) _ (c .before .w .given .1))
+          (turn-next tableLines list _ (l .at) (l .e) (v .event-at .ensures) (m .event .given .1) _ (t .0) _ (t .1) _ _ _ _ (w .note .ensures) _ (c .before .w .given .1))
           ∙ h .5,
     )
 
