@@ -32,7 +32,7 @@ use Rattle.driver.specs.Scheduled.{Scheduled, none, turned, stepped, ByD
 use Rattle.driver.specs.Claims.{TurnedAlike, CodeRound, CodeDriverRuns}
 
 -- ── the model's schedule ──
-turned-drive : {t : Table} {p : Place} {r : TurnOutcome} → Turned t p r → drive (view (r .table)) (r .place) ≡ moved (drive (view t) p) turn
+pub turned-drive : {t : Table} {p : Place} {r : TurnOutcome} → Turned t p r → drive (view (r .table)) (r .place) ≡ moved (drive (view t) p) turn
 turned-drive {t} {p} {r} x = ap (λ (s : State). drive s (r .place)) (x .table) ∙ ap (drive (moved (drive (view t) p) turn .table)) (x .place)
 
 drives : {t u : Table} {p q : Place} {ms : List Move} → Scheduled t p ms u q → drive (view u) q ≡ driven (drive (view t) p) ms

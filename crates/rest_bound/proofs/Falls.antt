@@ -172,7 +172,7 @@ run-rests r n lim h =
     rests es fs q = omega (arith, spent (runBy r n lim es) fs (runs-suit r n lim es) q, run-potential r n lim h es)
 
 -- the bound grows with n
-bound-most : (n m q : ℕ) → n ≤ m → restBound n q ≤ restBound m q
+pub bound-most : (n m q : ℕ) → n ≤ m → restBound n q ≤ restBound m q
 bound-most n m q h = omega (arith, mul-le-mul h (grows h))
   where
     grows : n ≤ m → 21 * (n - 1) + 3 ≤ 21 * (m - 1) + 3

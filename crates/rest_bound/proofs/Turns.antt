@@ -20,6 +20,7 @@ use Rattle.model.proofs.Judged.{accepted-is}
 use Rattle.model.proofs.Local.{both-left, both-right}
 use Rattle.model.proofs.Fields.{message-facts, in-range-size, in-range-queue}
 use Rattle.model.proofs.Range.{both}
+use Rattle.model.proofs.InRange.{run-in}
 use Rattle.model.proofs.Traffic.{run-n}
 use Rattle.model.proofs.TowerAndStand.{tower-and-stand}
 use Rattle.model.specs.declared.Limits.{Limits}
@@ -292,6 +293,16 @@ unfolding driven
 left-end {s} {m} {k} {d} x e =
     let w = within-empty m d e in
     (omega (arith, x .number, w), sym (ap (λ (i : ℕ). driven d (replicate i turn) .table) w) ∙ x .table)
+
+-- the table at rest is one of a run from s, and the number of turns is within the bound, whatever the table
+pub rest-is : (s : State) → tableAtRest s ≡ runFrom s (eventsOf (drive s firstPair) (replicate (turnsToRest s) turn))
+rest-is s = schedule-is-run .schedule (drive s firstPair) (replicate (turnsToRest s) turn)
+
+pub rest-range : (s : State) → inRange s ≡ true → inRange (tableAtRest s) ≡ true
+rest-range s r = ap inRange (rest-is s) ∙ run-in s (eventsOf (drive s firstPair) (replicate (turnsToRest s) turn)) r
+
+pub rest-within : (s : State) → turnsToRest s ≤ turnBound s
+rest-within s = within-most (turnBound s) (drive s firstPair)
 
 -- ── tables of runs ──
 

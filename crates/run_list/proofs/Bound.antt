@@ -2,10 +2,11 @@
 use Prim.Native.Nat.{ℕ, _+_, _*_, _≤_, _<_}
 use native.Mathlib.Omega.{arith}
 use mathlib.Core.Path.{_≡_, refl, _∙_}
+use mathlib.Core.Bool.{true}
 use mathlib.Core.List.{List, [], _∷_, _++_}
 use lib.ListN.{length}
 use Rattle.model.specs.Pick.{by-test}
-use Rattle.model.specs.State.{State, start}
+use Rattle.model.specs.State.{State, start, inRange}
 use Rattle.model.specs.Step.{step, after, run}
 use Rattle.model.specs.Answers.{resultNumber}
 use Rattle.model.specs.Range.{TwoPairs}
@@ -25,7 +26,7 @@ use Rattle.listing.specs.declared.Put.the-variants as Put
 use Rattle.listing.specs.Lines.{cabinetsLine, refusedLine, stoppedLine, tableLines}
 use Rattle.listing.specs.Printing.{joined}
 use Rattle.listing.proofs.Lengths.{cabinets-long, refused-long, stopped-long, table-long, joined-append, joined-one}
-use Rattle.run_list.specs.Text.{noteLines, refusedLines, endingLines, textOf, textLimit, TextFits}
+use Rattle.run_list.specs.Text.{noteLines, refusedLines, endingLines, linesWith, TextFits}
 use Rattle.run_list.proofs.Laws.{left, lines-failed, lines-begun}
 
 -- ── numbers of refusals have two digits at most ──
@@ -59,32 +60,35 @@ unfolding joined
 ending-long m complete h i = omega arith
 ending-long m (stopped b s) h i = let k = h b s refl in rw (joined-one (stoppedLine b (stopNumber s))) (stopped-long b (stopNumber s) (omega arith) (stop-small s))
 
-run-table-long : (n : ℕ) (lim : Limits) (vs : List Event) → MayStart TwoPairs n lim → length (joined (tableLines (run n lim vs))) ≤ 34 * 16 + 12 + 53
-run-table-long n lim vs m =
-    let g = stays-in-range .runs TwoPairs n lim m vs in
-    let t = table-long (run n lim vs) g in
-    let z = in-range-size (run n lim vs) g .1 in
+-- where k is the most that f prints of a table in range
+module _ (f : State → List (List ℕ)) (k : ℕ) (most : (s : State) → inRange s ≡ true → length (joined (f s)) ≤ k) where
+  left-long : (l : List ℕ) (n : ℕ) (lim : Limits) → MayStart TwoPairs n lim → 4 ≤ length l → length l ≤ 65536 → length (joined (left f l (start n lim) 4 1)) ≤ 17 * 16384 + k
+  left-long l n lim m j h =
+      let r = rest l 4 in
+      let e = reads-all .few l 4 j in
+      let a = refusals-long (start n lim) 1 (r .events) (omega arith) in
+      let b = ending-long (length l) (r .ending) (reads-all .before l 4) h in
+      let c = most (run n lim (r .events)) (stays-in-range .runs TwoPairs n lim m (r .events)) in
+      rw (joined-append (refusedLines (start n lim) 1 (r .events)) (endingLines (r .ending) ++ f (run n lim (r .events))), joined-append (endingLines (r .ending)) (f (run n lim (r .events)))) (omega arith)
+
+  -- ── the whole ──
+  pub text-fits-with : (l : List ℕ) → length (joined (linesWith f l)) ≤ 12 + 17 * 16384 + k
+  text-fits-with l = by (firstOf l) refl
+    where
+      by : (x : First) → x ≡ firstOf l → length (joined (linesWith f l)) ≤ 12 + 17 * 16384 + k
+      by (First.Stopped s) i = rw (lines-failed f l i refl, joined-one (stoppedLine 0 (stopNumber s))) (let h = stopped-long 0 (stopNumber s) (omega arith) (stop-small s) in omega arith)
+      by (First.Nodes n lim) i =
+          let g = first-good l i refl in
+          let c = cabinets-long n (start-small n lim (g .2)) in
+          let r = left-long l n lim (g .2) (g .0) (g .1) in
+          rw (lines-begun f l i refl, joined-append (cabinetsLine n ∷ []) (left f l (start n lim) 4 1), joined-one (cabinetsLine n)) (omega arith)
+
+pub table-most : (s : State) → inRange s ≡ true → length (joined (tableLines s)) ≤ 34 * 16 + 12 + 53
+table-most s g =
+    let t = table-long s g in
+    let z = in-range-size s g .1 in
     omega arith
-
-left-long : (l : List ℕ) (n : ℕ) (lim : Limits) → MayStart TwoPairs n lim → 4 ≤ length l → length l ≤ 65536 → length (joined (left tableLines l (start n lim) 4 1)) ≤ 17 * 16384 + (34 * 16 + 12 + 53)
-left-long l n lim m j k =
-    let r = rest l 4 in
-    let f = reads-all .few l 4 j in
-    let a = refusals-long (start n lim) 1 (r .events) (omega arith) in
-    let b = ending-long (length l) (r .ending) (reads-all .before l 4) k in
-    let c = run-table-long n lim (r .events) m in
-    rw (joined-append (refusedLines (start n lim) 1 (r .events)) (endingLines (r .ending) ++ tableLines (run n lim (r .events))), joined-append (endingLines (r .ending)) (tableLines (run n lim (r .events)))) (omega arith)
-
--- ── the whole ──
 
 -- A buffer of textLimit bytes is enough for every list.
 pub text-fits : TextFits
-text-fits l = by (firstOf l) refl
-  where
-    by : (x : First) → x ≡ firstOf l → length (textOf l) ≤ textLimit
-    by (First.Stopped s) i = rw (lines-failed tableLines l i refl, joined-one (stoppedLine 0 (stopNumber s))) (let h = stopped-long 0 (stopNumber s) (omega arith) (stop-small s) in omega arith)
-    by (First.Nodes n lim) i =
-        let g = first-good l i refl in
-        let c = cabinets-long n (start-small n lim (g .2)) in
-        let r = left-long l n lim (g .2) (g .0) (g .1) in
-        rw (lines-begun tableLines l i refl, joined-append (cabinetsLine n ∷ []) (left tableLines l (start n lim) 4 1), joined-one (cabinetsLine n)) (omega arith)
+text-fits l = text-fits-with tableLines (34 * 16 + 12 + 53) table-most l

@@ -1,0 +1,3 @@
+-- T-13's program: a list, then turns of the round until no message waits.
+pub mod Text
+pub mod Rested
