@@ -215,7 +215,7 @@ history-aside s h (e ∷ es) r k =
 pub start-room : (j : ℕ) → j < trafficEnd → Room j noCounts
 start-room j h k = omega (arith, h, none-bounded 256 k)
 
-room-run : (j : ℕ) (s : State) (es : List Event) → Room (length es + j) (s .sent) → Room j (runFrom s es .sent)
+pub room-run : (j : ℕ) (s : State) (es : List Event) → Room (length es + j) (s .sent) → Room j (runFrom s es .sent)
 unfolding runFrom
 room-run j s [] h k = omega (arith, h k)
 room-run j s (e ∷ es) h k = room-run j (after s e) es (room-after (length es + j) s e (λ i. omega (arith, h i))) k

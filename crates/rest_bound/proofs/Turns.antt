@@ -233,7 +233,7 @@ rests-within n (suc w) m d x h k = by (queueEmpty (d .table)) refl (λ f. rests-
         ap (λ (v : Drive). queueEmpty (v .table)) z ∙ f (omega (arith, round-lowers n d x e, h))
 
 -- ── the number of turns ──
-within-empty : (m : ℕ) (d : Drive) → queueEmpty (d .table) ≡ true → turnsWithin m d ≡ 0
+pub within-empty : (m : ℕ) (d : Drive) → queueEmpty (d .table) ≡ true → turnsWithin m d ≡ 0
 unfolding turnsWithin
 within-empty zero d e = refl
 within-empty (suc m) d e = rw (e, pick-true)
@@ -339,7 +339,7 @@ module _ (r : PairRule) (n : ℕ) (lim : Limits) (h : RunHolds r n lim) where
   accepts : (es : List Event) (p : Place) (ms : List Move) → quietMoves ms ≡ true → acceptedBy (drive (T es) p) ms ≤ restBound n (length (T es .queue))
   accepts es p ms q = omega (arith, schedule-spent (drive (T es) p) ms (runs-suit r n lim es) q, run-potential r n lim h es)
 
-  driver-rests : DriverRests r n lim
+  pub driver-rests : DriverRests r n lim
   driver-rests =
       record {
         accepts = accepts;

@@ -1,2 +1,5 @@
 pub mod Turns
 pub mod Bound
+pub mod Behind
+pub mod Cases
+pub mod Mutants

@@ -26,7 +26,7 @@ use Rattle.listing.specs.Lines.{cabinetsLine, nodeLine, messagesLine, nodeLines
 use Rattle.run_list.specs.Text.{refusedLines, endingLines, runLines, linesWith}
 use Rattle.run_list.specs.Claims.{linesBefore, linesBehind, Behind}
 
-nodes-good : (l : List ℕ) (n : ℕ) (lim : Limits) (r : Reading) → reading l ≡ begun n lim r → MayStart TwoPairs n lim
+pub nodes-good : (l : List ℕ) (n : ℕ) (lim : Limits) (r : Reading) → reading l ≡ begun n lim r → MayStart TwoPairs n lim
 unfolding reading
 nodes-good l n lim r e = by (firstOf l) refl e
   where

@@ -32,10 +32,10 @@ use Rattle.run_list.specs.Cases.{k10-events, k10-list, unanswered-list, 
 use Rattle.run_list.proofs.Laws.{lines-begun, start-in-range}
 
 -- what an event comes to by the grounds between 1 and 17
-abbrev known : State → Event → Result
+abbrev pub known : State → Event → Result
 known s v = judged refused (accepted (effect s v) (reactionTo s v .mark)) (between s v)
 
-abbrev quickRefused : State → ℕ → List Event → List (List ℕ)
+abbrev pub quickRefused : State → ℕ → List Event → List (List ℕ)
 quickRefused s e [] = []
 quickRefused s e (v ∷ vs) = noteLines e (resultNumber (known s v)) ++ quickRefused (kept s (known s v)) (e + 1) vs
 
@@ -46,19 +46,21 @@ quick-refused s e (v ∷ vs) r h =
     ap (λ (x : List (List ℕ)). noteLines e (resultNumber (step s v)) ++ x) (quick-refused (after s v) (e + 1) vs (run-in s (v ∷ []) r) (room-after (length vs) s v (λ k. omega (arith, h k))))
     ∙ ap (λ (x : Result). noteLines e (resultNumber x) ++ quickRefused (kept s x) (e + 1) vs) (by-between s v r (room-below _ (s .sent) h))
 
--- the lines of a run from the starting table
-abbrev quickLines : ℕ → Limits → Reading → List (List ℕ)
-quickLines n lim r = quickRefused (start n lim) 1 (r .events) ++ (endingLines (r .ending) ++ tableLines (counting (start n lim) (r .events)))
+-- the lines of a list of n nodes with these limits, where f says what is printed of the last table
+abbrev pub quickLines : (State → List (List ℕ)) → ℕ → Limits → Reading → List (List ℕ)
+quickLines f n lim r = cabinetsLine n ∷ (quickRefused (start n lim) 1 (r .events) ++ (endingLines (r .ending) ++ f (counting (start n lim) (r .events))))
 
--- the text of a list of n nodes with these limits
-pub quick-text : (l : List ℕ) (n : ℕ) (lim : Limits) → First.Nodes n lim ≡ firstOf l → length (rest l 4 .events) < trafficEnd → textOf l ≡ joined (cabinetsLine n ∷ quickLines n lim (rest l 4))
-quick-text l n lim i k =
+pub quick-lines : (f : State → List (List ℕ)) (l : List ℕ) (n : ℕ) (lim : Limits) → First.Nodes n lim ≡ firstOf l → length (rest l 4 .events) < trafficEnd → linesWith f l ≡ quickLines f n lim (rest l 4)
+quick-lines f l n lim i k =
     let g = start-in-range l i refl in
     let m = start-room (length (rest l 4 .events)) k in
-    ap joined
-    (lines-begun tableLines l i refl
+    lines-begun f l i refl
     ∙ ap (λ (x : List (List ℕ)). cabinetsLine n ∷ x)
-    (ap₂ (λ (x : List (List ℕ)) (s : State). x ++ (endingLines (rest l 4 .ending) ++ tableLines s)) (quick-refused (start n lim) 1 (rest l 4 .events) g m) (run-counting (start n lim) (rest l 4 .events) g m)))
+    (ap₂ (λ (x : List (List ℕ)) (s : State). x ++ (endingLines (rest l 4 .ending) ++ f s)) (quick-refused (start n lim) 1 (rest l 4 .events) g m) (run-counting (start n lim) (rest l 4 .events) g m))
+
+-- and the bench program's text
+pub quick-text : (l : List ℕ) (n : ℕ) (lim : Limits) → First.Nodes n lim ≡ firstOf l → length (rest l 4 .events) < trafficEnd → textOf l ≡ joined (quickLines tableLines n lim (rest l 4))
+quick-text l n lim i k = ap joined (quick-lines tableLines l n lim i k)
 
 pub list-cases : ListCases
 unfolding pick onesIn ones leadingZeros inviteNext merges handNext finishes forwardNext askedAll askAt askAfter isChecked timedOut ticked expired resumed onAreYouCoordinator onAreYouThere onInvitation onAccept onReady onReply received react waits oldest withoutOldest reactionTo remaining effect grounds judged lengthOf cutShort checked eventOf nextAt limitsOf nodesOf firstOf readFrom rest reading digits decimal row cabinetsLine refusedLine stoppedLine nodeLine messagesLine totalLine totalLines total nodeLines tableLines joined noteLines linesWith
