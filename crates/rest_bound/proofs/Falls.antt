@@ -157,10 +157,10 @@ module _ (r : PairRule) (n : ℕ) (lim : Limits) (h : RunHolds r n lim) (es : Li
       subst (λ (k : ℕ). potential (runBy r n lim es) ≤ restBound k (length (runBy r n lim es .queue))) run-size
       (potential-most (runBy r n lim es) (h .in-range es) (runs-suit r n lim es))
 
-  run-waiting : length (runBy r n lim es .queue) ≤ lim .messages
+  pub run-waiting : length (runBy r n lim es .queue) ≤ lim .messages
   run-waiting = subst (λ (l : Limits). length (runBy r n lim es .queue) ≤ l .messages) (h .same-limits es) (in-range-own (runBy r n lim es) (h .in-range es) .1)
 
-run-rests : (r : PairRule) (n : ℕ) (lim : Limits) → RunHolds r n lim → RunRests r n lim
+pub run-rests : (r : PairRule) (n : ℕ) (lim : Limits) → RunHolds r n lim → RunRests r n lim
 run-rests r n lim h =
     record {
       suits = runs-suit r n lim;

@@ -3,3 +3,4 @@ pub mod Quiet
 pub mod Potential
 pub mod Turns
 pub mod Claims
+pub mod Cases

@@ -3,3 +3,4 @@ pub mod Bound
 pub mod Behind
 pub mod Cases
 pub mod Mutants
+pub mod Chains

@@ -4,3 +4,4 @@ pub mod Rested
 pub mod Claims
 pub mod Cases
 pub mod Mutants
+pub mod Chains
