@@ -40,7 +40,7 @@ pub const ACTIVITIES: [&str; 9] = [
     "accepting",
 ];
 
-const KINDS: [&str; 6] =
+pub const KINDS: [&str; 6] =
     ["AreYouCoordinator", "AreYouThere", "Invitation", "Accept", "Ready", "reply"];
 
 /// What an accepted event did, finer than its name.

@@ -27,7 +27,7 @@ pub fn fuzzed<F: Fuzzer>(
 }
 
 /// What a program is given that goes on for so long: SECONDS [SEED].
-fn seconds_and_seed(program: &str) -> Result<(u64, u64), String> {
+pub fn seconds_and_seed(program: &str) -> Result<(u64, u64), String> {
     let arguments: Vec<String> = std::env::args().skip(1).collect();
     let numbers: Option<Vec<u64>> = arguments.iter().map(|word| word.parse().ok()).collect();
     match numbers.as_deref() {

@@ -1,4 +1,4 @@
-//! A second implementation of document 01 (coordinator election among cabinets) and of T-01 to T-12 of
+//! A second implementation of document 01 (coordinator election among cabinets) and of T-01 to T-13 of
 //! document 02, written from the papers alone, so that other implementations can be compared with it.
 //! Document 01's cabinet is called node here, and its book history.
 
@@ -27,6 +27,7 @@ pub mod numbers;
 pub mod print;
 pub mod proved;
 pub mod recovery_corners;
+pub mod rest;
 pub mod round;
 pub mod rows;
 pub mod sha256;

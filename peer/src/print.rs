@@ -11,6 +11,16 @@ pub fn run_list(list: &[u8]) -> Vec<u8> {
 
 /// The same by any machine.
 pub fn run_list_by(machine: impl Fn(&mut Table, &Event) -> Result<(), u8>, list: &[u8]) -> Vec<u8> {
+    run_list_and(machine, list, |_, _| {})
+}
+
+/// The same with something done to the table between the list and the printing of the table, which may add lines
+/// before it. Where the whole list or the first field failed, it is not done.
+pub fn run_list_and(
+    machine: impl Fn(&mut Table, &Event) -> Result<(), u8>,
+    list: &[u8],
+    then: impl FnOnce(&mut Table, &mut String),
+) -> Vec<u8> {
     let mut text = String::new();
     match read_list(list) {
         // "if the whole list or the first field failed, that line is all that is printed"
@@ -27,6 +37,7 @@ pub fn run_list_by(machine: impl Fn(&mut Table, &Event) -> Result<(), u8>, list:
             if let Some(stop) = list.stop {
                 print_stop(&mut text, stop);
             }
+            then(&mut table, &mut text);
             print_table(&mut text, &table);
         }
     }
@@ -66,7 +77,7 @@ pub fn print_table(text: &mut String, table: &Table) {
 }
 
 /// "0x0A ends each line"
-fn line(text: &mut String, words: std::fmt::Arguments) {
+pub fn line(text: &mut String, words: std::fmt::Arguments) {
     text.write_fmt(words).expect("a String takes every line");
     text.push('\n');
 }

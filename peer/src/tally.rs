@@ -1,5 +1,5 @@
 //! How often each corner was met, held against where the papers make it possible: the counts of the books of the Bully
-//! machine, of the round and of the controllers, and what a fuzzer asks of any book.
+//! machine, of the round, of the controllers and of T-13, and what a fuzzer asks of any book.
 
 use crate::corners::{counts_text, Count, Source};
 use std::collections::HashMap;

@@ -6,26 +6,14 @@ use mathlib.Core.Path.{_≡_}
 use mathlib.Core.List.{[], _∷_}
 use Rattle.model.specs.Node.{asks, calls, replies}
 use Rattle.model.specs.State.{startingNode}
-use Rattle.model.specs.Cases.{setOf, none, node, k10, collecting}
+use Rattle.model.specs.Cases.{callNo, groupNo, taskNo, setOf, none, node, k10, collecting}
 use Rattle.model.specs.declared.Status.the-variants.{Down, Election, Reorganization, Normal}
 use Rattle.model.specs.declared.Activity.the-variants.{Idle, Asking, Collecting, Contacting}
-use Rattle.model.specs.declared.CallNo.{CallNo}
-use Rattle.model.specs.declared.GroupNo.{GroupNo}
-use Rattle.model.specs.declared.TaskNo.{TaskNo}
 use Rattle.model.specs.declared.Node.{Node}
 use Rattle.message_fields.specs.Fields.{fields}
 use Rattle.controller.specs.declared.LocalEvent.the-variants.{Recover, Check, Timeout, Finish}
 use Rattle.controller.specs.Controller.{event, message, refused, accepted, controllerStep}
 use Rattle.controller.specs.Network.{networkRun}
-
-abbrev callNo : ℕ → CallNo
-callNo k = record { number = k }
-
-abbrev groupNo : ℕ → GroupNo
-groupNo g = record { number = g }
-
-abbrev taskNo : ℕ → TaskNo
-taskNo t = record { number = t }
 
 -- node 1 alone in its group 16, Normal, with the members m and the last call number l
 abbrev pub first : ℕ → ℕ → Node

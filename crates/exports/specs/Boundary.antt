@@ -1,15 +1,15 @@
 -- What the exported functions promise: for any bytes at all, the number that is answered and what the lent buffer then holds.
 use mathlib.Core.Path.{_≡_}
 use mathlib.Core.Bool.{not}
-use mathlib.Core.List.{List, [], _∷_}
+use mathlib.Core.List.{List}
 use Prim.Native.Nat.{ℕ, _+_}
 use lib.Dec.{eqb}
 use Rattle.model.specs.Pick.{pick}
 use Rattle.model.specs.Recovery.{recoveryRecords}
 use Rattle.model.specs.State.{State, start, nodeAt, inRange, view, tableOf}
 use Rattle.model.specs.Step.{step, after}
+use Rattle.model.specs.Traffic.{acceptedFrom}
 use Rattle.model.specs.Answers.{resultNumber}
-use Rattle.model.specs.declared.Event.{Event}
 use Rattle.model.specs.declared.Event.the-variants.{Recover}
 use Rattle.event_list.specs.Format.{Listed, failed, begun, reading, stopNumber, nextAt}
 use Rattle.event_list.specs.declared.Stop.the-variants.{CutShort}
@@ -76,13 +76,10 @@ pub record RecoveryExported (t : List ℕ) (i : ℕ) (b o : List ℕ) (r : ℕ) 
   pub back : r ≡ 0 → many nodeOf 29 8 o ≡ recoveryRecords i (nodeAt (stateOf t) i)
 
 -- ── nevraspu_fold: the count of accepted events ──
+
+-- k, and one more where an event's number says that it is accepted
 unfoldable pub plusAccepted : ℕ → ℕ → ℕ
 plusAccepted k r = pick (eqb r 0) (k + 1) k
-
--- of a run from s
-unfoldable pub acceptedFrom : State → List Event → ℕ
-acceptedFrom s [] = 0
-acceptedFrom s (e ∷ es) = plusAccepted (acceptedFrom (after s e) es) (resultNumber (step s e))
 
 abbrev pub acceptedListed : Listed → ℕ
 acceptedListed (failed s) = 0

@@ -26,7 +26,8 @@ ghost use lib.ListN.{length};
 ghost use Rattle.model.specs.State.{startingNode, noMessage, firstOf, view, tableOf};
 ghost use Rattle.event_list.specs.Format.{rest};
 ghost use Rattle.table_bytes.specs.Bytes.{size};
-ghost use Rattle.exports.specs.Boundary.{StepExported, RecoveryExported, plusAccepted, acceptedFrom, acceptedIn};
+ghost use Rattle.model.specs.Traffic.{acceptedFrom};
+ghost use Rattle.exports.specs.Boundary.{StepExported, RecoveryExported, plusAccepted, acceptedIn};
 ghost use Rattle.exports.specs.Parts.{Answered};
 
 // The message that stands in places which are no part of a table; the record is machine::starting_node.

@@ -287,6 +287,7 @@ lines-determine =
       refused = λ e r f q h i j k. two-same (bytes "refused") (wide h) (wide i) (wide j) (wide k);
       stopped = λ a r b q h i j k. two-same (bytes "stopped") (wide h) (wide i) (wide j) (wide k);
       messages = λ k j h i. one-same (bytes "messages") (wide h) (wide i);
+      turns = λ k j h i. one-same (bytes "turns") (wide h) (wide i);
       totals = total-same;
       node = λ i c j d h f k g. node-same i c j d (wide h) f (wide k) g;
       table = λ s t f g e. table-same s t f g (joined-same (tableLines s) (tableLines t) (table-lines s) (table-lines t) e);

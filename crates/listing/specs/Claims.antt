@@ -11,7 +11,7 @@ use Rattle.model.specs.Range.{nodeInRange}
 use Rattle.model.specs.State.{State, nodeAt, inRange}
 use Rattle.listing.specs.Ascii.{bytes}
 use Rattle.listing.specs.Decimal.{decimal, Denotes}
-use Rattle.listing.specs.Lines.{cabinetsLine, refusedLine, stoppedLine, nodeLine, messagesLine, sentWord, deliveredWord, lostWord, totalLine, nodeLines, tableLines}
+use Rattle.listing.specs.Lines.{cabinetsLine, refusedLine, stoppedLine, nodeLine, messagesLine, turnsLine, sentWord, deliveredWord, lostWord, totalLine, nodeLines, tableLines}
 use Rattle.listing.specs.Printing.{printed, joined}
 
 -- "numbers have no leading zeros": the digits of every number of 64 bits denote it
@@ -71,6 +71,7 @@ pub record LinesDetermine : Type 0 where
   pub refused : (e r f q : ℕ) → e < 2 ^ 32 → r < 2 ^ 32 → f < 2 ^ 32 → q < 2 ^ 32 → refusedLine e r ≡ refusedLine f q → (e ≡ f) × (r ≡ q)
   pub stopped : (a r b q : ℕ) → a < 2 ^ 32 → r < 2 ^ 32 → b < 2 ^ 32 → q < 2 ^ 32 → stoppedLine a r ≡ stoppedLine b q → (a ≡ b) × (r ≡ q)
   pub messages : (k j : ℕ) → k < 2 ^ 32 → j < 2 ^ 32 → messagesLine k ≡ messagesLine j → k ≡ j
+  pub turns : (k j : ℕ) → k < 2 ^ 32 → j < 2 ^ 32 → turnsLine k ≡ turnsLine j → k ≡ j
   pub totals : (word : List ℕ) (x y : ℕ) → x < 2 ^ 64 → y < 2 ^ 64 → totalLine word x ≡ totalLine word y → x ≡ y
   pub node : (i : ℕ) (c : Node) (j : ℕ) (d : Node) → i < 2 ^ 32 → SmallNode c → j < 2 ^ 32 → SmallNode d → nodeLine i c ≡ nodeLine j d → (i ≡ j) × SameShown c d
   -- the lines after one another, as bytes

@@ -33,13 +33,13 @@ use Rattle.model.specs.declared.Answer.the-variants.{NotCoordinator, NoM
 use Rattle.model.specs.declared.Event.{Event}
 use Rattle.model.specs.declared.Event.the-variants.{Crash, Recover, Check, Timeout, Tick, Expire, Finish, Deliver, Lose}
 
-abbrev taskNo : ℕ → TaskNo
+abbrev pub taskNo : ℕ → TaskNo
 taskNo t = record { number = t }
 
-abbrev callNo : ℕ → CallNo
+abbrev pub callNo : ℕ → CallNo
 callNo k = record { number = k }
 
-abbrev groupNo : ℕ → GroupNo
+abbrev pub groupNo : ℕ → GroupNo
 groupNo g = record { number = g }
 
 -- what a node's line prints: "number, status, coordinator, group, task, counter, count of members"

@@ -52,6 +52,10 @@ unfoldable pub tally : (State → Event → ℕ) → State → List Event → �
 tally f s [] = 0
 tally f s (e ∷ es) = ofAccepted (f s e) (step s e) + tally f (after s e) es
 
+-- how many events of a list are accepted, from the state s on: each gets the table that the one before left, and a refused one leaves it as it is
+abbrev pub acceptedFrom : State → List Event → ℕ
+acceptedFrom s es = tally (λ s e. 1) s es
+
 -- over n, the limits and the list alone, from the starting table: messages sent from a to b, delivered and lost
 abbrev pub sentIn : PairRule → ℕ → Limits → List Event → ℕ → ℕ → ℕ
 sentIn r n l es a b = tally (sends a b) (startBy r n l) es

@@ -13,8 +13,8 @@ pub rest-bound-cases : RestBoundCases
 unfolding pick onesIn ones leadingZeros inviteNext merges handNext finishes forwardNext askedAll askAt askAfter checked timedOut ticked expired resumed onAreYouCoordinator onAreYouThere onInvitation onAccept onReady onReply received react waits oldest withoutOldest reactionTo remaining effect kindWeight membersWeight nodesWeight queueWeight
 rest-bound-cases =
     record {
-      tower = refl;
-      stand = refl;
+      of-tower = refl;
+      of-stand = refl;
       tower-turns = refl;
       stand-turns = refl;
       kinds = refl;
@@ -22,11 +22,13 @@ rest-bound-cases =
       asks-last = refl;
       ticks = refl;
       merges = refl;
+      merges-at-once = refl;
       invites-next = refl;
       collects = refl;
       finishes = refl;
       hands-next = refl;
       hands-last = refl;
+      hands-none = refl;
       forwards = refl;
       forwards-next = refl;
       accepts = refl;
@@ -34,6 +36,7 @@ rest-bound-cases =
       accepted = refl;
       answers = refl;
       recovers = refl;
+      contacted = refl;
       dropped = refl;
       lost = refl;
       check = refl;

@@ -11,7 +11,7 @@ use Rattle.model.specs.React.{react}
 use Rattle.model.specs.Range.{PairRule, TwoPairs, LeftOut, nodeInRange}
 use Rattle.model.specs.State.{State, startingNode, startBy, nodeAt, waits, oldest, withoutOldest, every, inRange}
 use Rattle.model.specs.Step.{actor, reactionTo, remaining, sent, effect, step, kept, after, runFrom, runBy}
-use Rattle.model.specs.Traffic.{ofAccepted, tally}
+use Rattle.model.specs.Traffic.{ofAccepted, tally, acceptedFrom}
 use Rattle.model.specs.Claims.{RunHolds}
 use Rattle.model.proofs.Judged.{Clear, by-step, accepted-is}
 use Rattle.model.proofs.Local.{both-left, both-right}
@@ -27,7 +27,7 @@ use Rattle.model.specs.declared.Outgoing.{Outgoing}
 use Rattle.model.specs.declared.Outgoing.the-variants.{Nothing, Send}
 use Rattle.model.specs.declared.Event.{Event}
 use Rattle.model.specs.declared.Event.the-variants.{Crash, Recover, Check, Timeout, Tick, Expire, Finish, Deliver, Lose}
-use Rattle.rest_bound.specs.Quiet.{quiet, allQuiet, acceptedIn}
+use Rattle.rest_bound.specs.Quiet.{quiet, allQuiet}
 use Rattle.rest_bound.specs.Potential.{messageWeight, nodeWeight, nodesWeight, queueWeight, potential, nodeSuits, suited, restBound}
 use Rattle.rest_bound.specs.Claims.{PotentialFalls, RunRests, ComesToRest}
 use Rattle.rest_bound.proofs.Suits.{place, facts, here-suits, effect-suits, step-suits, runs-suit}
@@ -113,7 +113,7 @@ module _ (s : State) (ok : suited s ≡ true) where
 -- ── the claims ──
 
 -- what the accepted events cost was there
-pub spent : (s : State) (es : List Event) → suited s ≡ true → allQuiet es ≡ true → acceptedIn s es + potential (runFrom s es) ≤ potential s
+pub spent : (s : State) (es : List Event) → suited s ≡ true → allQuiet es ≡ true → acceptedFrom s es + potential (runFrom s es) ≤ potential s
 unfolding tally allQuiet runFrom
 spent s [] ok q = omega arith
 spent s (e ∷ es) ok q =
@@ -168,7 +168,7 @@ run-rests r n lim h =
       full = λ es fs q. omega (arith, rests es fs q, run-waiting r n lim h es);
     }
   where
-    rests : (es fs : List Event) → allQuiet fs ≡ true → acceptedIn (runBy r n lim es) fs ≤ restBound n (length (runBy r n lim es .queue))
+    rests : (es fs : List Event) → allQuiet fs ≡ true → acceptedFrom (runBy r n lim es) fs ≤ restBound n (length (runBy r n lim es .queue))
     rests es fs q = omega (arith, spent (runBy r n lim es) fs (runs-suit r n lim es) q, run-potential r n lim h es)
 
 -- the bound grows with n
@@ -184,6 +184,7 @@ comes-to-rest =
       for-tower = tower;
       for-stand = stand;
       any-limits = λ n lim a b low high. run-rests LeftOut n lim (tower-and-stand .any-limits n lim a b low high);
+      any-shown = λ n lim a b low high es fs q. omega (arith, run-rests LeftOut n lim (tower-and-stand .any-limits n lim a b low high) .full es fs q, bound-most n 16 (lim .messages) (omega arith));
       tower-asked = λ n low high es fs q. omega (arith, tower n low high .full es fs q, bound-most n 16 64 high);
       stand-asked = λ n low high es fs q. omega (arith, stand n low high .full es fs q, bound-most n 4 12 high);
       tower-shown = λ n low high es fs q. omega (arith, tower n low high .full es fs q, bound-most n 16 64 high);

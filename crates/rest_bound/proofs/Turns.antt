@@ -3,18 +3,17 @@ use Prim.Native.Nat.{ℕ, zero, suc, _+_, _-_, _*_, _<_, _≤_}
 use native.Mathlib.Omega.{arith}
 use native.Mathlib.Nat.{suc-mul}
 use mathlib.Core.Bool.{Bool, true, false, _&&_, true≢false}
-use mathlib.Core.Logic.{_⊎_, inl, inr, ⊎-elim}
 use mathlib.Core.Path.{_≡_, refl, sym, _∙_, ap, subst}
 use mathlib.Core.List.{List, [], _∷_, _++_}
 use lib.Dec.{eqb}
 use lib.ListN.{length, replicate, replicate-append-replicate}
 use borrow.Author.Tests.{not-false, eqb-true, eqb-false, eq-eqb}
-use Rattle.model.specs.Pick.{pick, pick-true, pick-false, by-test}
+use Rattle.model.specs.Pick.{pick-true, pick-false, by-test}
 use Rattle.model.specs.Counts.{one}
 use Rattle.model.specs.Range.{PairRule, TwoPairs, LeftOut, messageInRange}
-use Rattle.model.specs.State.{State, startBy, goes, waits, waiting, howMany, every, inRange}
+use Rattle.model.specs.State.{State, goes, waits, waiting, howMany, every, inRange}
 use Rattle.model.specs.Step.{Result, refused, accepted, step, after, runFrom, runBy}
-use Rattle.model.specs.Traffic.{ofAccepted, tally}
+use Rattle.model.specs.Traffic.{ofAccepted, tally, acceptedFrom}
 use Rattle.model.specs.Claims.{RunHolds}
 use Rattle.model.proofs.Judged.{accepted-is}
 use Rattle.model.proofs.Local.{both-left, both-right}
@@ -29,7 +28,7 @@ use Rattle.model.specs.declared.Event.{Event}
 use Rattle.model.specs.declared.Event.the-variants.{Crash, Recover, Check, Timeout, Tick, Expire, Finish, Deliver, Lose}
 use Rattle.round.specs.Order.{isInRound, roundSize, firstPair}
 use Rattle.round.specs.Turn.{Turn, turnAt, tableAfter, doneIn, eventOf}
-use Rattle.round.specs.Schedule.{Move, turn, event, turns, Drive, drive, moved, driven, moveEvents, eventsOf, Waits, takes, outOf, outIn}
+use Rattle.round.specs.Schedule.{Move, turn, event, turns, Drive, drive, moved, driven, moveEvents, eventsOf, Waits, takes, outOf}
 use Rattle.round.specs.Claims.{AtPair}
 use Rattle.round.proofs.Order.{round-order}
 use Rattle.round.proofs.Turns.{same-two, Does, idles, loses, passes-on, turn-cases, lose-accepted}
@@ -37,26 +36,26 @@ use Rattle.round.proofs.Schedules.{turn-event, tally-append, schedule-is-run, r
 use Rattle.round.specs.declared.Place.{Place}
 use Rattle.round.specs.declared.Done.{Done}
 use Rattle.round.specs.declared.Done.the-variants.{Nothing, Delivered, Lost}
-use Rattle.rest_bound.specs.Quiet.{quiet, allQuiet, acceptedIn}
-use Rattle.rest_bound.specs.Potential.{queueWeight, potential, suited, restBound}
+use Rattle.rest_bound.specs.Quiet.{quiet, allQuiet}
+use Rattle.rest_bound.specs.Potential.{potential, suited, restBound}
 use Rattle.rest_bound.specs.Turns.{countOf, turnsCounted, quietMoves, acceptedBy, queueEmpty, turnsWithin, turnBound, turnsToRest, tableAtRest}
-use Rattle.rest_bound.specs.Claims.{TurnCounts, RestsAfter, DriverRests, DriverComesToRest}
+use Rattle.rest_bound.specs.Claims.{TurnCounts, RestsAfter, TurnsEnd, DriverRests, DriverComesToRest}
 use Rattle.rest_bound.proofs.Suits.{run-suits, runs-suit}
 use Rattle.rest_bound.proofs.Falls.{queue-least, spent, potential-most, run-size, run-potential}
 
 -- ── one turn ──
 
 -- one accepted event counts once
-accepted-one : (s : State) (e : Event) (u : State) (r : Result) → step s e ≡ r → ofAccepted 1 r ≡ 1 → acceptedIn s (e ∷ []) ≡ 1
+accepted-one : (s : State) (e : Event) (u : State) (r : Result) → step s e ≡ r → ofAccepted 1 r ≡ 1 → acceptedFrom s (e ∷ []) ≡ 1
 unfolding tally
 accepted-one s e u r z q = let y = ap (ofAccepted 1) z in omega (arith, y, q)
 
-counts : (s : State) (p : Place) → acceptedIn s (eventOf p (doneIn (turnAt s p))) ≡ countOf (doneIn (turnAt s p))
+counts : (s : State) (p : Place) → acceptedFrom s (eventOf p (doneIn (turnAt s p))) ≡ countOf (doneIn (turnAt s p))
 unfolding tally
 counts s p = by (turn-cases s p)
   where
     C : Done → Type 0
-    C d = acceptedIn s (eventOf p d) ≡ countOf d
+    C d = acceptedFrom s (eventOf p d) ≡ countOf d
 
     by : Does s p → C (doneIn (turnAt s p))
     by (idles d) = subst C (sym d) refl
@@ -108,11 +107,11 @@ schedule-spent d ms ok q =
     omega (arith, spent (d .table) (eventsOf d ms) ok (events-quiet d ms q), ap (λ (s : State). potential s) (schedule-is-run .schedule d ms))
 
 -- in the first move of a schedule, and in the others
-accepted-first : (d : Drive) (m : Move) (ms : List Move) → acceptedBy d (m ∷ ms) ≡ acceptedIn (d .table) (moveEvents d m) + acceptedBy (moved d m) ms
+accepted-first : (d : Drive) (m : Move) (ms : List Move) → acceptedBy d (m ∷ ms) ≡ acceptedFrom (d .table) (moveEvents d m) + acceptedBy (moved d m) ms
 unfolding eventsOf
 accepted-first d m ms =
     tally-append _ (d .table) (moveEvents d m) (eventsOf (moved d m) ms)
-    ∙ ap (λ (s : State). acceptedIn (d .table) (moveEvents d m) + acceptedIn s (eventsOf (moved d m) ms)) (sym (schedule-is-run .move d m))
+    ∙ ap (λ (s : State). acceptedFrom (d .table) (moveEvents d m) + acceptedFrom s (eventsOf (moved d m) ms)) (sym (schedule-is-run .move d m))
 
 -- the turns that count are among the accepted events
 turns-among : (d : Drive) (ms : List Move) → turnsCounted d ms ≤ acceptedBy d ms
@@ -168,7 +167,7 @@ takes-most a b s (Lose x y) = by (eqb x a && eqb y b)
     by true = omega arith
     by false = omega arith
 
-taken-among : (a b : ℕ) (s : State) (es : List Event) → outOf a b s es ≤ acceptedIn s es
+taken-among : (a b : ℕ) (s : State) (es : List Event) → outOf a b s es ≤ acceptedFrom s es
 unfolding tally
 taken-among a b s [] = omega arith
 taken-among a b s (e ∷ es) = omega (arith, by (step s e), taken-among a b (after s e) es)
@@ -329,6 +328,13 @@ first-enough s r ok = by (eqb (s .n) 1) refl
         (record { size = refl; at = record { in-range = r; in-round = round-order .starts (s .n) two }; suits = ok })
         (potential-most s r ok) (omega arith)
 
+pub turns-end : TurnsEnd
+turns-end =
+    record {
+      within = λ s p k x ok h. rests-within (s .n) (potential s) k (drive s p) (record { size = refl; at = x; suits = ok }) (omega arith) h;
+      first = λ s r ok. rests-after (turnBound s) (drive s firstPair) (first-enough s r ok);
+    }
+
 pub left-first : (s : State) → inRange s ≡ true → suited s ≡ true → Left s (turnBound s) 0 (drive s firstPair)
 left-first s r ok = record { enough = first-enough s r ok; number = omega arith; table = refl }
 
@@ -344,7 +350,7 @@ module _ (r : PairRule) (n : ℕ) (lim : Limits) (h : RunHolds r n lim) where
       record {
         accepts = accepts;
         turns-count = λ es p ms q. omega (arith, accepts es p ms q, turns-among (drive (T es) p) ms);
-        spent = λ es p ms q k. weightless (driven (drive (T es) p) ms .table) (omega (arith, schedule-spent (drive (T es) p) ms (runs-suit r n lim es) q, run-potential r n lim h es, k));
+        spent = λ es p ms q k. weightless (driven (drive (T es) p) ms .table) (omega (arith, schedule-spent (drive (T es) p) ms (runs-suit r n lim es) q, k));
         still = λ es p k e. stands k (drive (T es) p) e;
         turns = λ es p k e b.
             rests-within n (restBound n (length (T es .queue))) k (drive (T es) p)
@@ -355,7 +361,7 @@ module _ (r : PairRule) (n : ℕ) (lim : Limits) (h : RunHolds r n lim) where
             })
             (run-potential r n lim h es) b;
         alone = λ es e. alone-empty (T es) (h .in-range es) (run-size r n lim h es ∙ e);
-        first = λ es. rests-after (turnBound (T es)) (drive (T es) firstPair) (first-enough (T es) (h .in-range es) (runs-suit r n lim es));
+        first = λ es. turns-end .first (T es) (h .in-range es) (runs-suit r n lim es);
         within = λ es. subst (λ (i : ℕ). turnsToRest (T es) ≤ restBound i (length (T es .queue)) * roundSize i) (run-size r n lim h es) (within-most (turnBound (T es)) (drive (T es) firstPair));
       }
 

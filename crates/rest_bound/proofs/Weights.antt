@@ -1,17 +1,17 @@
 -- A reaction weighs less than what it comes of: one lemma a procedure.
 use Prim.Native.Nat.{ℕ, _+_, _-_, _*_, _<_, _≤_}
 use native.Mathlib.Omega.{arith}
-use mathlib.Core.Bool.{Bool, true, false, not, _&&_, true≢false}
+use mathlib.Core.Bool.{Bool, true, false, _&&_, true≢false}
 use mathlib.Core.Path.{_≡_, refl, sym, _∙_, ap}
 use lib.Dec.{eqb}
-use borrow.Author.Tests.{not-false, not-true, eqb-true, eqb-false, leb-true, ne-eqb}
+use borrow.Author.Tests.{not-true, eqb-true, eqb-false, leb-true, ne-eqb}
 use Rattle.node_set.specs.NodeSet.{with, without, count}
-use Rattle.node_set.proofs.Laws.{within-word, empty-within, empty-lacks, has-highest, highest-in, with-within, with-lacks, count-within, count-lacks, count-without}
+use Rattle.node_set.proofs.Laws.{within-word, empty-within, has-highest, highest-in, count-within, count-lacks, count-without}
 use Rattle.model.specs.Pick.{pick, pick-true, pick-false, by-test}
 use Rattle.model.specs.Node.{isDown, isElection, isReorganization, isNormal, isActive, isWaiting, isCollecting, hasOpenCall, ownerOf, tasked, joined, merged, invited}
 use Rattle.model.specs.Procedures.{next, answers, recovers, inviteNext, merges, handNext, finishes, forwardNext, askedAll, askAt, askAfter}
 use Rattle.model.specs.React.{leads, ticked, expired, resumed, onAreYouCoordinator, onAreYouThere, onInvitation, onAccept, onReady, onReply, received}
-use Rattle.rest_bound.specs.Potential.{kindWeight, messageWeight, activityWeight, heads, membersWeight, nodeWeight, suits, nodeSuits}
+use Rattle.rest_bound.specs.Potential.{kindWeight, messageWeight, activityWeight, isActiveCoordinator, membersWeight, nodeWeight, suits, nodeSuits}
 use Rattle.model.proofs.Local.{both-left, both-right}
 use Rattle.model.proofs.Fields.{IsSetOfOthers, IsOther, Busy, NodeFacts}
 use Rattle.model.proofs.Invitation.{acts-normal}
@@ -68,11 +68,11 @@ count-none : count 0 ≡ 0
 count-none = omega (arith, count-within 0 0 (empty-within 0))
 
 module _ (i : ℕ) (s : Status) (o m : ℕ) where
-  members-some : heads i s o ≡ true → membersWeight i s o m ≡ 5 * count m
+  members-some : isActiveCoordinator i s o ≡ true → membersWeight i s o m ≡ 5 * count m
   unfolding membersWeight
   members-some h = rw (h, pick-true)
 
-  members-none : heads i s o ≡ false → membersWeight i s o m ≡ 0
+  members-none : isActiveCoordinator i s o ≡ false → membersWeight i s o m ≡ 0
   unfolding membersWeight
   members-none h = rw (h, pick-false)
 
@@ -84,7 +84,7 @@ module _ (i : ℕ) (s : Status) (o m : ℕ) where
   pub election-none : isElection s ≡ true → membersWeight i s o m ≡ 0
   election-none e = members-none (still s e)
     where
-      still : (a : Status) → isElection a ≡ true → heads i a o ≡ false
+      still : (a : Status) → isElection a ≡ true → isActiveCoordinator i a o ≡ false
       still Down q = refl
       still Election q = refl
       still Reorganization q = absurd (true≢false (sym q))
@@ -95,7 +95,7 @@ module _ (i : ℕ) (s : Status) (o m : ℕ) where
   unfolding membersWeight
   normal-same e = ap (λ b. pick b (5 * count m) 0) (same s e)
     where
-      same : (a : Status) → isActive a ≡ true → heads i Normal o ≡ heads i a o
+      same : (a : Status) → isActive a ≡ true → isActiveCoordinator i Normal o ≡ isActiveCoordinator i a o
       same Down q = absurd (true≢false (sym q))
       same Election q = absurd (true≢false (sym q))
       same Reorganization q = refl
@@ -107,17 +107,17 @@ reorganizing-active Election e = absurd (true≢false (sym e))
 reorganizing-active Reorganization e = refl
 reorganizing-active Normal e = absurd (true≢false (sym e))
 
-normal-heads : (i : ℕ) (s : Status) (o : ℕ) → isNormal s ≡ true → eqb o i ≡ true → heads i s o ≡ true
+normal-heads : (i : ℕ) (s : Status) (o : ℕ) → isNormal s ≡ true → eqb o i ≡ true → isActiveCoordinator i s o ≡ true
 normal-heads i Down o e q = absurd (true≢false (sym e))
 normal-heads i Election o e q = absurd (true≢false (sym e))
 normal-heads i Reorganization o e q = absurd (true≢false (sym e))
 normal-heads i Normal o e q = q
 
-leads-heads : (i : ℕ) (c : Node) → leads i c ≡ true → heads i (c .status) (c .coordinator) ≡ true
+leads-heads : (i : ℕ) (c : Node) → leads i c ≡ true → isActiveCoordinator i (c .status) (c .coordinator) ≡ true
 leads-heads i c e = normal-heads i (c .status) (c .coordinator) (both-left (isNormal (c .status)) _ e) (both-right (isNormal (c .status)) _ e)
 
 -- another's coordination
-other-heads : (i : ℕ) (s : Status) (o : ℕ) → eqb o i ≡ false → heads i s o ≡ false
+other-heads : (i : ℕ) (s : Status) (o : ℕ) → eqb o i ≡ false → isActiveCoordinator i s o ≡ false
 other-heads i s o e = off (isActive s) (eqb o i) e
   where
     off : (x y : Bool) → y ≡ false → (x && y) ≡ false
@@ -238,7 +238,7 @@ module _ {n i : ℕ} (p : Numbered n i) where
     resumed-below w y Contacting u k l h b = by-test (Below n i w) (λ _. omega arith) (λ _. recovers-below w c (omega arith))
     resumed-below w y (Forwarding r z a q) u k l h b = forwardNext-below w c r a q (b .0) (omega arith)
     resumed-below w y (Accepting a q) u k l h b =
-        let o : heads i Reorganization (c .coordinator) ≡ false = other-heads i Reorganization (c .coordinator) (ne-eqb (c .coordinator) i (λ z. b .2 (x .led u ∙ z))) in
+        let o : isActiveCoordinator i Reorganization (c .coordinator) ≡ false = other-heads i Reorganization (c .coordinator) (ne-eqb (c .coordinator) i (λ z. b .2 (x .led u ∙ z))) in
         omega (arith, members-none i Reorganization (c .coordinator) (c .members) o, kinds .replies)
 
     -- a reply to a call; what it says weighs nothing

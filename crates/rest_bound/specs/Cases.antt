@@ -1,16 +1,14 @@
--- The bound's values, and for each procedure a table of three nodes on which an event lowers the potential, with the potential before and after it: mostly by 1, so that no weight
--- stands for more than what can come of it. Only node 1 is up in these tables.
+-- The bound's values, and for each procedure a table of three nodes on which an event lowers the potential, with the potential before and after it. Where it falls by 1, that step has nothing
+-- to spare. One node is up in these tables, node 1 but for `merges-at-once`.
 use Prim.Native.Nat.{ℕ, _*_}
-use mathlib.Core.Bool.{true, false}
+use mathlib.Core.Bool.{true}
 use mathlib.Core.Path.{_≡_}
 use mathlib.Core.List.{List, [], _∷_, map}
-use Rattle.model.specs.State.{State}
+use Rattle.model.specs.Limits.{tower}
+use Rattle.model.specs.State.{State, startingNode, allWaiting}
 use Rattle.model.specs.Step.{effect}
-use Rattle.model.specs.Cases.{setOf, none, first, leader, node}
+use Rattle.model.specs.Cases.{callNo, groupNo, setOf, none, first, leader, node}
 use Rattle.model.specs.Node.{asks, calls, replies}
-use Rattle.model.specs.declared.CallNo.{CallNo}
-use Rattle.model.specs.declared.GroupNo.{GroupNo}
-use Rattle.model.specs.declared.TaskNo.{TaskNo}
 use Rattle.model.specs.declared.Status.the-variants.{Election, Reorganization, Normal}
 use Rattle.model.specs.declared.Activity.{Activity}
 use Rattle.model.specs.declared.Activity.the-variants.{Idle, Asking, Waiting, Inviting, Collecting, Handing, Contacting, Forwarding, Accepting}
@@ -20,13 +18,7 @@ use Rattle.model.specs.declared.Event.the-variants.{Check, Timeout, Tick, Expir
 use Rattle.round.specs.Order.{roundSize}
 use Rattle.rest_bound.specs.Potential.{kindWeight, potential, restBound}
 
-abbrev callNo : ℕ → CallNo
-callNo k = record { number = k }
-
-abbrev groupNo : ℕ → GroupNo
-groupNo g = record { number = g }
-
--- the potential of a table, and of what the event leaves of it where it is accepted
+-- the potential of a table, and of what the event leaves of it where it is accepted (`effect`; the grounds are not looked at here)
 abbrev pub before-after : State → Event → List ℕ
 before-after s e = potential s ∷ potential (effect s e) ∷ []
 
@@ -40,8 +32,8 @@ invitee a = node Election 1 33 2 100 (setOf (2 ∷ 3 ∷ [])) 5 a
 
 pub record RestBoundCases : Type 0 where
   -- the tower and the stand: accepted events, and turns
-  pub tower : restBound 16 64 ≡ 5344
-  pub stand : restBound 4 12 ≡ 312
+  pub of-tower : restBound 16 64 ≡ 5344
+  pub of-stand : restBound 4 12 ≡ 312
   pub tower-turns : restBound 16 64 * roundSize 16 ≡ 1282560
   pub stand-turns : restBound 4 12 * roundSize 4 ≡ 3744
   -- AreYouCoordinator, AreYouThere, Invitation, Accept, Ready, reply
@@ -52,6 +44,8 @@ pub record RestBoundCases : Type 0 where
   -- a tick, and the last one, at which it merges with both others found, who are its members too
   pub ticks : before-after (first (leader Normal 5 (Waiting 2 (setOf (3 ∷ [])))) []) (Tick 1) ≡ 38 ∷ 37 ∷ []
   pub merges : before-after (first (leader Normal 5 (Waiting 1 (setOf (2 ∷ 3 ∷ [])))) []) (Tick 1) ≡ 37 ∷ 36 ∷ []
+  -- node 3 has asked all, found both, and as its number is higher merges at once
+  pub merges-at-once : before-after (allWaiting 3 tower (startingNode ∷ startingNode ∷ node Normal 1 18 3 3 none 5 (Asking 2 (setOf (1 ∷ []))) ∷ []) (replies 2 3 (callNo 5) true ∷ [])) (Deliver 2 3) ≡ 33 ∷ 26 ∷ []
   -- inviting: on to the next, and after the last it collects
   pub invites-next : before-after (first (merging (Inviting (setOf (2 ∷ [])) none 3)) []) (Expire 1) ≡ 22 ∷ 21 ∷ []
   pub collects : before-after (first (merging (Inviting none none 2)) []) (Expire 1) ≡ 17 ∷ 16 ∷ []
@@ -59,6 +53,7 @@ pub record RestBoundCases : Type 0 where
   pub finishes : before-after (first (leader Election 5 Collecting) []) (Finish 1 (record { number = 100 })) ≡ 16 ∷ 15 ∷ []
   pub hands-next : before-after (first (leader Reorganization 5 (Handing (setOf (2 ∷ [])) 3)) (replies 3 1 (callNo 5) true ∷ [])) (Deliver 3 1) ≡ 14 ∷ 13 ∷ []
   pub hands-last : before-after (first (leader Reorganization 5 (Handing none 2)) (replies 2 1 (callNo 5) true ∷ [])) (Deliver 2 1) ≡ 12 ∷ 10 ∷ []
+  pub hands-none : before-after (first (leader Reorganization 5 (Handing none 2)) []) (Expire 1) ≡ 11 ∷ 0 ∷ []
   -- an invitation to a coordinator of two members, who forwards it; on to the next; after the last it accepts
   pub forwards : before-after (first (leader Normal 5 Idle) (calls 2 3 1 (callNo 7) (groupNo 33) ∷ [])) (Deliver 2 1) ≡ 14 ∷ 13 ∷ []
   pub forwards-next : before-after (first (invitee (Forwarding (setOf (2 ∷ [])) 3 2 (callNo 7))) []) (Expire 1) ≡ 9 ∷ 8 ∷ []
@@ -66,9 +61,10 @@ pub record RestBoundCases : Type 0 where
   -- an invitation to one without members, who accepts it at once; its acceptance is answered, and it answers its caller
   pub accepts-alone : before-after (first (node Normal 1 16 1 1 none 5 Idle) (calls 2 3 1 (callNo 7) (groupNo 33) ∷ [])) (Deliver 2 1) ≡ 4 ∷ 3 ∷ []
   pub accepted : before-after (first (invitee (Accepting 2 (callNo 7))) (replies 2 1 (callNo 5) true ∷ [])) (Deliver 2 1) ≡ 2 ∷ 1 ∷ []
-  -- a call that is answered; one to its coordinator that is given up; a reply that is dropped, and one that is lost
+  -- a call that is answered; one to its coordinator that is given up, and one that is answered with yes; a reply that is dropped, and one that is lost
   pub answers : before-after (first (node Normal 1 16 1 1 none 5 Idle) (asks 2 1 (callNo 7) ∷ [])) (Deliver 2 1) ≡ 2 ∷ 1 ∷ []
   pub recovers : before-after (first (node Normal 1 33 2 100 none 5 Contacting) []) (Expire 1) ≡ 1 ∷ 0 ∷ []
+  pub contacted : before-after (first (node Normal 1 33 2 100 none 5 Contacting) (replies 2 1 (callNo 5) true ∷ [])) (Deliver 2 1) ≡ 2 ∷ 0 ∷ []
   pub dropped : before-after (first (node Normal 1 16 1 1 none 5 Idle) (replies 2 1 (callNo 7) true ∷ [])) (Deliver 2 1) ≡ 1 ∷ 0 ∷ []
   pub lost : before-after (first (node Normal 1 16 1 1 none 5 Idle) (replies 2 1 (callNo 7) true ∷ [])) (Lose 2 1) ≡ 1 ∷ 0 ∷ []
   -- a check and a timeout raise it, and are none of the five

@@ -1,4 +1,5 @@
--- 02, T-13: the potential, a number read off a table, which every accepted deliver, lose, expire, tick and finish lowers; what it needs of a table; and the most that it can be.
+-- 02, T-13: the potential, a number read off a table, which every accepted deliver, lose, expire, tick and finish lowers; what it needs of a table; and a bound of it.
+-- The steps are those of model/specs/Step, so it "reads the invitation rule as T-03 left it" (model/specs/React: onlyReplies). A plain reply to an invitation takes 3 of its weight.
 use Prim.Native.Nat.{ℕ, _+_, _-_, _*_}
 use mathlib.Core.Bool.{Bool, true, _&&_}
 use mathlib.Core.List.{List, [], _∷_}
@@ -29,11 +30,12 @@ messageWeight m = kindWeight (m .kind)
 abbrev pub activityWeight : ℕ → Activity → ℕ
 -- none of the five events does anything with it but by a message
 activityWeight n Idle = 0
--- 3 for each node still to be asked: the question (2), and the expiry or the reply to the one before (1). And 1 more than waiting n − 1 ticks, the most that the last reply can come to.
+-- 3 for each number above that of the node asked, its own among them: the question to it (2), and the expiry of the question before (1); a reply pays for its delivery itself. And 1 more than
+-- waiting n − 1 ticks, the most that the last reply or expiry can come to.
 activityWeight n (Asking asked found) = 3 * (n - asked) + (13 * (n - 1) + 3)
 -- 1 for each tick, 5 for each of n − 1 nodes found, who are then invited, and collecting. Those set aside are paid for as members.
 activityWeight n (Waiting ticks found) = 12 * (n - 1) + 2 + ticks
--- 5 for each node still to be invited: the invitation (4), and the expiry or the reply to the one before (1). And 1 more than collecting.
+-- 5 for each node still to be invited: the invitation (4), and the expiry of the one before (1). And 1 more than collecting.
 activityWeight n (Inviting found former now) = 5 * (count found + count former) + (7 * (n - 1) + 3)
 -- 1 more than handing with none handed to yet, and n − 1 members: 2 for each in handing, and 5 for each as members, which they begin to weigh with the finish
 activityWeight n Collecting = 7 * (n - 1) + 2
@@ -47,13 +49,14 @@ activityWeight n (Forwarding rest now caller call) = 5 * count rest + 4
 activityWeight n (Accepting caller call) = 1
 
 -- in Reorganization or Normal, and its own coordinator
-abbrev pub heads : ℕ → Status → ℕ → Bool
-heads i status coordinator = isActive status && eqb coordinator i
+abbrev pub isActiveCoordinator : ℕ → Status → ℕ → Bool
+isActiveCoordinator i status coordinator = isActive status && eqb coordinator i
 
--- The members of such a node weigh 5 each, as all of them may be sent an invitation: if it is invited itself, it forwards that to each; if it merges, it invites each. Those of other
--- nodes weigh nothing: in Election they are paid for as collecting, and a node that is Down or not its own coordinator recovers before it can do either, and then has none.
+-- The members of such a node weigh 5 each, as all of them may be sent an invitation: if it is invited itself, it forwards that to each; if it merges, it invites each. That is 4 for the
+-- invitation and 1 for its expiry, as in inviting. Those of other nodes weigh nothing: who invites or collects is paid for them in collecting, who forwards in forwarding, and any other, before
+-- it can send them an invitation, recovers, and then has none.
 unfoldable pub membersWeight : ℕ → Status → ℕ → ℕ → ℕ
-membersWeight i status coordinator members = pick (heads i status coordinator) (5 * count members) 0
+membersWeight i status coordinator members = pick (isActiveCoordinator i status coordinator) (5 * count members) 0
 
 -- node i of n
 abbrev pub nodeWeight : ℕ → ℕ → Node → ℕ
@@ -97,7 +100,7 @@ suited s = every (nodeSuits (s .n)) 1 (s .nodes)
 
 -- ── how high it can be ──
 
--- The most that a table of n nodes with q waiting messages weighs. A node weighs most where it asks node 1: 3 (n − 1) + 13 (n − 1) + 3, and 5 for each of n − 1 members. A message
--- weighs at most 4.
+-- A table in range of n nodes with q waiting messages that is suited weighs at most this. No node weighs more than one that asks node 1: 3 (n − 1) + 13 (n − 1) + 3, and 5 for each of
+-- n − 1 members. No message weighs more than 4. (Node 1 does not ask itself, so no table weighs quite as much.)
 abbrev pub restBound : ℕ → ℕ → ℕ
 restBound n q = n * (21 * (n - 1) + 3) + 4 * q

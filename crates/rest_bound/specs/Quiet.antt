@@ -1,9 +1,6 @@
--- 02, T-13: the events of which "at most 20,000 further" can be accepted, and how many of a list are.
-use Prim.Native.Nat.{ℕ}
+-- 02, T-13: the events of which at most 20,000 further ones can be accepted. How many of a list are, model/specs/Traffic says: acceptedFrom.
 use mathlib.Core.Bool.{Bool, true, false, _&&_}
 use mathlib.Core.List.{List, [], _∷_}
-use Rattle.model.specs.State.{State}
-use Rattle.model.specs.Traffic.{tally}
 use Rattle.model.specs.declared.Event.{Event}
 use Rattle.model.specs.declared.Event.the-variants.{Crash, Recover, Check, Timeout, Tick, Expire, Finish, Deliver, Lose}
 
@@ -23,7 +20,3 @@ quiet (Lose a b) = true
 unfoldable pub allQuiet : List Event → Bool
 allQuiet [] = true
 allQuiet (e ∷ es) = quiet e && allQuiet es
-
--- "further events can be accepted": how many of a list are, from the table s on. Each gets the table that the one before left; a refused one leaves it as it is.
-abbrev pub acceptedIn : State → List Event → ℕ
-acceptedIn s es = tally (λ s e. 1) s es

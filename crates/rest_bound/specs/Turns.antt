@@ -6,12 +6,13 @@ use lib.Dec.{eqb}
 use lib.ListN.{length, replicate}
 use Rattle.model.specs.Pick.{pick}
 use Rattle.model.specs.State.{State}
+use Rattle.model.specs.Traffic.{acceptedFrom}
 use Rattle.round.specs.Order.{roundSize, firstPair}
 use Rattle.round.specs.Turn.{turnAt, doneIn}
 use Rattle.round.specs.Schedule.{Move, turn, event, Drive, drive, moved, driven, eventsOf}
 use Rattle.round.specs.declared.Done.{Done}
 use Rattle.round.specs.declared.Done.the-variants.{Nothing, Delivered, Lost}
-use Rattle.rest_bound.specs.Quiet.{quiet, acceptedIn}
+use Rattle.rest_bound.specs.Quiet.{quiet}
 use Rattle.rest_bound.specs.Potential.{restBound}
 
 -- ── schedules ──
@@ -36,7 +37,7 @@ quietMoves (event e ∷ ms) = quiet e && quietMoves ms
 
 -- how many events of a schedule are accepted: those of its turns, and those between them
 abbrev pub acceptedBy : Drive → List Move → ℕ
-acceptedBy d ms = acceptedIn (d .table) (eventsOf d ms)
+acceptedBy d ms = acceptedFrom (d .table) (eventsOf d ms)
 
 -- ── turns alone, until no message waits ──
 
@@ -49,11 +50,12 @@ unfoldable pub turnsWithin : ℕ → Drive → ℕ
 turnsWithin zero d = 0
 turnsWithin (suc k) d = pick (queueEmpty (d .table)) 0 (suc (turnsWithin k (moved d turn)))
 
--- bound × n × (n − 1): in a table of a run no message waits after so many turns (`DriverRests.turns`)
+-- bound × n × (n − 1): from a table of a run, and a pair of the round on, no message waits after so many turns (`DriverRests.turns`)
 abbrev pub turnBound : State → ℕ
 turnBound s = restBound (s .n) (length (s .queue)) * roundSize (s .n)
 
--- from the table s and the first pair of the round on: the number of turns until no message waits (`DriverRests.first`),
+-- From the table s and the first pair of the round on: the number of turns until no message waits (`DriverRests.first`), those that do nothing among them. The cable is at rest then; a node may
+-- still wait, collect or have a call open, and a tick, a finish or an expire would be accepted.
 abbrev pub turnsToRest : State → ℕ
 turnsToRest s = turnsWithin (turnBound s) (drive s firstPair)
 

@@ -1,25 +1,22 @@
 -- The turns behind a printed text: the claim `AllRestBehind`.
 use Prim.Native.Nat.{ℕ, _≤_}
 use mathlib.Core.Path.{_≡_, sym, _∙_, ap, subst}
-use mathlib.Core.List.{List, _∷_, _++_}
-use lib.ListN.{length, replicate}
+use mathlib.Core.List.{_∷_, _++_}
+use lib.ListN.{length}
 use borrow.Author.Tests.{eqb-true}
 use Rattle.model.specs.Node.{isActive}
 use Rattle.model.specs.Range.{TwoPairs}
 use Rattle.model.specs.State.{State, start, nodeAt}
 use Rattle.model.specs.Step.{run}
 use Rattle.model.proofs.Whole.{run-append}
-use Rattle.model.specs.declared.Limits.{Limits}
-use Rattle.model.specs.declared.Event.{Event}
 use Rattle.model.specs.declared.Status.the-variants.{Normal}
-use Rattle.event_list.specs.Format.{Reading, begun, reading}
 use Rattle.listing.specs.Lines.{messagesLine, totalLines, nodeLines, tableLines}
 use Rattle.run_list.specs.Text.{linesWith}
 use Rattle.run_list.proofs.Behind.{nodes-good}
 use Rattle.model.proofs.TowerAndStand.{holds}
 use Rattle.rest_bound.specs.Turns.{tableAtRest}
 use Rattle.rest_bound.proofs.Turns.{rest-is, driver-rests}
-use Rattle.rest_list.specs.Claims.{lastTable, turnEvents, RestBehind, AllRestBehind}
+use Rattle.rest_list.specs.Claims.{lastTable, turnEvents, AllRestBehind}
 
 pub all-rest-behind : AllRestBehind
 unfolding linesWith tableLines

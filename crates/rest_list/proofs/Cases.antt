@@ -5,9 +5,9 @@ use mathlib.Core.Bool.{true, not}
 use mathlib.Core.Path.{_≡_, refl, sym, _∙_, ap, ap₂, subst}
 use mathlib.Core.List.{List, [], _∷_, _++_}
 use lib.Count.{onesIn, ones, leadingZeros}
-use lib.ListN.{length, getD, replicate}
+use lib.ListN.{length, replicate}
 use Rattle.model.specs.Pick.{pick}
-use Rattle.model.specs.Limits.{tower, stand, trafficEnd}
+use Rattle.model.specs.Limits.{tower, stand}
 use Rattle.model.specs.Counts.{total}
 use Rattle.model.specs.Node.{isDown}
 use Rattle.model.specs.Range.{TwoPairs}
@@ -20,7 +20,6 @@ use Rattle.model.proofs.InRange.{stays-in-range}
 use Rattle.model.proofs.Traffic.{run-n}
 use Rattle.model.proofs.Aside.{Room, by-between, room-after, room-below, counting, run-counting, start-room, room-run}
 use Rattle.model.specs.declared.Limits.{Limits}
-use Rattle.model.specs.declared.Event.{Event}
 use Rattle.model.specs.declared.Event.the-variants.{Deliver, Lose}
 use Rattle.event_list.specs.declared.First.the-variants as First
 use Rattle.event_list.specs.Format.{lengthOf, cutShort, checked, eventOf as eventIn, nextAt, limitsOf, nodesOf, firstOf, readFrom, rest, reading}

@@ -3,7 +3,7 @@ use Prim.Native.Nat.{ℕ, _+_, _*_, _≤_}
 use native.Mathlib.Omega.{arith}
 use mathlib.Core.Bool.{Bool, true, false}
 use mathlib.Core.Path.{_≡_, refl, sym, _∙_, ap, ap₂, subst}
-use mathlib.Core.List.{List, [], _∷_}
+use mathlib.Core.List.{List}
 use lib.ListN.{length, replicate}
 use borrow.Author.Tests.{eqb-true}
 use Rattle.model.specs.Counts.{one}
@@ -11,7 +11,7 @@ use Rattle.model.specs.Limits.{tower, stand}
 use Rattle.model.specs.Range.{TwoPairs}
 use Rattle.model.specs.State.{State, noMessage, view}
 use Rattle.model.specs.Step.{Result, refused, accepted, step, run}
-use Rattle.model.specs.Traffic.{ofAccepted, tally}
+use Rattle.model.specs.Traffic.{ofAccepted, tally, acceptedFrom}
 use Rattle.model.specs.Answers.{answerNumber, resultNumber, isAccepted}
 use Rattle.model.specs.Claims.{MayStart}
 use Rattle.model.proofs.Answers.{accepted-zero}
@@ -31,12 +31,12 @@ use Rattle.round.specs.Schedule.{turn, Drive, drive, driven}
 use Rattle.round.specs.declared.Place.{Place}
 use Rattle.driver.specs.Scheduled.{Scheduled}
 use Rattle.driver.proofs.Chains.{code-round}
-use Rattle.rest_bound.specs.Quiet.{allQuiet, acceptedIn}
+use Rattle.rest_bound.specs.Quiet.{allQuiet}
 use Rattle.rest_bound.specs.Potential.{restBound}
 use Rattle.rest_bound.specs.Turns.{queueEmpty}
 use Rattle.rest_bound.proofs.Falls.{bound-most, run-waiting, run-rests}
 use Rattle.rest_bound.proofs.Turns.{driver-rests}
-use Rattle.rest_list.specs.Chains.{Answered, none, more, CodeRests, CodeComesToRest, EveryChainRests}
+use Rattle.rest_list.specs.Chains.{FoldedCounting, none, more, CodeRests, EveryChainRests}
 
 -- ── the answers ──
 refused-none : (a : Answer) → (answerNumber a ≡ 0 → ⊥) → one (isAccepted a) ≡ 0
@@ -55,20 +55,20 @@ answer-counts {t} {e} {r} x = by (step (view t) e) refl
         refused-none (r .answer) (λ z. refuses-by-ground .never-zero (view t) e (q ∙ ap refused (sym (x .answer ∙ ap resultNumber q) ∙ z)))
         ∙ sym (ap (ofAccepted 1) q)
 
-answers-count : {t u : Table} {es : List Event} {k : ℕ} → Answered t es k u → k ≡ acceptedIn (view t) es
+answers-count : {t u : Table} {es : List Event} {k : ℕ} → FoldedCounting t es k u → k ≡ acceptedFrom (view t) es
 unfolding tally
 answers-count none = refl
-answers-count (more {es = es} x a) = ap₂ _+_ (answer-counts x) (answers-count a ∙ ap (λ (s : State). acceptedIn s es) (x .table))
+answers-count (more {es = es} x a) = ap₂ _+_ (answer-counts x) (answers-count a ∙ ap (λ (s : State). acceptedFrom s es) (x .table))
 
 -- ── the claim ──
 module _ (chain : Chain) (runs : CodeRuns chain) (n : ℕ) (lim : Limits) (m : MayStart TwoPairs n lim) where
   waiting-is : (t : Table) → length (view t .queue) ≡ t .waiting
   waiting-is t = first-length (t .waiting) noMessage (t .messages)
 
-  answers : {es fs : List Event} {t u : Table} {k : ℕ} → Reached chain n lim es t → allQuiet fs ≡ true → Answered t fs k u → k ≤ restBound n (t .waiting)
+  answers : {es fs : List Event} {t u : Table} {k : ℕ} → Reached chain n lim es t → allQuiet fs ≡ true → FoldedCounting t fs k u → k ≤ restBound n (t .waiting)
   answers {es} {fs} {t} x q a =
       let e = runs .from-start n lim es t x in
-      let b = subst (λ (s : State). acceptedIn s fs ≤ restBound n (length (s .queue))) (sym e) (run-rests TwoPairs n lim (holds TwoPairs n lim m) .rests es fs q) in
+      let b = subst (λ (s : State). acceptedFrom s fs ≤ restBound n (length (s .queue))) (sym e) (run-rests TwoPairs n lim (holds TwoPairs n lim m) .rests es fs q) in
       omega (arith, answers-count a, b, waiting-is t)
 
   turns : {es : List Event} {t u : Table} {p q : Place} {k : ℕ} → Reached chain n lim es t → isInRound n p ≡ true → restBound n (t .waiting) * roundSize n ≤ k
@@ -81,7 +81,13 @@ module _ (chain : Chain) (runs : CodeRuns chain) (n : ℕ) (lim : Limits) (m : M
       sym (waiting-is u) ∙ eqb-true (length (view u .queue)) 0 (ap (λ (v : State). queueEmpty v) d ∙ y)
 
   code-rests : CodeRests chain n lim
-  code-rests = record { answers = answers; turns = turns }
+  code-rests =
+      record {
+        answers = answers;
+        turns = turns;
+        alone = λ {es} {t} x e.
+            sym (waiting-is t) ∙ eqb-true (length (view t .queue)) 0 (ap (λ (v : State). queueEmpty v) (runs .from-start n lim es t x) ∙ driver-rests TwoPairs n lim (holds TwoPairs n lim m) .alone es e);
+      }
 
 pub every-chain-rests : EveryChainRests
 every-chain-rests chain runs =

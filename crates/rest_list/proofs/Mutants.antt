@@ -1,9 +1,9 @@
 -- The wrong programs of specs/Mutants: each differs from the text in one byte.
 use Prim.Native.Nat.{ℕ}
 use native.Mathlib.Omega.{arith}
-use mathlib.Core.Path.{_≡_, refl, sym, _∙_, ap, ap₂}
+use mathlib.Core.Path.{_≡_, sym, _∙_, ap, ap₂}
 use mathlib.Core.List.{List, _++_}
-use lib.ListN.{length, getD, take, drop}
+use lib.ListN.{getD, take, drop}
 use lib.Seq.{take-append-seam}
 use Rattle.event_list.specs.Cases.{nodes}
 use Rattle.listing.specs.Ascii.{bytes}

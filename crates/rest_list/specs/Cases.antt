@@ -16,7 +16,7 @@ pub record RestCases : Type 0 where
   pub asking : restTextOf (nodes 2 ++ asking-events) ≡ bytes "cabinets 2\nturns 7\n1 2 2 33 1 1 0\n2 1 2 33 2 2 1\nmessages 0\nsent 6\ndelivered 6\nlost 0\n"
   -- the same on the stand
   pub on-stand : restTextOf (standNodes 2 ++ asking-events) ≡ bytes "cabinets 2\nturns 7\n1 2 2 33 1 1 0\n2 1 2 33 2 2 1\nmessages 0\nsent 6\ndelivered 6\nlost 0\n"
-  -- node 1 is Down: its message is lost in the second turn, and node 2 still asks, as no expire comes
+  -- node 1 is Down: the message to it is lost in the second turn, and node 2 still asks, as no expire comes
   pub down : restTextOf (nodes 2 ++ (asking-events ++ crash 1)) ≡ bytes "cabinets 2\nturns 2\n1 0 1 16 1 1 0\n2 3 2 17 2 1 0\nmessages 0\nsent 1\ndelivered 0\nlost 1\n"
   -- where no message waits no turn is made: after K10, at the start, and with one node
   pub k10 : restTextOf k10-list ≡ bytes "cabinets 2\nturns 0\n1 3 2 33 100 1 0\n2 3 2 33 100 2 1\nmessages 0\nsent 8\ndelivered 8\nlost 0\n"

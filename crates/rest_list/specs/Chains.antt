@@ -23,23 +23,24 @@ use Rattle.rest_bound.specs.Quiet.{allQuiet}
 use Rattle.rest_bound.specs.Potential.{restBound}
 
 -- from the table t, by the events, to the table u, each step getting the table that the one before returned; k of them were answered with accepted
-pub data Answered : Table → List Event → ℕ → Table → Type 0 where
-  none : {t : Table} → Answered t [] 0 t
-  more : {t : Table} {e : Event} {es : List Event} {r : Outcome} {k : ℕ} {u : Table} → Stepped t e r → Answered (r .table) es k u → Answered t (e ∷ es) (one (isAccepted (r .answer)) + k) u
+pub data FoldedCounting : Table → List Event → ℕ → Table → Type 0 where
+  none : {t : Table} → FoldedCounting t [] 0 t
+  more : {t : Table} {e : Event} {es : List Event} {r : Outcome} {k : ℕ} {u : Table} → Stepped t e r → FoldedCounting (r .table) es k u → FoldedCounting t (e ∷ es) (one (isAccepted (r .answer)) + k) u
 
 -- of every table t that a chain of the code's steps reached, by `step`, in place or with turns among them (`CodeRuns`), from the starting table of n nodes with the limits l
 pub record CodeRests (chain : Chain) (n : ℕ) (l : Limits) : Type 0 where
   -- of further events that are deliver, lose, expire, tick or finish, at most so many are answered with accepted
-  pub answers : {es fs : List Event} {t u : Table} {k : ℕ} → Reached chain n l es t → allQuiet fs ≡ true → Answered t fs k u → k ≤ restBound n (t .waiting)
-  -- and with turns alone, from a pair of the round on, no message waits after bound × n × (n − 1) of them
+  pub answers : {es fs : List Event} {t u : Table} {k : ℕ} → Reached chain n l es t → allQuiet fs ≡ true → FoldedCounting t fs k u → k ≤ restBound n (t .waiting)
+  -- and with turns alone, from a pair of the round on, no message waits after bound × n × (n − 1) of them; with n = 1 none ever waits
   pub turns : {es : List Event} {t u : Table} {p q : Place} {k : ℕ} → Reached chain n l es t → isInRound n p ≡ true → restBound n (t .waiting) * roundSize n ≤ k
       → Scheduled t p (replicate k turn) u q → u .waiting ≡ 0
+  pub alone : {es : List Event} {t : Table} → Reached chain n l es t → n ≡ 1 → t .waiting ≡ 0
 
 -- "at most 20,000 further events can be accepted": 5,344 in the tower, and 312 on the stand
 pub record CodeComesToRest (chain : Chain) : Type 0 where
   pub any : (n : ℕ) (l : Limits) → MayStart TwoPairs n l → CodeRests chain n l
-  pub for-tower : (n : ℕ) → 1 ≤ n → n ≤ 16 → {es fs : List Event} {t u : Table} {k : ℕ} → Reached chain n tower es t → allQuiet fs ≡ true → Answered t fs k u → k ≤ 5344
-  pub for-stand : (n : ℕ) → 1 ≤ n → n ≤ 4 → {es fs : List Event} {t u : Table} {k : ℕ} → Reached chain n stand es t → allQuiet fs ≡ true → Answered t fs k u → k ≤ 312
+  pub for-tower : (n : ℕ) → 1 ≤ n → n ≤ 16 → {es fs : List Event} {t u : Table} {k : ℕ} → Reached chain n tower es t → allQuiet fs ≡ true → FoldedCounting t fs k u → k ≤ 5344
+  pub for-stand : (n : ℕ) → 1 ≤ n → n ≤ 4 → {es fs : List Event} {t u : Table} {k : ℕ} → Reached chain n stand es t → allQuiet fs ≡ true → FoldedCounting t fs k u → k ≤ 312
 
 -- of every chain whose tables are those of the model's runs: `Folded`, `Applied` (session) and `ByDriver` (driver)
 abbrev pub EveryChainRests : Type 1

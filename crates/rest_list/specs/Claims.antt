@@ -37,7 +37,7 @@ pub record RestBehind (l : List ℕ) (n : ℕ) (lim : Limits) (r : Reading) : Ty
   pub text : restTextOf l ≡ joined (cabinetsLine n ∷ runLinesWith restLines (start n lim) 1 r)
   -- after so many turns from the first pair on no message waits, and after fewer some did: "turns of the round until no message waits"
   pub rests : RestsAfter (drive (lastTable n lim r) firstPair) (turnsToRest (lastTable n lim r))
-  -- they are at most bound × n × (n − 1)
+  -- they are at most bound × n × (n − 1), by the definition of their number; that these are enough is said in `rests`
   pub within : turnsToRest (lastTable n lim r) ≤ restBound n (length (lastTable n lim r .queue)) * roundSize n
   -- so the line behind those of the nodes is `messages 0`
   pub messages : tableLines (tableAtRest (lastTable n lim r)) ≡ nodeLines 1 (tableAtRest (lastTable n lim r) .nodes) ++ (messagesLine 0 ∷ totalLines (tableAtRest (lastTable n lim r)))

@@ -37,7 +37,8 @@ fn first_pair() -> Place
     }
 }
 
-// Turns of the round from its first pair on, until no message waits. That it ends is T-13's claim, `DriverRests.turns`.
+// Turns of the round from its first pair on, until no message waits. That it ends is T-13's claim: after as many turns as the bound says no message waits (`TurnsEnd`), and the loop
+// has fewer of them left each time.
 fn turns_to_rest(t: Table) -> Rested
     requires { ⌜ (inRange (view t) ≡ true) × (suited (view t) ≡ true) ⌝ }
     ensures { λ r. ⌜ RestedFrom (view t) r ⌝ }

@@ -5,24 +5,16 @@ use mathlib.Core.Path.{_≡_}
 use mathlib.Core.List.{List, [], _∷_, _++_, map}
 use Rattle.model.specs.Limits.{tower}
 use Rattle.model.specs.State.{State, start, allWaiting}
-use Rattle.model.specs.Cases.{beside, node, none, past, invitation, question, plain, reply, queued, only, withCounts}
+use Rattle.model.specs.Cases.{callNo, groupNo, beside, node, none, past, invitation, question, plain, reply, queued, only, withCounts}
 use Rattle.model.specs.Cases as cases
 use Rattle.model.specs.Counts.{noCounts}
 use Rattle.model.specs.Node.{asks, calls}
 use Rattle.model.specs.declared.Status.the-variants.{Down, Election, Normal}
 use Rattle.model.specs.declared.Activity.the-variants.{Idle, Contacting, Accepting}
-use Rattle.model.specs.declared.CallNo.{CallNo}
-use Rattle.model.specs.declared.GroupNo.{GroupNo}
 use Rattle.round.specs.Order.{pair, roundSize, nextPair, inOrder}
 use Rattle.round.specs.Turn.{turnRefused, turnAccepted, turnAt, doneNumber}
 use Rattle.round.specs.declared.Place.{Place}
 use Rattle.round.specs.declared.Done.the-variants.{Nothing, Delivered, Lost}
-
-abbrev callNo : ℕ → CallNo
-callNo k = record { number = k }
-
-abbrev groupNo : ℕ → GroupNo
-groupNo g = record { number = g }
 
 -- the two numbers of each pair
 abbrev pub numbersOf : List Place → List (List ℕ)

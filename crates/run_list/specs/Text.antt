@@ -15,7 +15,7 @@ use Rattle.event_list.specs.Format.{firstOf, stopNumber, Ending, complete, stop
 use Rattle.listing.specs.Lines.{cabinetsLine, refusedLine, stoppedLine, tableLines}
 use Rattle.listing.specs.Printing.{putNumber, shown, printed, joined}
 use Rattle.listing.specs.declared.Put.{Put}
-use Rattle.listing.specs.declared.Put.the-variants.{Next, NoRoom}
+use Rattle.listing.specs.declared.Put.the-variants.{Next}
 use Rattle.run_list.specs.declared.Heading.{Heading}
 use Rattle.run_list.specs.declared.Heading.the-variants as Heading
 

@@ -57,7 +57,7 @@ pub fn note(out: &mut [u8], at: usize, e: u32, answer: Answer) -> Put
 }
 
 // The line of a list that stopped at b, and the table.
-pub fn stop(out: &mut [u8], at: usize, b: u32, s: Stop, t: Table) -> Put
+fn stop(out: &mut [u8], at: usize, b: u32, s: Stop, t: Table) -> Put
     ensures { λ a. ⌜ shown a (now (out .exit)) ≡ printed (now (out .entry)) at (stoppedLine b (stopNumber s) ∷ tableLines (view t)) ⌝ }
 {
     match listing::put_stopped(out, at, b, event_list::stop_number(s)) {

@@ -2,9 +2,9 @@
 //! length as one transition system, in the Aldebaran text form; or `stopped 0 22` for any other input. Where
 //! the input can't be read or the text can't be written, it says so and ends with status 1.
 
-use peer::two_bytes::program::run;
+use peer::two_bytes::{program::run, ONE_TOO_MANY};
 use std::process::ExitCode;
 
 fn main() -> ExitCode {
-    run(peer::aldebaran::print)
+    run(ONE_TOO_MANY, peer::aldebaran::print)
 }

@@ -43,25 +43,25 @@ pub struct Schedule {
 }
 
 /// A schedule that is being made.
-struct Making {
-    table: Table,
-    place: Place,
-    moves: Vec<Move>,
+pub struct Making {
+    pub table: Table,
+    pub place: Place,
+    pub moves: Vec<Move>,
 }
 
 impl Making {
-    fn turn(&mut self) {
+    pub fn turn(&mut self) {
         (self.place, _) = turn_in_range(&mut self.table, self.place).expect("a pair of the round");
         self.moves.push(Move::Turn);
     }
 
-    fn event(&mut self, event: Event) {
+    pub fn event(&mut self, event: Event) {
         let _ = advance(&mut self.table, &event);
         self.moves.push(Move::Event(event));
     }
 
     /// Mostly one that fits the table, else any, which is often refused.
-    fn any_event(&self, manner: &Manner, numbers: &mut Numbers) -> Event {
+    pub fn any_event(&self, manner: &Manner, numbers: &mut Numbers) -> Event {
         match numbers.one_in(6) {
             true => any_event(self.table.n, numbers),
             false => pick(&self.table, manner, numbers),

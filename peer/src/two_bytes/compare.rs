@@ -208,7 +208,7 @@ fn vector_difference(
 }
 
 /// The first place where two texts with their names differ, as the error.
-fn difference(a: (&str, &[u8]), b: (&str, &[u8])) -> Result<(), String> {
+pub fn difference(a: (&str, &[u8]), b: (&str, &[u8])) -> Result<(), String> {
     if a.1 == b.1 {
         return Ok(());
     }
@@ -226,7 +226,7 @@ fn difference(a: (&str, &[u8]), b: (&str, &[u8])) -> Result<(), String> {
 }
 
 /// An input's bytes, or the first of them.
-fn input_words(input: &[u8]) -> String {
+pub fn input_words(input: &[u8]) -> String {
     let shown: Vec<String> = input.iter().take(20).map(|byte| format!("{byte:02x}")).collect();
     format!("of {} bytes [{}]", input.len(), shown.join(" "))
 }

@@ -9,6 +9,9 @@ pub mod program;
 use crate::{aldebaran, aldebaran_reading, short};
 use std::io::Result;
 
+/// An input of so many bytes is refused whatever follows, so that no more of it is read.
+pub const ONE_TOO_MANY: usize = 3;
+
 /// What sets the programs of one request apart from those of another.
 #[derive(Debug)]
 pub struct Request {

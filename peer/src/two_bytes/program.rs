@@ -10,10 +10,10 @@ pub type Out = BufWriter<File>;
 
 const BUFFER: usize = 1 << 16;
 
-/// Reads the input and prints its text. Where the input can't be read or the text can't be written, it says so
-/// and ends with status 1.
-pub fn run(print: impl FnOnce(&[u8], &mut Out) -> io::Result<()>) -> ExitCode {
-    match read().and_then(|input| write(print, &input)) {
+/// Reads the input and prints its text. No more than so many bytes are read: an input that has so many is refused
+/// whatever follows. Where the input can't be read or the text can't be written, it says so and ends with status 1.
+pub fn run(most: usize, print: impl FnOnce(&[u8], &mut Out) -> io::Result<()>) -> ExitCode {
+    match read(most).and_then(|input| write(print, &input)) {
         Ok(()) => ExitCode::SUCCESS,
         Err(words) => {
             eprintln!("{words}");
@@ -22,10 +22,9 @@ pub fn run(print: impl FnOnce(&[u8], &mut Out) -> io::Result<()>) -> ExitCode {
     }
 }
 
-/// The input's first three bytes: where there is a third, it is refused whatever follows.
-fn read() -> Result<Vec<u8>, String> {
+fn read(most: usize) -> Result<Vec<u8>, String> {
     let mut input = Vec::new();
-    let read = io::stdin().lock().take(3).read_to_end(&mut input);
+    let read = io::stdin().lock().take(most as u64).read_to_end(&mut input);
     read.map(|_| input).map_err(|e| format!("standard input: {e}"))
 }
 

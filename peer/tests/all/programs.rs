@@ -1,4 +1,4 @@
-//! Programs that are run as processes: the peer's own of T-01 and T-12, those that compare others with them, and
+//! Programs that are run as processes: the peer's own of T-01, T-12 and T-13, those that compare others with them, and
 //! scripts that print something wrong.
 
 use peer::two_bytes::Request;
@@ -53,10 +53,18 @@ pub fn refuses_wrong_inputs(request: &Request, wrong_inputs: &str) {
 /// A program of the peer's prints the text of each input.
 pub fn prints_texts(program: &str, request: &Request, inputs: &[&[u8]]) {
     for input in inputs {
-        let output = run(&mut piped(program), input);
-        assert!(output.status.success() && output.stderr.is_empty());
-        assert!(output.stdout == request.text(input), "{input:?}");
+        prints_text(program, input, &request.text(input));
     }
+}
+
+/// A program of the peer's prints this text.
+pub fn prints_text(program: &str, input: &[u8], text: &[u8]) {
+    let mut child = piped(program).spawn().unwrap();
+    // It may end before it has read all.
+    let _ = child.stdin.take().unwrap().write_all(input);
+    let output = child.wait_with_output().unwrap();
+    assert!(output.status.success() && output.stderr.is_empty());
+    assert!(output.stdout == text, "an input of {} bytes", input.len());
 }
 
 /// A program of the peer's prints nothing where its input can't be read, and says so.

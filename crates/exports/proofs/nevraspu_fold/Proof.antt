@@ -5,7 +5,8 @@ use mathlib.Core.Path.{sym, _∙_, ap}
 use Rattle.model.specs.State.{State}
 use Rattle.event_list.specs.Format.{rest}
 use Rattle.event_list.proofs.Reading.{reading-failed, reading-begun, first-good}
-use Rattle.exports.specs.Boundary.{acceptedFrom, acceptedListed}
+use Rattle.model.specs.Traffic.{acceptedFrom}
+use Rattle.exports.specs.Boundary.{acceptedListed}
 use Rattle.exports.proofs.nevraspu_fold.Statement.{statement}
 use Rattle.exports.proofs.nevraspu_fold.Tie as tie
 
