@@ -21,7 +21,7 @@ use Rattle.model.proofs.Local.{both-left, both-right}
 use Rattle.model.proofs.Fields.{node-facts, in-range-size, in-range-node}
 use Rattle.listing.specs.Ascii.{bytes}
 use Rattle.listing.specs.Decimal.{decimal, valueOf}
-use Rattle.listing.specs.Lines.{row, cabinetsLine, refusedLine, stoppedLine, nodeLine, messagesLine, sentWord, deliveredWord, lostWord, totalLine, totalLines, nodeLines, tableLines}
+use Rattle.listing.specs.Lines.{row, cabinetsLine, refusedLine, stoppedLine, nodeLine, messagesLine, turnsLine, sentWord, deliveredWord, lostWord, totalLine, totalLines, nodeLines, tableLines}
 use Rattle.listing.specs.Printing.{joined}
 use Rattle.listing.specs.Claims.{SameShown, SameTable, SmallNode, SmallTotals, SmallTable, LinesDetermine, BufferKept, IsTotal, EndsWithTotals, TotalsDenote}
 use Rattle.listing.proofs.Decimal.{decimal-each, decimal-denotes}
@@ -280,7 +280,7 @@ table-small s e =
 -- ── the claims ──
 
 pub lines-determine : LinesDetermine
-unfolding cabinetsLine refusedLine stoppedLine messagesLine
+unfolding cabinetsLine refusedLine stoppedLine messagesLine turnsLine
 lines-determine =
     record {
       cabinets = λ n m h k. one-same (bytes "cabinets") (wide h) (wide k);
