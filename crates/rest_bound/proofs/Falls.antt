@@ -113,13 +113,13 @@ module _ (s : State) (ok : suited s ≡ true) where
 -- ── the claims ──
 
 -- what the accepted events cost was there
-pub spent : (s : State) (es : List Event) → suited s ≡ true → allQuiet es ≡ true → acceptedFrom s es + potential (runFrom s es) ≤ potential s
+pub accepted-within : (s : State) (es : List Event) → suited s ≡ true → allQuiet es ≡ true → acceptedFrom s es + potential (runFrom s es) ≤ potential s
 unfolding tally allQuiet runFrom
-spent s [] ok q = omega arith
-spent s (e ∷ es) ok q =
+accepted-within s [] ok q = omega arith
+accepted-within s (e ∷ es) ok q =
     let l : ofAccepted 1 (step s e) + potential (after s e) ≤ potential s
     = by-step (λ r. ofAccepted 1 r + potential (kept s r) ≤ potential s) s e (λ _. omega arith) (λ c _. omega (arith, effect-lower s ok e (both-left (quiet e) _ q) c)) in
-    omega (arith, l, spent (after s e) es (step-suits s ok e) (both-right (quiet e) _ q))
+    omega (arith, l, accepted-within (after s e) es (step-suits s ok e) (both-right (quiet e) _ q))
 
 nodes-most : (n k : ℕ) (l : List Node) → n ≤ 16 → 1 ≤ k → length l + k ≤ n + 1 → every (nodeInRange n) k l ≡ true → every (nodeSuits n) k l ≡ true
     → nodesWeight n k l ≤ length l * (21 * (n - 1) + 3)
@@ -143,7 +143,7 @@ potential-falls =
     record {
       keeps = λ s e u k ok z. let a = accepted-is s e u k z in subst (λ (v : State). suited v ≡ true) (sym (a .state)) (effect-suits s ok e (a .clear));
       falls = λ s e u k ok q z. let a = accepted-is s e u k z in subst (λ (v : State). potential v < potential s) (sym (a .state)) (effect-lower s ok e q (a .clear));
-      pays = λ s es ok q. omega (arith, spent s es ok q);
+      at-most = λ s es ok q. omega (arith, accepted-within s es ok q);
       bounded = potential-most;
     }
 
@@ -169,7 +169,7 @@ run-rests r n lim h =
     }
   where
     rests : (es fs : List Event) → allQuiet fs ≡ true → acceptedFrom (runBy r n lim es) fs ≤ restBound n (length (runBy r n lim es .queue))
-    rests es fs q = omega (arith, spent (runBy r n lim es) fs (runs-suit r n lim es) q, run-potential r n lim h es)
+    rests es fs q = omega (arith, accepted-within (runBy r n lim es) fs (runs-suit r n lim es) q, run-potential r n lim h es)
 
 -- the bound grows with n
 pub bound-most : (n m q : ℕ) → n ≤ m → restBound n q ≤ restBound m q

@@ -1,4 +1,4 @@
--- The activity of every node of a run suits its status: one lemma a procedure.
+-- The activity of every node of a run suits its status and its coordinator: one lemma a procedure.
 use Prim.Native.Nat.{ℕ, _+_, _-_, _≤_}
 use native.Mathlib.Omega.{arith}
 use mathlib.Core.Bool.{Bool, true, true≢false}

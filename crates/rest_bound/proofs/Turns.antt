@@ -1,4 +1,4 @@
--- The driver's turns: the claims `TurnCounts` and `DriverComesToRest`, and what is left of a run of turns until no message waits.
+-- The driver's turns: the claims `TurnCounts`, `TurnsEnd` and `DriverComesToRest`, and what is left of a run of turns until no message waits.
 use Prim.Native.Nat.{ℕ, zero, suc, _+_, _-_, _*_, _<_, _≤_}
 use native.Mathlib.Omega.{arith}
 use native.Mathlib.Nat.{suc-mul}
@@ -41,7 +41,7 @@ use Rattle.rest_bound.specs.Potential.{potential, suited, restBound}
 use Rattle.rest_bound.specs.Turns.{countOf, turnsCounted, quietMoves, acceptedBy, queueEmpty, turnsWithin, turnBound, turnsToRest, tableAtRest}
 use Rattle.rest_bound.specs.Claims.{TurnCounts, RestsAfter, TurnsEnd, DriverRests, DriverComesToRest}
 use Rattle.rest_bound.proofs.Suits.{run-suits, runs-suit}
-use Rattle.rest_bound.proofs.Falls.{queue-least, spent, potential-most, run-size, run-potential}
+use Rattle.rest_bound.proofs.Falls.{queue-least, accepted-within, potential-most, run-size, run-potential}
 
 -- ── one turn ──
 
@@ -102,9 +102,9 @@ events-quiet d (turn ∷ ms) q = quiet-append (moveEvents d turn) _ (event-quiet
 events-quiet d (event e ∷ ms) q = both (quiet e) _ (both-left (quiet e) _ q) (events-quiet (moved d (event e)) ms (both-right (quiet e) _ q))
 
 -- what the accepted events of a schedule cost was there
-schedule-spent : (d : Drive) (ms : List Move) → suited (d .table) ≡ true → quietMoves ms ≡ true → acceptedBy d ms + potential (driven d ms .table) ≤ potential (d .table)
-schedule-spent d ms ok q =
-    omega (arith, spent (d .table) (eventsOf d ms) ok (events-quiet d ms q), ap (λ (s : State). potential s) (schedule-is-run .schedule d ms))
+schedule-within : (d : Drive) (ms : List Move) → suited (d .table) ≡ true → quietMoves ms ≡ true → acceptedBy d ms + potential (driven d ms .table) ≤ potential (d .table)
+schedule-within d ms ok q =
+    omega (arith, accepted-within (d .table) (eventsOf d ms) ok (events-quiet d ms q), ap (λ (s : State). potential s) (schedule-is-run .schedule d ms))
 
 -- in the first move of a schedule, and in the others
 accepted-first : (d : Drive) (m : Move) (ms : List Move) → acceptedBy d (m ∷ ms) ≡ acceptedFrom (d .table) (moveEvents d m) + acceptedBy (moved d m) ms
@@ -136,16 +136,16 @@ quiet-turns zero = refl
 quiet-turns (suc k) = quiet-turns k
 
 -- ── where no message waits ──
-pub stands : (k : ℕ) (d : Drive) → queueEmpty (d .table) ≡ true → driven d (replicate k turn) .table ≡ d .table
+pub unchanged : (k : ℕ) (d : Drive) → queueEmpty (d .table) ≡ true → driven d (replicate k turn) .table ≡ d .table
 unfolding driven
-stands zero d e = refl
-stands (suc k) d e =
+unchanged zero d e = refl
+unchanged (suc k) d e =
     let t = nothing-stays (d .table) (d .place) (idle-turn (d .table) (d .place) e) in
-    stands k (moved d turn) (ap (λ (s : State). queueEmpty s) t ∙ e) ∙ t
+    unchanged k (moved d turn) (ap (λ (s : State). queueEmpty s) t ∙ e) ∙ t
 
 -- nothing that weighs is left
-weightless : (s : State) → potential s ≤ 0 → queueEmpty s ≡ true
-weightless s h = eq-eqb (length (s .queue)) 0 (omega (arith, queue-least (s .queue)))
+none-left : (s : State) → potential s ≤ 0 → queueEmpty s ≡ true
+none-left s h = eq-eqb (length (s .queue)) 0 (omega (arith, queue-least (s .queue)))
 
 -- ── a round of turns takes a message out ──
 takes-most : (a b : ℕ) (s : State) (e : Event) → takes a b s e ≤ 1
@@ -213,16 +213,16 @@ round-lowers n d x e =
     let ms = replicate (roundSize n) turn in
     let h : (0 + 1) * roundSize (d .table .n) ≤ turns ms = omega (arith, turns-of (roundSize n), ap (λ (k : ℕ). roundSize k) (x .size)) in
     let g = round-of-the-cable .goes-out (d .table) (d .place) (y .from) (y .to) 0 ms (x .at) (y .waits) h in
-    omega (arith, g, taken-among (y .from) (y .to) (d .table) (eventsOf d ms), schedule-spent d ms (x .suits) (quiet-turns (roundSize n)))
+    omega (arith, g, taken-among (y .from) (y .to) (d .table) (eventsOf d ms), schedule-within d ms (x .suits) (quiet-turns (roundSize n)))
 
 rests-within : (n w m : ℕ) (d : Drive) → Going n d → potential (d .table) ≤ w → w * roundSize n ≤ m → queueEmpty (driven d (replicate m turn) .table) ≡ true
-rests-within n zero m d x h k = let e = weightless (d .table) h in ap (λ (s : State). queueEmpty s) (stands m d e) ∙ e
+rests-within n zero m d x h k = let e = none-left (d .table) h in ap (λ (s : State). queueEmpty s) (unchanged m d e) ∙ e
 rests-within n (suc w) m d x h k = by (queueEmpty (d .table)) refl (λ f. rests-within n w (m - roundSize n) (driven d (replicate (roundSize n) turn)) (going-on n d (replicate (roundSize n) turn) x) f (omega (arith, suc-mul w (roundSize n), k)))
   where
     by : (t : Bool) → queueEmpty (d .table) ≡ t
         → (potential (driven d (replicate (roundSize n) turn) .table) ≤ w → queueEmpty (driven (driven d (replicate (roundSize n) turn)) (replicate (m - roundSize n) turn) .table) ≡ true)
         → queueEmpty (driven d (replicate m turn) .table) ≡ true
-    by true e f = ap (λ (s : State). queueEmpty s) (stands m d e) ∙ e
+    by true e f = ap (λ (s : State). queueEmpty s) (unchanged m d e) ∙ e
     by false e f =
         let i : roundSize n + (m - roundSize n) ≡ m = omega (arith, suc-mul w (roundSize n), k) in
         let z : driven d (replicate m turn) ≡ driven (driven d (replicate (roundSize n) turn)) (replicate (m - roundSize n) turn)
@@ -321,7 +321,7 @@ pub first-enough : (s : State) → inRange s ≡ true → suited s ≡ true → 
 first-enough s r ok = by (eqb (s .n) 1) refl
   where
     by : (t : Bool) → eqb (s .n) 1 ≡ t → queueEmpty (driven (drive s firstPair) (replicate (turnBound s) turn) .table) ≡ true
-    by true e = let z = alone-empty s r (eqb-true (s .n) 1 e) in ap (λ (u : State). queueEmpty u) (stands (turnBound s) (drive s firstPair) z) ∙ z
+    by true e = let z = alone-empty s r (eqb-true (s .n) 1 e) in ap (λ (u : State). queueEmpty u) (unchanged (turnBound s) (drive s firstPair) z) ∙ z
     by false e =
         let two : 2 ≤ s .n = omega (arith, eqb-false (s .n) 1 e, in-range-size s r .0) in
         rests-within (s .n) (restBound (s .n) (length (s .queue))) (turnBound s) (drive s firstPair)
@@ -343,15 +343,15 @@ module _ (r : PairRule) (n : ℕ) (lim : Limits) (h : RunHolds r n lim) where
   T es = runBy r n lim es
 
   accepts : (es : List Event) (p : Place) (ms : List Move) → quietMoves ms ≡ true → acceptedBy (drive (T es) p) ms ≤ restBound n (length (T es .queue))
-  accepts es p ms q = omega (arith, schedule-spent (drive (T es) p) ms (runs-suit r n lim es) q, run-potential r n lim h es)
+  accepts es p ms q = omega (arith, schedule-within (drive (T es) p) ms (runs-suit r n lim es) q, run-potential r n lim h es)
 
   pub driver-rests : DriverRests r n lim
   driver-rests =
       record {
         accepts = accepts;
         turns-count = λ es p ms q. omega (arith, accepts es p ms q, turns-among (drive (T es) p) ms);
-        spent = λ es p ms q k. weightless (driven (drive (T es) p) ms .table) (omega (arith, schedule-spent (drive (T es) p) ms (runs-suit r n lim es) q, k));
-        still = λ es p k e. stands k (drive (T es) p) e;
+        empty-after = λ es p ms q k. none-left (driven (drive (T es) p) ms .table) (omega (arith, schedule-within (drive (T es) p) ms (runs-suit r n lim es) q, k));
+        unchanged = λ es p k e. unchanged k (drive (T es) p) e;
         turns = λ es p k e b.
             rests-within n (restBound n (length (T es .queue))) k (drive (T es) p)
             (record {

@@ -1,5 +1,5 @@
--- The bound's values, and for each procedure a table of three nodes on which an event lowers the potential, with the potential before and after it. Where it falls by 1, that step has nothing
--- to spare. One node is up in these tables, node 1 but for `merges-at-once`.
+-- The bound's values, and for each procedure and each kind of message a table of three nodes on which an event lowers the potential, with the potential before and after it. Where it falls by 1,
+-- that step has nothing to spare. One node is up in these tables, node 1 but for `merges-at-once`. The last two events raise it.
 use Prim.Native.Nat.{ℕ, _*_}
 use mathlib.Core.Bool.{true}
 use mathlib.Core.Path.{_≡_}
@@ -7,8 +7,8 @@ use mathlib.Core.List.{List, [], _∷_, map}
 use Rattle.model.specs.Limits.{tower}
 use Rattle.model.specs.State.{State, startingNode, allWaiting}
 use Rattle.model.specs.Step.{effect}
-use Rattle.model.specs.Cases.{callNo, groupNo, setOf, none, first, leader, node}
-use Rattle.model.specs.Node.{asks, calls, replies}
+use Rattle.model.specs.Cases.{callNo, groupNo, taskNo, setOf, none, first, leader, node}
+use Rattle.model.specs.Node.{asks, calls, readies, replies}
 use Rattle.model.specs.declared.Status.the-variants.{Election, Reorganization, Normal}
 use Rattle.model.specs.declared.Activity.{Activity}
 use Rattle.model.specs.declared.Activity.the-variants.{Idle, Asking, Waiting, Inviting, Collecting, Handing, Contacting, Forwarding, Accepting}
@@ -50,7 +50,7 @@ pub record RestBoundCases : Type 0 where
   pub invites-next : before-after (first (merging (Inviting (setOf (2 ∷ [])) none 3)) []) (Expire 1) ≡ 22 ∷ 21 ∷ []
   pub collects : before-after (first (merging (Inviting none none 2)) []) (Expire 1) ≡ 17 ∷ 16 ∷ []
   -- finish with two members; Ready to the second of them; after the last it is Normal
-  pub finishes : before-after (first (leader Election 5 Collecting) []) (Finish 1 (record { number = 100 })) ≡ 16 ∷ 15 ∷ []
+  pub finishes : before-after (first (leader Election 5 Collecting) []) (Finish 1 (taskNo 100)) ≡ 16 ∷ 15 ∷ []
   pub hands-next : before-after (first (leader Reorganization 5 (Handing (setOf (2 ∷ [])) 3)) (replies 3 1 (callNo 5) true ∷ [])) (Deliver 3 1) ≡ 14 ∷ 13 ∷ []
   pub hands-last : before-after (first (leader Reorganization 5 (Handing none 2)) (replies 2 1 (callNo 5) true ∷ [])) (Deliver 2 1) ≡ 12 ∷ 10 ∷ []
   pub hands-none : before-after (first (leader Reorganization 5 (Handing none 2)) []) (Expire 1) ≡ 11 ∷ 0 ∷ []
@@ -58,10 +58,17 @@ pub record RestBoundCases : Type 0 where
   pub forwards : before-after (first (leader Normal 5 Idle) (calls 2 3 1 (callNo 7) (groupNo 33) ∷ [])) (Deliver 2 1) ≡ 14 ∷ 13 ∷ []
   pub forwards-next : before-after (first (invitee (Forwarding (setOf (2 ∷ [])) 3 2 (callNo 7))) []) (Expire 1) ≡ 9 ∷ 8 ∷ []
   pub accepts : before-after (first (invitee (Forwarding none 2 2 (callNo 7))) []) (Expire 1) ≡ 4 ∷ 3 ∷ []
-  -- an invitation to one without members, who accepts it at once; its acceptance is answered, and it answers its caller
+  -- an invitation to one without members, who accepts it at once
   pub accepts-alone : before-after (first (node Normal 1 16 1 1 none 5 Idle) (calls 2 3 1 (callNo 7) (groupNo 33) ∷ [])) (Deliver 2 1) ≡ 4 ∷ 3 ∷ []
+  -- T-03: an invitation to the group that it holds gets a plain reply and no more
+  pub held : before-after (first (node Normal 1 33 2 100 none 5 Idle) (calls 2 3 1 (callNo 7) (groupNo 33) ∷ [])) (Deliver 2 1) ≡ 4 ∷ 1 ∷ []
+  -- its acceptance is answered, and it answers its caller
   pub accepted : before-after (first (invitee (Accepting 2 (callNo 7))) (replies 2 1 (callNo 5) true ∷ [])) (Deliver 2 1) ≡ 2 ∷ 1 ∷ []
   -- a call that is answered; one to its coordinator that is given up, and one that is answered with yes; a reply that is dropped, and one that is lost
+  -- AreYouThere, Accept at a collecting node, which node 2 joins, and Ready
+  pub there : before-after (first (leader Normal 5 Idle) (calls 2 2 1 (callNo 7) (groupNo 16) ∷ [])) (Deliver 2 1) ≡ 12 ∷ 11 ∷ []
+  pub joins : before-after (first (merging Collecting) (calls 2 4 1 (callNo 7) (groupNo 32) ∷ [])) (Deliver 2 1) ≡ 18 ∷ 17 ∷ []
+  pub ready : before-after (first (node Reorganization 1 33 2 1 none 5 Idle) (readies 2 1 (callNo 7) (groupNo 33) (taskNo 100) ∷ [])) (Deliver 2 1) ≡ 2 ∷ 1 ∷ []
   pub answers : before-after (first (node Normal 1 16 1 1 none 5 Idle) (asks 2 1 (callNo 7) ∷ [])) (Deliver 2 1) ≡ 2 ∷ 1 ∷ []
   pub recovers : before-after (first (node Normal 1 33 2 100 none 5 Contacting) []) (Expire 1) ≡ 1 ∷ 0 ∷ []
   pub contacted : before-after (first (node Normal 1 33 2 100 none 5 Contacting) (replies 2 1 (callNo 5) true ∷ [])) (Deliver 2 1) ≡ 2 ∷ 0 ∷ []

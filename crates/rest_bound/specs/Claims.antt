@@ -30,7 +30,7 @@ pub record PotentialFalls : Type 0 where
   -- there each accepted deliver, lose, expire, tick and finish lowers it,
   pub falls : (s : State) (e : Event) (u : State) (k : Mark) → suited s ≡ true → quiet e ≡ true → step s e ≡ accepted u k → potential u < potential s
   -- so of a list of these no more can be accepted than it says,
-  pub pays : (s : State) (es : List Event) → suited s ≡ true → allQuiet es ≡ true → acceptedFrom s es ≤ potential s
+  pub at-most : (s : State) (es : List Event) → suited s ≡ true → allQuiet es ≡ true → acceptedFrom s es ≤ potential s
   -- and if the table is in range too, it is at most this
   pub bounded : (s : State) → inRange s ≡ true → suited s ≡ true → potential s ≤ restBound (s .n) (length (s .queue))
 
@@ -62,14 +62,14 @@ pub record ComesToRest : Type 0 where
 
 -- of any turn, on any table and at any place: "only those that accept an event count"
 pub record TurnCounts : Type 0 where
-  -- what counts of a turn is 1 where it delivers or loses, and 0 where it does nothing or is refused,
+  -- what counts of a turn is 1 where it delivers or loses, and 0 where it does nothing or is refused
   pub counts : (s : State) (p : Place) → acceptedFrom s (eventOf p (doneIn (turnAt s p))) ≡ countOf (doneIn (turnAt s p))
-  -- and then it leaves the table as it was
+  -- where it does nothing it leaves the table as it was
   pub nothing : (s : State) (p : Place) → doneIn (turnAt s p) ≡ Nothing → tableAfter s (turnAt s p) ≡ s
   -- where no message waits, every turn is such
   pub empty : (s : State) (p : Place) → queueEmpty s ≡ true → doneIn (turnAt s p) ≡ Nothing
 
--- After k turns no message waits, and after fewer some did: k is "the number of turns until no message waits".
+-- After k turns no message waits, and after fewer some did: k is the number of turns until no message waits.
 pub record RestsAfter (d : Drive) (k : ℕ) : Type 0 where
   pub empty : queueEmpty (driven d (replicate k turn) .table) ≡ true
   pub before : (j : ℕ) → j < k → queueEmpty (driven d (replicate j turn) .table) ≡ false
@@ -88,10 +88,10 @@ pub record DriverRests (r : PairRule) (n : ℕ) (l : Limits) : Type 0 where
   -- so no more turns count;
   pub turns-count : (es : List Event) (p : Place) (ms : List Move) → quietMoves ms ≡ true → turnsCounted (drive (runBy r n l es) p) ms ≤ restBound n (length (runBy r n l es .queue))
   -- and once as many are accepted as the potential says, which is within the bound, no message waits
-  pub spent : (es : List Event) (p : Place) (ms : List Move) → quietMoves ms ≡ true
+  pub empty-after : (es : List Event) (p : Place) (ms : List Move) → quietMoves ms ≡ true
       → potential (runBy r n l es) ≤ acceptedBy (drive (runBy r n l es) p) ms → queueEmpty (driven (drive (runBy r n l es) p) ms .table) ≡ true
-  -- "once no message waits, every further turn does nothing"
-  pub still : (es : List Event) (p : Place) (k : ℕ) → queueEmpty (runBy r n l es) ≡ true → driven (drive (runBy r n l es) p) (replicate k turn) .table ≡ runBy r n l es
+  -- Once no message waits, every further turn does nothing.
+  pub unchanged : (es : List Event) (p : Place) (k : ℕ) → queueEmpty (runBy r n l es) ≡ true → driven (drive (runBy r n l es) p) (replicate k turn) .table ≡ runBy r n l es
   -- With turns alone, from a pair of the round on, no message waits after bound × n × (n − 1) turns. With n = 1 none ever waits.
   pub turns : (es : List Event) (p : Place) (k : ℕ) → isInRound n p ≡ true → restBound n (length (runBy r n l es .queue)) * roundSize n ≤ k
       → queueEmpty (driven (drive (runBy r n l es) p) (replicate k turn) .table) ≡ true

@@ -5,7 +5,7 @@ use mathlib.Core.Bool.{Bool, true, false}
 use mathlib.Core.Path.{_≡_, refl, sym, _∙_, ap, ap₂, subst}
 use mathlib.Core.List.{List}
 use lib.ListN.{length, replicate}
-use borrow.Author.Tests.{eqb-true}
+use borrow.Author.Tests.{eqb-true, eq-eqb}
 use Rattle.model.specs.Counts.{one}
 use Rattle.model.specs.Limits.{tower, stand}
 use Rattle.model.specs.Range.{TwoPairs}
@@ -25,18 +25,21 @@ use Rattle.model.specs.declared.Answer.{Answer}
 use Rattle.model.specs.declared.Outcome.{Outcome}
 use Rattle.machine.specs.Stepped.{Stepped}
 use Rattle.machine.specs.Claims.{Chain, Reached, CodeRuns}
-use Rattle.machine.proofs.Runs.{accepted-alike}
+use Rattle.machine.specs.Folded.{Folded}
+use Rattle.machine.proofs.Runs.{accepted-alike, code-runs}
+use Rattle.session.specs.Applied.{Applied}
+use Rattle.session.proofs.Sessions.{session-runs}
 use Rattle.round.specs.Order.{isInRound, roundSize}
 use Rattle.round.specs.Schedule.{turn, Drive, drive, driven}
 use Rattle.round.specs.declared.Place.{Place}
-use Rattle.driver.specs.Scheduled.{Scheduled}
-use Rattle.driver.proofs.Chains.{code-round}
+use Rattle.driver.specs.Scheduled.{Scheduled, ByDriver}
+use Rattle.driver.proofs.Chains.{code-round, code-driver-runs}
 use Rattle.rest_bound.specs.Quiet.{allQuiet}
 use Rattle.rest_bound.specs.Potential.{restBound}
-use Rattle.rest_bound.specs.Turns.{queueEmpty}
+use Rattle.rest_bound.specs.Turns.{quietMoves, acceptedBy, queueEmpty}
 use Rattle.rest_bound.proofs.Falls.{bound-most, run-waiting, run-rests}
-use Rattle.rest_bound.proofs.Turns.{driver-rests}
-use Rattle.rest_list.specs.Chains.{FoldedCounting, none, more, CodeRests, EveryChainRests}
+use Rattle.rest_bound.proofs.Turns.{unchanged, driver-rests}
+use Rattle.rest_list.specs.Chains.{FoldedCounting, none, more, CodeRests, CodeComesToRest, EveryChainRests}
 
 -- ── the answers ──
 refused-none : (a : Answer) → (answerNumber a ≡ 0 → ⊥) → one (isAccepted a) ≡ 0
@@ -84,13 +87,18 @@ module _ (chain : Chain) (runs : CodeRuns chain) (n : ℕ) (lim : Limits) (m : M
   code-rests =
       record {
         answers = answers;
+        schedules = λ {es} {t} {u} {p} {q} {ms} x ok s.
+            let e = runs .from-start n lim es t x in
+            let b = subst (λ (v : State). acceptedBy (drive v p) ms ≤ restBound n (length (v .queue))) (sym e) (driver-rests TwoPairs n lim (holds TwoPairs n lim m) .accepts es p ms ok) in
+            omega (arith, b, waiting-is t);
+        unchanged = λ {es} {t} {u} {p} {q} k x w s. ap (λ (v : Drive). v .table) (code-round .drives s) ∙ unchanged k (drive (view t) p) (eq-eqb (length (view t .queue)) 0 (waiting-is t ∙ w));
         turns = turns;
         alone = λ {es} {t} x e.
             sym (waiting-is t) ∙ eqb-true (length (view t .queue)) 0 (ap (λ (v : State). queueEmpty v) (runs .from-start n lim es t x) ∙ driver-rests TwoPairs n lim (holds TwoPairs n lim m) .alone es e);
       }
 
-pub every-chain-rests : EveryChainRests
-every-chain-rests chain runs =
+chain-rests : (chain : Chain) → CodeRuns chain → CodeComesToRest chain
+chain-rests chain runs =
     record {
       any = code-rests chain runs;
       for-tower = λ n low high {es} {fs} {t} {u} {k} x q a.
@@ -105,3 +113,6 @@ every-chain-rests chain runs =
     few n lim m es t x =
         let e = runs .from-start n lim es t x in
         omega (arith, run-waiting TwoPairs n lim (holds TwoPairs n lim m) es, ap (λ (v : State). length (v .queue)) e, first-length (t .waiting) noMessage (t .messages))
+
+pub every-chain-rests : EveryChainRests
+every-chain-rests = record { by-value = chain-rests Folded code-runs; in-place = chain-rests Applied session-runs; by-driver = chain-rests ByDriver (code-driver-runs .runs) }

@@ -1,4 +1,4 @@
--- The wrong programs of specs/Mutants: each differs from the text in one byte.
+-- The wrong programs of specs/Mutants: each is told from the text by one byte.
 use Prim.Native.Nat.{ℕ}
 use native.Mathlib.Omega.{arith}
 use mathlib.Core.Path.{_≡_, sym, _∙_, ap, ap₂}

@@ -35,7 +35,7 @@ pub record RestBehind (l : List ℕ) (n : ℕ) (lim : Limits) (r : Reading) : Ty
   pub starts : MayStart TwoPairs n lim
   -- the text is the bench program's, and in place of its table the number of turns and the table behind them
   pub text : restTextOf l ≡ joined (cabinetsLine n ∷ runLinesWith restLines (start n lim) 1 r)
-  -- after so many turns from the first pair on no message waits, and after fewer some did: "turns of the round until no message waits"
+  -- after so many turns from the first pair on no message waits, and after fewer some did
   pub rests : RestsAfter (drive (lastTable n lim r) firstPair) (turnsToRest (lastTable n lim r))
   -- they are at most bound × n × (n − 1), by the definition of their number; that these are enough is said in `rests`
   pub within : turnsToRest (lastTable n lim r) ≤ restBound n (length (lastTable n lim r .queue)) * roundSize n

@@ -14,9 +14,9 @@ ghost use Rattle.rest_list.specs.Text.{restLines, restLinesOf};
 ghost use Rattle.rest_list.specs.Rested.{RestedFrom};
 
 // The table in which no message waits, and how many turns were made until then.
-pub struct Rested {
-    pub table: Table,
-    pub turns: u32,
+struct Rested {
+    table: Table,
+    turns: u32,
 }
 
 fn rested_with(table: Table, turns: u32) -> Rested
@@ -37,8 +37,8 @@ fn first_pair() -> Place
     }
 }
 
-// Turns of the round from its first pair on, until no message waits. That it ends is T-13's claim: after as many turns as the bound says no message waits (`TurnsEnd`), and the loop
-// has fewer of them left each time.
+// Turns of the round from its first pair on, until no message waits. That it ends is T-13's claim: after as many turns as `turnBound` says no message waits (`TurnsEnd`, and
+// `PotentialFalls.bounded`), and the loop has fewer of them left each time.
 fn turns_to_rest(t: Table) -> Rested
     requires { ⌜ (inRange (view t) ≡ true) × (suited (view t) ≡ true) ⌝ }
     ensures { λ r. ⌜ RestedFrom (view t) r ⌝ }
