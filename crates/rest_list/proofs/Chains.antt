@@ -36,7 +36,7 @@ use Rattle.driver.specs.Scheduled.{Scheduled, ByDriver}
 use Rattle.driver.proofs.Chains.{code-round, code-driver-runs}
 use Rattle.rest_bound.specs.Quiet.{allQuiet}
 use Rattle.rest_bound.specs.Potential.{restBound}
-use Rattle.rest_bound.specs.Turns.{quietMoves, acceptedBy, queueEmpty}
+use Rattle.rest_bound.specs.Turns.{acceptedBy, queueEmpty}
 use Rattle.rest_bound.proofs.Falls.{bound-most, run-waiting, run-rests}
 use Rattle.rest_bound.proofs.Turns.{unchanged, driver-rests}
 use Rattle.rest_list.specs.Chains.{FoldedCounting, none, more, CodeRests, CodeComesToRest, EveryChainRests}
