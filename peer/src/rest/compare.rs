@@ -14,9 +14,9 @@ use crate::rest::corners::Corners;
 use crate::rest::potential::{is_quiet, rest_bound, suited, turns_bound};
 use crate::rest::runs::at_rest;
 use crate::round::bytes::{written, TURN_BYTES};
+use crate::round::compare::fewest_moves;
 use crate::round::driver::{turn_in_range, Done, Place};
 use crate::round::schedules::{Move, Schedule};
-use crate::shortest::shortest;
 use crate::traffic_tables::pairs;
 
 /// How many bytes behind a table, or behind a turn's, are looked at.
@@ -249,19 +249,10 @@ pub fn tell_rest(library: &impl Library, potential: Potential, schedule: &Schedu
         let schedule = Schedule { moves: moves.to_vec(), ..schedule.clone() };
         rest_difference(library, potential, &schedule, &mut Corners::default())
     };
-    let mut moves = schedule.moves.clone();
-    if let Some(found) = found(&moves) {
-        moves.truncate(found.events);
-    }
-    let moves = shortest(moves, |moves| found(moves).is_some());
-    let names: Vec<String> = moves.iter().map(Move::to_string).collect();
+    let (names, words) = fewest_moves(&schedule.moves, found);
     let (start, (a, b)) = (&schedule.start, schedule.place);
     format!(
         "n {}, limits {} {}, from the place {a} {b}: {}\n{}",
-        start.n,
-        start.limits.nodes,
-        start.limits.messages,
-        names.join(", "),
-        found(&moves).map(|found| found.words).unwrap_or_default()
+        start.n, start.limits.nodes, start.limits.messages, names, words
     )
 }

@@ -1,7 +1,7 @@
 //! Counts what quiet events and turns met in runs, and how far the potential fell in each. Which falls each procedure
 //! can have is written out here once more, apart from the weights.
 
-use crate::corners::{event_name, Source, ACTIVITIES, KINDS};
+use crate::corners::{acting, event_name, Source, ACTIVITIES, KINDS};
 use crate::machine::{Activity, Body, Event, Table, MAX_NODES, STAND};
 use crate::proved::tag;
 use crate::round::driver::Done;
@@ -227,21 +227,6 @@ impl Book for Corners {
 fn words(corner: &Corner) -> String {
     let parts: Vec<&str> = corner.iter().copied().filter(|part| !part.is_empty()).collect();
     parts.join(", ")
-}
-
-/// The node that a quiet event meets; of deliver and lose the receiver.
-fn acting(event: &Event) -> u8 {
-    match *event {
-        Event::Crash(i)
-        | Event::Recover(i)
-        | Event::Check(i)
-        | Event::Timeout(i)
-        | Event::Tick(i)
-        | Event::Expire(i)
-        | Event::Finish(i, _)
-        | Event::Deliver(_, i)
-        | Event::Lose(_, i) => i,
-    }
 }
 
 /// What a deliver or lose takes out.

@@ -200,24 +200,33 @@ pub fn schedule_difference(
     None
 }
 
+/// As few of the moves as still show a difference, by their names, and that difference in words.
+pub fn fewest_moves(
+    moves: &[Move],
+    found: impl Fn(&[Move]) -> Option<Difference>,
+) -> (String, String) {
+    let mut moves = moves.to_vec();
+    if let Some(found) = found(&moves) {
+        moves.truncate(found.events);
+    }
+    let moves = shortest(moves, |moves| found(moves).is_some());
+    let names: Vec<String> = moves.iter().map(Move::to_string).collect();
+    (names.join(", "), found(&moves).map(|found| found.words).unwrap_or_default())
+}
+
 /// A difference in words, with as few of the turns and events as still show one.
 pub fn tell_schedule(library: &impl Library, schedule: &Schedule) -> String {
     let found = |moves: &[Move]| {
         let schedule = Schedule { moves: moves.to_vec(), ..schedule.clone() };
         schedule_difference(library, &schedule, &mut Corners::default())
     };
-    let mut moves = schedule.moves.clone();
-    if let Some(found) = found(&moves) {
-        moves.truncate(found.events);
-    }
-    let moves = shortest(moves, |moves| found(moves).is_some());
-    let names: Vec<String> = moves.iter().map(Move::to_string).collect();
+    let (names, words) = fewest_moves(&schedule.moves, found);
     let (start, (a, b)) = (&schedule.start, schedule.place);
     format!(
         "a table, n {}:\n{}from the place {a} {b}: {}\n{}",
         start.n,
         table_text(start),
-        names.join(", "),
-        found(&moves).map(|found| found.words).unwrap_or_default()
+        names,
+        words
     )
 }
