@@ -160,6 +160,19 @@ pub fn put_bytes(out: &mut [u8], at: usize, w: &[u8]) -> usize
     at + w.len()
 }
 
+// Any line, made elsewhere, into out from at on.
+pub fn put_line(out: &mut [u8], at: usize, line: &[u8]) -> Put
+    ensures { λ r. ⌜ shown r (now (out .exit)) ≡ printed (now (out .entry)) at (now (line .entry) ∷ []) ⌝ }
+{
+    if out.len() < at {
+        return Put::NoRoom;
+    }
+    if out.len() - at < line.len() {
+        return Put::NoRoom;
+    }
+    Put::Next(put_bytes(out, at, line))
+}
+
 // x in decimal into out from at on: the offset behind it. The caller sees to the room.
 pub fn put_number(out: &mut [u8], at: usize, x: u32) -> usize
     requires { ⌜ at + length (decimal x) ≤ length (now out) ⌝ }
@@ -215,8 +228,8 @@ fn write_two(free: &mut [u8], w: &[u8; 8], x: u32, y: u32) -> Put
     Put::Next(e + 1)
 }
 
-// The line of a word and a number into buf from at on.
-fn put_one(buf: &mut [u8], at: usize, w: &[u8], x: u64) -> Put
+// The line of a word, which has its space behind it, and a number into buf from at on.
+pub fn put_one(buf: &mut [u8], at: usize, w: &[u8], x: u64) -> Put
     ensures { λ r. ⌜ shown r (now (buf .exit)) ≡ printed (now (buf .entry)) at ((now (w .entry) ++ (decimal x ++ row [])) ∷ []) ⌝ }
 {
     if buf.len() < at {

@@ -5,15 +5,6 @@ use standard_io::Input;
 ghost use mathlib.Core.Path.{_≡_};
 ghost use lib.ListN.{length};
 
-// One byte more than a list may have.
-const LIST_SPACE: usize = 65537;
-
-fn list_space() -> [u8; LIST_SPACE]
-    ensures { λ r. ⌜ 65537 ≡ length r ⌝ }
-{
-    [0; LIST_SPACE]
-}
-
 fn text_space() -> [u8; REST_LIMIT]
     ensures { λ r. ⌜ 279163 ≡ length r ⌝ }
 {
@@ -28,7 +19,7 @@ fn print(list: &[u8]) {
 }
 
 fn main() {
-    let mut list = list_space();
+    let mut list = standard_io::list_space();
     match standard_io::read_all(&mut list) {
         Input::Failed => {}
         Input::Read(n) => print(&list[..n]),

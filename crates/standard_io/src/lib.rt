@@ -1,5 +1,6 @@
 // A program's standard input and output: all of the one read into a lent buffer, and bytes written to the other. Where that fails, a line on standard error
-// says why. No contract can say which bytes are read or written.
+// says why; a program's own message goes there as well. No contract can say which bytes are read or written.
+use libc::STDERR_FILENO;
 use libc::STDIN_FILENO;
 use libc::STDOUT_FILENO;
 ghost use mathlib.Core.Path.{_≡_};
@@ -12,6 +13,16 @@ ghost use Rattle.standard_io.specs.declared.Input.the-variants as Input;
 pub enum Input {
     Read(usize),
     Failed,
+}
+
+// One byte more than a list may have, so that a longer one is known.
+pub const LIST_SPACE: usize = 65537;
+
+// The space for a list that is read.
+pub fn list_space() -> [u8; LIST_SPACE]
+    ensures { λ r. ⌜ 65537 ≡ length r ⌝ }
+{
+    [0; LIST_SPACE]
 }
 
 // One read, into the part of buf from at on.
@@ -61,4 +72,9 @@ pub fn write_all(text: &[u8]) -> bool {
     }
     os::fail(b"standard output");
     false
+}
+
+// Writes all of message to standard error. Where that fails there is nowhere left to tell it.
+pub fn tell(message: &[u8]) {
+    io::write_all(STDERR_FILENO, message);
 }
