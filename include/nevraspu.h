@@ -70,10 +70,15 @@ extern "C" {
 #define NEVRASPU_BULLY_TABLE_SIZE 193 /* a table of the Bully machine */
 #define NEVRASPU_MESSAGE_MOST 25      /* the longest message on the cable */
 #define NEVRASPU_OUTCOME_SIZE 55      /* what a controller gives: a record, a length, a message */
+#define NEVRASPU_LIST_MOST 65536      /* the longest list */
 #define NEVRASPU_TEXT_MOST 279149     /* no text of nevraspu_print has more */
+#define NEVRASPU_LIST_TEXT_MOST 278540 /* no text of nevraspu_text_of_list has more */
 
-/* What nevraspu_print answers where the text does not fit (01's refusal 15). */
+/* What a function that writes a text answers where it does not fit (01's refusal 15). */
 #define NEVRASPU_NO_ROOM ((uint64_t)-1)
+
+/* What nevraspu_list_of_text answers for a bad text, with the length of its message added. */
+#define NEVRASPU_BAD_TEXT ((uint64_t)1 << 32)
 
 /* The answers, by the numbers of 01 and 02. Which of them a function gives stands at it. */
 enum nevraspu_answer {
@@ -236,6 +241,50 @@ uint32_t nevraspu_fold(const uint8_t *list, size_t list_len);
  */
 uint64_t nevraspu_print(const uint8_t *list, size_t list_len,
                         uint8_t *out, size_t out_len);
+
+/*
+ * A list run step by step, as the program `trace` prints it: a line for each event, with its number
+ * and `accepted` or `refused` and the refusal's number; behind an accepted one the record that
+ * changed and the message taken out and put in; at the end the bench's table.
+ *
+ * The answer: the length of the text, which stands whole at the start of out; or NEVRASPU_NO_ROOM
+ * where it does not fit, and then its pieces from the first on (the first line, the lines of each
+ * event, the table at the end) stand there, up to the one that has no room. What is behind the last
+ * piece written is left as it was. No size is named that always has the room: where it is missing,
+ * call again with a larger out. A piece has at most 1,024 bytes, and there are at most 16,385.
+ */
+uint64_t nevraspu_trace(const uint8_t *list, size_t list_len,
+                        uint8_t *out, size_t out_len);
+
+
+/* ---- lists as text ---- */
+
+/*
+ * A list as text: `cabinets` or `stand` and n, then a line for each event; where the list stops,
+ * `stopped`, the offset and the refusal's number. Nothing is run.
+ *
+ * The answer: the length of the text, which stands whole at the start of out; or NEVRASPU_NO_ROOM
+ * where it does not fit, and then its lines from the first on stand there, up to the one that has
+ * no room. What is behind the last line written is left as it was. An out of
+ * NEVRASPU_LIST_TEXT_MOST bytes always has the room.
+ */
+uint64_t nevraspu_text_of_list(const uint8_t *list, size_t list_len,
+                               uint8_t *out, size_t out_len);
+
+/*
+ * The list of a text: `cabinets` or `stand` and n, then events by their names and numbers, parted
+ * by a comma or line ends; `#` starts a comment, which goes to the end of its line.
+ *
+ * The answer:
+ *   below NEVRASPU_BAD_TEXT  the length of the list, which stands at the start of out
+ *   NEVRASPU_BAD_TEXT + k    the text is bad: the k bytes at the start of out are a line that
+ *                            says where, and what was expected there
+ *   NEVRASPU_NO_ROOM         what is to be written does not fit: out is as it was
+ * What is behind what is written is left as it was. An out of NEVRASPU_LIST_MOST bytes always has
+ * the room. A text may have 1,048,576 bytes.
+ */
+uint64_t nevraspu_list_of_text(const uint8_t *text, size_t text_len,
+                               uint8_t *out, size_t out_len);
 
 
 /* ---- the Bully machine (02, T-07) ---- */

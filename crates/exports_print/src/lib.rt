@@ -1,7 +1,5 @@
 // Printing a list, for Rust or C to link. It is a library of its own: where the step by value is in the same library, the run loop's judgement is
 // compiled as a call, and printing takes up to a third longer.
-use listing::Put;
-ghost use mathlib.Core.Path.{_≡_};
 ghost use Rattle.exports_print.specs.Boundary.{PrintExported};
 
 //   uint64_t nevraspu_print(const uint8_t *list, size_t list_len, uint8_t *out, size_t out_len);
@@ -13,8 +11,5 @@ ghost use Rattle.exports_print.specs.Boundary.{PrintExported};
 pub extern "C" fn nevraspu_print(list: &[u8], out: &mut [u8]) -> u64
     ensures { λ r. ⌜ PrintExported (now (list .entry)) (now (out .entry)) (now (out .exit)) r ⌝ }
 {
-    match run_list::print(list, out) {
-        Put::Next(n) => n as u64,
-        Put::NoRoom => 18446744073709551615,
-    }
+    listing::put_length(run_list::print(list, out))
 }

@@ -1,5 +1,9 @@
 -- The single texts and lists hold by computing.
-use mathlib.Core.Path.{refl}
+use Prim.Native.Nat.{ℕ, _<_}
+use mathlib.Core.Path.{_≡_, refl}
+use mathlib.Core.List.{List}
+use lib.ListN.{length}
+use borrow.Author.Tests.{lt-ltb}
 use Rattle.model.specs.Pick.{pick}
 use Rattle.event_list.specs.Format.{lengthOf, cutShort, checked, eventOf, nextAt, limitsOf, nodesOf, firstOf, readFrom, rest, reading}
 use Rattle.listing.specs.Decimal.{digits, decimal}
@@ -10,7 +14,7 @@ use Rattle.list_text.specs.Text.{standLine, openingLine, eventLine, list
 use Rattle.list_text.specs.Words.{span, past, skipped, pastSkipped, wordAt, same, valueBehind, valueUpTo, numberAt}
 use Rattle.list_text.specs.Script.{eventField, listBytes, openingTag, openingAt, eventNamed, secondMost, secondExpected, eventOfTwo, numbersAt, eventAt, eventFrom, separatedAt, partAt, saidIn, saidFrom, scriptOf, placeFrom, listOf}
 use Rattle.list_text.specs.Message.{expectedText, messageText}
-use Rattle.list_text.specs.Cases.{ListTextCases, ScriptCases}
+use Rattle.list_text.specs.Cases.{ListTextCases, ScriptCases, LimitCases}
 
 pub list-text-cases : ListTextCases
 unfolding pick lengthOf cutShort checked eventOf nextAt limitsOf nodesOf firstOf readFrom rest reading digits decimal row cabinetsLine stoppedLine joined nameOf spaced eventText standLine openingLine eventLine listLines
@@ -24,6 +28,10 @@ list-text-cases =
       cut = refl;
       empty = refl;
       no-nodes = refl;
+      stand-five = refl;
+      other-first = refl;
+      first-again = refl;
+      stand-damaged = refl;
     }
 
 pub script-cases : ScriptCases
@@ -33,8 +41,11 @@ script-cases =
       every-event = refl;
       pasted = refl;
       one-line = refl;
+      opening-alone = refl;
+      empty-line = refl;
       both = refl;
       comments = refl;
+      comment-bytes = refl;
       blanks = refl;
       seventeen = refl;
       largest = refl;
@@ -42,12 +53,16 @@ script-cases =
       zeros = refl;
       empty = refl;
       only-comments = refl;
+      comment-alone = refl;
+      byte-order-mark = refl;
       event-first = refl;
       capital = refl;
       opening-again = refl;
       no-nodes = refl;
+      nodes-comma = refl;
       nodes-over = refl;
       no-number = refl;
+      no-numbers = refl;
       no-second = refl;
       no-task = refl;
       over = refl;
@@ -55,15 +70,31 @@ script-cases =
       huge = refl;
       sign = refl;
       letter = refl;
+      other-byte = refl;
+      task-word = refl;
       other-name = refl;
+      count-line = refl;
       capitals = refl;
       joined-number = refl;
       stopped = refl;
       comma-last = refl;
+      comma-end = refl;
+      comma-opening = refl;
+      comma-comment = refl;
       comma-first = refl;
       comma-twice = refl;
       no-separator = refl;
       third-number = refl;
       first-wrong = refl;
       told = refl;
+      told-task = refl;
+      told-opening = refl;
+      told-name = refl;
+      told-separator = refl;
+      told-list = refl;
+      told-text = refl;
     }
+
+pub limit-cases : LimitCases
+unfolding pick eventField scriptOf
+limit-cases = record { last-event = λ at p f. refl; event-over = λ at p f. refl; text-over = λ t h. rw (lt-ltb _ _ h) refl }

@@ -23,7 +23,7 @@ use Rattle.list_text.proofs.Lines.{lines-read, pasted-read}
 use Rattle.list_text.proofs.Script.{script-fits}
 
 -- the text of a list that reads to its end has the lines of its events, and no other behind the first
-text-is : (l : List ℕ) (n : ℕ) (lim : Limits) (r : Reading) → reading l ≡ begun n lim r → r .ending ≡ complete → listText l ≡ joined (openingLine (tagAt l 0) n ∷ map eventLine (r .events))
+pub text-is : (l : List ℕ) (n : ℕ) (lim : Limits) (r : Reading) → reading l ≡ begun n lim r → r .ending ≡ complete → listText l ≡ joined (openingLine (tagAt l 0) n ∷ map eventLine (r .events))
 unfolding listLines
 text-is l n lim r e q = ap (λ (x : Listed). joined (shownLines (tagAt l 0) x)) e ∙ ap (λ (m : List (List ℕ)). joined (openingLine (tagAt l 0) n ∷ m)) whole
   where

@@ -26,7 +26,7 @@ use Rattle.short_lists_text.proofs.Rows.{all-rows}
 use Rattle.short_lists_text.proofs.Bytes.{same-bytes}
 use Rattle.list_text.specs.Script.{openingField, eventField, listBytes}
 use Rattle.list_text.specs.Words.{AllBytes}
-use Rattle.list_text.specs.Claims.{FitsBytes, OpeningTag, opened}
+use Rattle.list_text.specs.Claims.{FitsBytes, IsFirstTag, opened}
 
 -- ── a field by the bytes from its offset on ──
 
@@ -101,15 +101,15 @@ rest-events l at (e ∷ es) p =
 
 -- ── those of a first field are read as that field ──
 
-opening-tag : (u : ℕ) → OpeningTag u → firstTag u ≡ true
+opening-tag : (u : ℕ) → IsFirstTag u → firstTag u ≡ true
 opening-tag u (inl e) = rw e
 opening-tag u (inr e) = rw e
 
-opening-length : (u : ℕ) → OpeningTag u → lengthOf u ≡ 1
+opening-length : (u : ℕ) → IsFirstTag u → lengthOf u ≡ 1
 unfolding lengthOf pick
 opening-length u o = rw (opening-tag u o)
 
-first-opening : (u n : ℕ) (es : List Event) → OpeningTag u → length (listBytes u n es) ≤ maxBytes → firstOf (listBytes u n es) ≡ nodesOf (limitsOf u) n
+first-opening : (u n : ℕ) (es : List Event) → IsFirstTag u → length (listBytes u n es) ≤ maxBytes → firstOf (listBytes u n es) ≡ nodesOf (limitsOf u) n
 unfolding listBytes firstOf checked pick
 first-opening u n es o h =
     rw
@@ -121,7 +121,7 @@ unfolding listBytes
 listed-opened u n es (First.Stopped s) = refl
 listed-opened u n es (First.Nodes m lim) = ap (begun m lim) (rest-events (listBytes u n es) 4 es refl)
 
-pub fields-read : (u n : ℕ) (es : List Event) → OpeningTag u → length (listBytes u n es) ≤ maxBytes → reading (listBytes u n es) ≡ opened (nodesOf (limitsOf u) n) es
+pub fields-read : (u n : ℕ) (es : List Event) → IsFirstTag u → length (listBytes u n es) ≤ maxBytes → reading (listBytes u n es) ≡ opened (nodesOf (limitsOf u) n) es
 unfolding reading
 fields-read u n es o h = rw (first-opening u n es o h) (listed-opened u n es (nodesOf (limitsOf u) n))
 
@@ -139,11 +139,11 @@ event-bytes (Finish i t) f = omega arith
 event-bytes (Deliver a b) f = omega arith
 event-bytes (Lose a b) f = omega arith
 
-opening-byte : (u : ℕ) → OpeningTag u → u < 256
+opening-byte : (u : ℕ) → IsFirstTag u → u < 256
 opening-byte u (inl e) = omega arith
 opening-byte u (inr e) = omega arith
 
-pub fields-bytes : (u n : ℕ) (es : List Event) → OpeningTag u → n < 256 → All FitsBytes es → AllBytes (listBytes u n es)
+pub fields-bytes : (u n : ℕ) (es : List Event) → IsFirstTag u → n < 256 → All FitsBytes es → AllBytes (listBytes u n es)
 unfolding listBytes
 fields-bytes u n es o h f = (opening-byte u o, (omega arith, (omega arith, (h, all-rows FitsBytes (λ b. b < 256) eventField es event-bytes f))))
 
@@ -154,7 +154,7 @@ all-drop P zero l a = a
 all-drop P (suc k) [] a = tt
 all-drop P (suc k) (x ∷ l) a = all-drop P k l (a .1)
 
-all-take : (P : ℕ → Type 0) (k : ℕ) (l : List ℕ) → All P l → All P (take k l)
+pub all-take : (P : ℕ → Type 0) (k : ℕ) (l : List ℕ) → All P l → All P (take k l)
 all-take P zero l a = tt
 all-take P (suc k) [] a = tt
 all-take P (suc k) (x ∷ l) a = (a .0, all-take P k l (a .1))
@@ -243,12 +243,12 @@ rest-bytes l at b c = read-bytes (length l) l at b (omega arith) c
 -- what is known of a list by what its first field says
 abbrev FirstBytes : List ℕ → First → Type 0
 FirstBytes l (First.Stopped s) = Unit {0}
-FirstBytes l (First.Nodes n lim) = OpeningTag (tagAt l 0) × (n < 256) × (l ≡ openingField (tagAt l 0) n ++ drop (behind l 0) l) × (length l ≤ maxBytes)
+FirstBytes l (First.Nodes n lim) = IsFirstTag (tagAt l 0) × (n < 256) × (l ≡ openingField (tagAt l 0) n ++ drop (behind l 0) l) × (length l ≤ maxBytes)
 
-either-tag : (t : ℕ) → firstTag t ≡ true → OpeningTag t
+either-tag : (t : ℕ) → firstTag t ≡ true → IsFirstTag t
 either-tag t e = by (eqb t 0x01) (eqb t 0x02) refl refl e
   where
-    by : (p q : Bool) → eqb t 0x01 ≡ p → eqb t 0x02 ≡ q → (p || q) ≡ true → OpeningTag t
+    by : (p q : Bool) → eqb t 0x01 ≡ p → eqb t 0x02 ≡ q → (p || q) ≡ true → IsFirstTag t
     by true q a b d = inl (eqb-true t 0x01 a)
     by false true a b d = inr (eqb-true t 0x02 b)
     by false false a b d = absurd (true≢false (sym d))
@@ -281,7 +281,7 @@ first-bytes l b =
 
 -- l is exactly the bytes of a first field with n and of the events of r
 pub record FieldsOnly (l : List ℕ) (n : ℕ) (r : Reading) : Type 0 where
-  pub tag : OpeningTag (tagAt l 0)
+  pub tag : IsFirstTag (tagAt l 0)
   pub nodes : n < 256
   pub fit : All FitsBytes (r .events)
   pub bytes : l ≡ listBytes (tagAt l 0) n (r .events)

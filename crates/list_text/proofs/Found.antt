@@ -42,11 +42,11 @@ pub behind-one : (t : List ℕ) (at b : ℕ) (s : List ℕ) → drop at t ≡ b 
 behind-one t at b s e = behind t at (b ∷ []) s e
 
 -- The byte there.
-byte-is : (t : List ℕ) (at b : ℕ) (s : List ℕ) → drop at t ≡ b ∷ s → getD t at 0 ≡ b
+pub byte-is : (t : List ℕ) (at b : ℕ) (s : List ℕ) → drop at t ≡ b ∷ s → getD t at 0 ≡ b
 byte-is t at b s e = let z : at + 0 ≡ at = omega arith in ap (λ (k : ℕ). getD t k 0) (sym z) ∙ sym (getD-drop at t 0 0) ∙ ap (λ (l : List ℕ). getD l 0 0) e
 
 -- There is one, so the text is not at its end.
-byte-inside : (t : List ℕ) (at b : ℕ) (s : List ℕ) → drop at t ≡ b ∷ s → at < length t
+pub byte-inside : (t : List ℕ) (at b : ℕ) (s : List ℕ) → drop at t ≡ b ∷ s → at < length t
 byte-inside t at b s e =
     let l = length-drop at t in
     let m : length (drop at t) ≡ suc (length s) = ap (λ (x : List ℕ). length x) e in

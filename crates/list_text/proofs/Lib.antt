@@ -9,3 +9,6 @@ pub mod Lines
 pub mod Fits
 pub mod Script
 pub mod Claims
+pub mod Damage
+pub mod Places
+pub mod Pasted

@@ -21,7 +21,7 @@ use Rattle.short_lists_text.specs.Text.{eventText, moreText, eventsText, listLi
 use Rattle.list_text.specs.Text.{standLine, openingLine, eventLine}
 use Rattle.list_text.specs.Words.{isWordByte, isSkipped, same}
 use Rattle.list_text.specs.Script.{eventField, openingField, listBytes, openingTag, openingAt, partAt, saidFrom, said, onward, maxText, scriptOf, list, listOf}
-use Rattle.list_text.specs.Claims.{FitsBytes, OpeningTag}
+use Rattle.list_text.specs.Claims.{FitsBytes, IsFirstTag}
 use Rattle.list_text.specs.declared.Part.the-variants as Part
 use Rattle.list_text.proofs.Parts.{says-all}
 use Rattle.list_text.proofs.Lengths.{event-long, lines-long, more-long, fields-some}
@@ -131,11 +131,11 @@ opened w u n r es a k g z h p l f b =
     )
 
 -- The first line and what stands behind its number.
-cabinets-opens : (n : ℕ) (r : List ℕ) → cabinetsLine n ++ r ≡ bytes "cabinets" ++ (32 ∷ (decimal n ++ (10 ∷ r)))
+pub cabinets-opens : (n : ℕ) (r : List ℕ) → cabinetsLine n ++ r ≡ bytes "cabinets" ++ (32 ∷ (decimal n ++ (10 ∷ r)))
 unfolding cabinetsLine row
 cabinets-opens n r = ap (λ (l : List ℕ). bytes "cabinets" ++ (32 ∷ l)) (append-assoc (decimal n) (10 ∷ []) r)
 
-stand-opens : (n : ℕ) (r : List ℕ) → standLine n ++ r ≡ bytes "stand" ++ (32 ∷ (decimal n ++ (10 ∷ r)))
+pub stand-opens : (n : ℕ) (r : List ℕ) → standLine n ++ r ≡ bytes "stand" ++ (32 ∷ (decimal n ++ (10 ∷ r)))
 unfolding standLine row
 stand-opens n r = ap (λ (l : List ℕ). bytes "stand" ++ (32 ∷ l)) (append-assoc (decimal n) (10 ∷ []) r)
 
@@ -156,7 +156,7 @@ module _ (n : ℕ) (r : List ℕ) (es : List Event) (h : n < 256) (i : length r 
       ap (λ (t : List ℕ). listOf t) (stand-opens n r)
       ∙ opened (bytes "stand") 2 n (10 ∷ r) es (is-word (bytes "stand") refl) refl refl refl h refl (short (bytes "stand") n r (omega arith) h i) f b
 
-  opening-read : (u : ℕ) → OpeningTag u → length (listBytes u n es) ≤ maxBytes → listOf (openingLine u n ++ r) ≡ list (listBytes u n es)
+  opening-read : (u : ℕ) → IsFirstTag u → length (listBytes u n es) ≤ maxBytes → listOf (openingLine u n ++ r) ≡ list (listBytes u n es)
   opening-read u g =
       ⊎-elim
       (λ e. subst (λ (v : ℕ). length (listBytes v n es) ≤ maxBytes → listOf (openingLine v n ++ r) ≡ list (listBytes v n es)) (sym e) cabinets-read)
@@ -170,7 +170,7 @@ few : (u n : ℕ) (es : List Event) → length (listBytes u n es) ≤ maxBytes �
 unfolding listBytes
 few u n es b = let s = fields-some es in let l = length-append (openingField u n) (concatMap eventField es) in omega arith
 
-pub lines-read : (u n : ℕ) (es : List Event) → OpeningTag u → n < 256 → All FitsBytes es → length (listBytes u n es) ≤ maxBytes → listOf (joined (openingLine u n ∷ map eventLine es)) ≡ list (listBytes u n es)
+pub lines-read : (u n : ℕ) (es : List Event) → IsFirstTag u → n < 256 → All FitsBytes es → length (listBytes u n es) ≤ maxBytes → listOf (joined (openingLine u n ∷ map eventLine es)) ≡ list (listBytes u n es)
 unfolding joined
 lines-read u n es g h f b =
     let k = few u n es b in
@@ -182,7 +182,7 @@ unfolding listLine eventsText
 line-long [] f = omega arith
 line-long (e ∷ es) f = let a = event-long e (f .0) in let b = more-long es (f .1) in simp length-append (omega arith)
 
-pub pasted-read : (u n : ℕ) (es : List Event) → OpeningTag u → n < 256 → All FitsBytes es → length (listBytes u n es) ≤ maxBytes → listOf (openingLine u n ++ listLine es) ≡ list (listBytes u n es)
+pub pasted-read : (u n : ℕ) (es : List Event) → IsFirstTag u → n < 256 → All FitsBytes es → length (listBytes u n es) ≤ maxBytes → listOf (openingLine u n ++ listLine es) ≡ list (listBytes u n es)
 pasted-read u n es g h f b =
     let k = few u n es b in
     let l = line-long es f in

@@ -37,7 +37,7 @@ is most w a h = let s = a .some in rw (ne-eqb (length w) 0 (λ e. omega arith)) 
 
 -- what is known of w where it gave this behind digits whose value is v
 abbrev Behind : ℕ → ℕ → List ℕ → Value → Type 0
-Behind most v w Value.Missing = Unit {0}
+Behind most v w Value.NoNumber = Unit {0}
 Behind most v w (Value.Is x) = All (λ b. isDigit b ≡ true) w × (valueFrom v w ≡ x) × (x ≤ most)
 
 behind-only : (most v : ℕ) (w : List ℕ) → v ≤ most → Behind most v w (valueBehind most v w)
@@ -49,12 +49,12 @@ behind-only most v (b ∷ w) h =
     (λ n. by-test (Behind most v (b ∷ w)) (λ m. tt) (λ m. added (valueBehind most (appendDigit v b) w) (not-false _ n) (behind-only most (appendDigit v b) w (ltb-false most (appendDigit v b) m))))
   where
     added : (x : Value) → isDigit b ≡ true → Behind most (appendDigit v b) w x → Behind most v (b ∷ w) x
-    added Value.Missing d g = tt
+    added Value.NoNumber d g = tt
     added (Value.Is x) d g = ((d, g .0), g .1, g .2)
 
 -- the same of a whole word
 abbrev Read : ℕ → List ℕ → Value → Type 0
-Read most w Value.Missing = Unit {0}
+Read most w Value.NoNumber = Unit {0}
 Read most w (Value.Is x) = AllDigits w × (valueOf w ≡ x) × (x ≤ most)
 
 read-of : (most : ℕ) (w : List ℕ) → Read most w (valueUpTo most w)
@@ -62,7 +62,7 @@ unfolding valueUpTo
 read-of most w = by-test (Read most w) (λ e. tt) (λ e. some (valueBehind most 0 w) (eqb-false (length w) 0 e) (behind-only most 0 w (omega arith)))
   where
     some : (x : Value) → (length w ≡ 0 → ⊥) → Behind most 0 w x → Read most w x
-    some Value.Missing n g = tt
+    some Value.NoNumber n g = tt
     some (Value.Is x) n g = (record { some = omega arith; each = g .0 }, g .1, g .2)
 
 pub numbers-read : NumbersRead

@@ -59,7 +59,7 @@ word-further t at h =
 
 -- what is known of a number that is due at an offset
 abbrev Ahead : ℕ → List ℕ → ℕ → Number → Type 0
-Ahead most t at (Number.Missing p) = Unit {0}
+Ahead most t at (Number.NoNumber p) = Unit {0}
 Ahead most t at (Number.Found v p) = (at < p) × (p ≤ length t) × (v ≤ most)
 
 number-ahead : (most : ℕ) (t : List ℕ) (at : ℕ) → Ahead most t at (numberAt most t at)
@@ -67,7 +67,7 @@ unfolding numberAt
 number-ahead most t at = by (past isBlank t at) (past-from isBlank t at) (valueUpTo most (wordAt t (past isBlank t at))) refl
   where
     by : (from : ℕ) → at ≤ from → (x : Value) → valueUpTo most (wordAt t from) ≡ x → Ahead most t at (foundAt from (behindWord t from) x)
-    by from h Value.Missing e = tt
+    by from h Value.NoNumber e = tt
     by from h (Value.Is v) e =
         let r = numbers-read .only most (wordAt t from) v e in
         let w = word-further t from (r .0 .some) in
@@ -91,15 +91,15 @@ earlier t a b h (Part.Wrong p x) f = tt
 earlier t a b h (Part.Found e p) f = (omega arith, f .1)
 
 one-further : (u : ℕ) (t : List ℕ) (at : ℕ) (x : Number) → Ahead 255 t at x → Further t at (withOne u x)
-one-further u t at (Number.Missing p) a = tt
+one-further u t at (Number.NoNumber p) a = tt
 one-further u t at (Number.Found v p) a = (a .0, a .1)
 
 second-further : (u v most : ℕ) (t : List ℕ) (at : ℕ) (x : Number) → Ahead most t at x → Further t at (withSecond u v x)
-second-further u v most t at (Number.Missing p) a = tt
+second-further u v most t at (Number.NoNumber p) a = tt
 second-further u v most t at (Number.Found w p) a = (a .0, a .1)
 
 two-further : (u : ℕ) (t : List ℕ) (at : ℕ) (x : Number) → Ahead 255 t at x → Further t at (withTwo u t x)
-two-further u t at (Number.Missing p) a = tt
+two-further u t at (Number.NoNumber p) a = tt
 two-further u t at (Number.Found v p) a =
     earlier t at p (omega arith) (withSecond u v (numberAt (secondMost u) t p))
     (second-further u v (secondMost u) t p (numberAt (secondMost u) t p) (number-ahead (secondMost u) t p))

@@ -14,7 +14,7 @@ use Rattle.event_list.specs.Format.{maxBytes}
 use Rattle.short_lists_text.specs.Rows.{All, concatMap}
 use Rattle.list_text.specs.Words.{isBlank, past, pastSkipped, wordAt, behindWord, numberAt}
 use Rattle.list_text.specs.Script.{openingField, eventField, listBytes, openingTag, openingWith, openingAt, eventNamed, secondMost, eventOfTwo, withOne, withSecond, withTwo, numbersAt, eventAt, eventFrom, separatedAt, partAt, Said, wrong, said, before, onward, saidIn, saidFrom, Script, wrongAt, script, withEvents, behindOpening, scriptOf}
-use Rattle.list_text.specs.Claims.{FitsBytes, OpeningTag}
+use Rattle.list_text.specs.Claims.{FitsBytes, IsFirstTag}
 use Rattle.list_text.specs.declared.Number.{Number}
 use Rattle.list_text.specs.declared.Number.the-variants as Number
 use Rattle.list_text.specs.declared.Opening.{Opening}
@@ -25,7 +25,7 @@ use Rattle.list_text.proofs.Parts.{number-further}
 use Rattle.list_text.proofs.Fits.{event-fits}
 
 pub record ScriptFits (u n : ℕ) (es : List Event) : Type 0 where
-  pub tag : OpeningTag u
+  pub tag : IsFirstTag u
   pub nodes : n < 256
   pub fit : All FitsBytes es
   pub long : length (listBytes u n es) ≤ maxBytes
@@ -34,31 +34,31 @@ pub record ScriptFits (u n : ℕ) (es : List Event) : Type 0 where
 
 -- what is known of a number that was found
 abbrev Most : ℕ → Number → Type 0
-Most most (Number.Missing p) = Unit {0}
+Most most (Number.NoNumber p) = Unit {0}
 Most most (Number.Found v p) = v ≤ most
 
 number-most : (most : ℕ) (t : List ℕ) (at : ℕ) → Most most (numberAt most t at)
 number-most most t at = by (numberAt most t at) refl
   where
     by : (x : Number) → numberAt most t at ≡ x → Most most x
-    by (Number.Missing p) e = tt
+    by (Number.NoNumber p) e = tt
     by (Number.Found v p) e = number-further most t at v p e .2
 
 -- ── the opening ──
 
 abbrev OpeningFits : Opening → Type 0
 OpeningFits (Opening.Wrong p x) = Unit {0}
-OpeningFits (Opening.Nodes u n next) = OpeningTag u × (n < 256)
+OpeningFits (Opening.Nodes u n next) = IsFirstTag u × (n < 256)
 
 -- A word that gives no 0 gives one of the two tags.
-opening-tag : (w : List ℕ) → (openingTag w ≡ 0 → ⊥) → OpeningTag (openingTag w)
+opening-tag : (w : List ℕ) → (openingTag w ≡ 0 → ⊥) → IsFirstTag (openingTag w)
 unfolding openingTag
 opening-tag w =
-    by-test (λ (v : ℕ). (v ≡ 0 → ⊥) → OpeningTag v) (λ c z. inl refl)
-    (λ c. by-test (λ (v : ℕ). (v ≡ 0 → ⊥) → OpeningTag v) (λ s z. inr refl) (λ s z. absurd (z refl)))
+    by-test (λ (v : ℕ). (v ≡ 0 → ⊥) → IsFirstTag v) (λ c z. inl refl)
+    (λ c. by-test (λ (v : ℕ). (v ≡ 0 → ⊥) → IsFirstTag v) (λ s z. inr refl) (λ s z. absurd (z refl)))
 
-with-fits : (u : ℕ) (x : Number) → OpeningTag u → Most 255 x → OpeningFits (openingWith u x)
-with-fits u (Number.Missing p) g h = tt
+with-fits : (u : ℕ) (x : Number) → IsFirstTag u → Most 255 x → OpeningFits (openingWith u x)
+with-fits u (Number.NoNumber p) g h = tt
 with-fits u (Number.Found v p) g h = (g, omega arith)
 
 opening-fits : (t : List ℕ) (at : ℕ) → OpeningFits (openingAt t at)
@@ -91,15 +91,15 @@ two-fit u x y h k =
     (λ e. let m = byte-most u e in event-fits u (x ∷ y ∷ []) (omega arith, (omega arith, tt)))
 
 one-part : (u : ℕ) (x : Number) → Most 255 x → PartFits (withOne u x)
-one-part u (Number.Missing p) h = tt
+one-part u (Number.NoNumber p) h = tt
 one-part u (Number.Found v p) h = event-fits u (v ∷ []) (omega arith, tt)
 
 second-part : (u v : ℕ) (x : Number) → v ≤ 255 → Most (secondMost u) x → PartFits (withSecond u v x)
-second-part u v (Number.Missing p) h k = tt
+second-part u v (Number.NoNumber p) h k = tt
 second-part u v (Number.Found w p) h k = two-fit u v w h k
 
 two-part : (u : ℕ) (t : List ℕ) (x : Number) → Most 255 x → PartFits (withTwo u t x)
-two-part u t (Number.Missing p) h = tt
+two-part u t (Number.NoNumber p) h = tt
 two-part u t (Number.Found v p) h = second-part u v (numberAt (secondMost u) t p) h (number-most (secondMost u) t p)
 
 event-part : (t : List ℕ) (at : ℕ) → PartFits (eventAt t at)
@@ -150,7 +150,7 @@ abbrev WholeFits : Script → Type 0
 WholeFits (wrongAt p x) = Unit {0}
 WholeFits (script u n es) = ScriptFits u n es
 
-events-fit : (u n : ℕ) (x : Said) → OpeningTag u → n < 256 → SaidFits (maxBytes - 4) x → WholeFits (withEvents u n x)
+events-fit : (u n : ℕ) (x : Said) → IsFirstTag u → n < 256 → SaidFits (maxBytes - 4) x → WholeFits (withEvents u n x)
 unfolding listBytes
 events-fit u n (wrong p x) g h f = tt
 events-fit u n (said es) g h f = let m = f .1 in record { tag = g; nodes = h; fit = f .0; long = rw (length-append (openingField u n) (concatMap eventField es)) (omega arith) }

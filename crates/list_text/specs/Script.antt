@@ -4,13 +4,13 @@
 use Prim.Native.Nat.{ℕ, zero, suc, _+_, _-_}
 use mathlib.Core.Bool.{Bool, _||_}
 use mathlib.Core.List.{List, [], _∷_, _++_}
-use lib.ListN.{length, getD, take, drop}
+use lib.ListN.{length, getD, take}
 use lib.Dec.{eqb, leb, ltb}
 use Rattle.model.specs.Pick.{pick}
 use Rattle.model.specs.declared.TaskNo.{TaskNo}
 use Rattle.model.specs.declared.Event.{Event}
 use Rattle.model.specs.declared.Event.the-variants.{Finish}
-use Rattle.event_list.specs.Format.{maxBytes, between, eventOf}
+use Rattle.event_list.specs.Format.{maxBytes, eventOf}
 use Rattle.listing.specs.Ascii.{bytes}
 use Rattle.short_lists_text.specs.Rows.{concatMap}
 use Rattle.short_lists_text.specs.Order.{tag, contents}
@@ -31,7 +31,7 @@ use Rattle.list_text.specs.declared.Part.the-variants as Part
 abbrev pub openingField : ℕ → ℕ → List ℕ
 openingField u n = u ∷ 0 ∷ 1 ∷ n ∷ []
 
--- of an event
+-- the field of an event
 unfoldable pub eventField : Event → List ℕ
 eventField e = tag e ∷ 0 ∷ length (contents e) ∷ contents e
 
@@ -48,9 +48,9 @@ openingTag w =
     (pick (same w (bytes "stand")) 0x02
     0)
 
--- N, "as far as [its byte] can hold" it
+-- with N, from 0 to 255: as far as its byte can hold it
 abbrev pub openingWith : ℕ → Number → Opening
-openingWith u (Number.Missing p) = Opening.Wrong p Expected.Number
+openingWith u (Number.NoNumber p) = Opening.Wrong p Expected.Number
 openingWith u (Number.Found n next) = Opening.Nodes u n next
 
 -- what the opening says that starts at an offset
@@ -86,18 +86,19 @@ secondExpected u = pick (eqb u 0x16) Expected.Task Expected.Number
 unfoldable pub eventOfTwo : ℕ → ℕ → ℕ → Event
 eventOfTwo u x y = pick (eqb u 0x16) (Finish x (record { number = y })) (eventOf u (x ∷ y ∷ []))
 
--- "and numbers": one, behind crash, recover, check, timeout, tick and expire
+-- "and numbers": crash, recover, check, timeout, tick and expire have one
 abbrev pub withOne : ℕ → Number → Part
-withOne u (Number.Missing p) = Part.Wrong p Expected.Number
+withOne u (Number.NoNumber p) = Part.Wrong p Expected.Number
 withOne u (Number.Found x next) = Part.Found (eventOf u (x ∷ [])) next
 
--- two, behind finish, deliver and lose
+-- finish, deliver and lose have two, of which x is the first
 abbrev pub withSecond : ℕ → ℕ → Number → Part
-withSecond u x (Number.Missing p) = Part.Wrong p (secondExpected u)
+withSecond u x (Number.NoNumber p) = Part.Wrong p (secondExpected u)
 withSecond u x (Number.Found y next) = Part.Found (eventOfTwo u x y) next
 
+-- of which the first is still to be read
 abbrev pub withTwo : ℕ → List ℕ → Number → Part
-withTwo u t (Number.Missing p) = Part.Wrong p Expected.Number
+withTwo u t (Number.NoNumber p) = Part.Wrong p Expected.Number
 withTwo u t (Number.Found x next) = withSecond u x (numberAt (secondMost u) t next)
 
 -- the numbers of an event with tag u, from at on
@@ -116,8 +117,8 @@ eventAt t at =
 unfoldable pub eventFrom : List ℕ → ℕ → Part
 eventFrom t at = pick (leb (length t) at) Part.End (eventAt t at)
 
--- "parted by a comma and a space or by line ends": what follows where the first byte behind the last part, blanks left out, stands at an offset. Other blanks than one space are taken as well,
--- and none. Behind a comma an event is due on the same line.
+-- "parted by a comma and a space or by line ends": what follows, where at is the offset of the first byte behind the last part that is not blank. Any blanks may stand beside a comma, or none.
+-- Behind a comma an event is due on the same line.
 unfoldable pub separatedAt : List ℕ → ℕ → Part
 separatedAt t at =
     pick (leb (length t) at) Part.End
@@ -141,12 +142,12 @@ abbrev pub before : Event → Said → Said
 before e (wrong p x) = wrong p x
 before e (said es) = said (e ∷ es)
 
--- what is said from an offset on, where the list has room for so many bytes more, given what is said behind the next event
+-- what is said from an offset on, where the list has room for so many bytes more, given what is said behind the next event. An event for which there is no room is told behind it.
 abbrev pub onward : ℕ → ℕ → Part → (ℕ → ℕ → Said) → Said
 onward at room Part.End later = said []
 onward at room (Part.Wrong p x) later = wrong p x
 onward at room (Part.Found e next) later =
-    pick (ltb room (length (eventField e))) (wrong at Expected.Full)
+    pick (ltb room (length (eventField e))) (wrong next Expected.EndOfList)
     (before e (later next (room - length (eventField e))))
 
 -- what the next k parts from an offset on say
@@ -177,16 +178,17 @@ abbrev pub maxText : ℕ
 maxText = 1048576
 
 unfoldable pub scriptOf : List ℕ → Script
-scriptOf t = pick (ltb maxText (length t)) (wrongAt maxText Expected.Shorter) (behindOpening t (openingAt t (pastSkipped t 0)))
+scriptOf t = pick (ltb maxText (length t)) (wrongAt maxText Expected.EndOfText) (behindOpening t (openingAt t (pastSkipped t 0)))
 
 -- ── line and column ──
 
--- "its line and column": both from 1, the column in bytes. s is what stands before the place, i and j are those of the place where s starts.
+-- "its line and column": both from 1, the column in bytes. s is what stands before the place, and starts at line i and column j. But for a text that is too long, all bytes before the place on its
+-- line are those of words that were taken and of blanks, so a column counts characters as well.
 unfoldable pub placeFrom : ℕ → ℕ → List ℕ → Place
 placeFrom i j [] = record { line = i; column = j }
 placeFrom i j (b ∷ s) = placeFrom (pick (isLineEnd b) (i + 1) i) (pick (isLineEnd b) 1 (j + 1)) s
 
--- of an offset
+-- the line and column of an offset
 abbrev pub placeOf : List ℕ → ℕ → Place
 placeOf t at = placeFrom 1 1 (take at t)
 

@@ -29,11 +29,11 @@ isHash b = eqb b 0x23
 abbrev pub isComma : ℕ → Bool
 isComma b = eqb b 0x2c
 
--- a space, a tab, or the carriage return that some editors put before a line end
+-- a space, a tab, or a carriage return, which some editors put before a line end
 abbrev pub isBlank : ℕ → Bool
 isBlank b = eqb b 0x20 || eqb b 0x09 || eqb b 0x0d
 
--- a word's: none of these
+-- a byte of a word: none of these
 abbrev pub isWordByte : ℕ → Bool
 isWordByte b = not (isBlank b || isLineEnd b || isHash b || isComma b)
 
@@ -71,11 +71,11 @@ pastSkipped t at = at + skipped false (drop at t)
 unfoldable pub wordAt : List ℕ → ℕ → List ℕ
 wordAt t at = take (span isWordByte (drop at t)) (drop at t)
 
--- the offset behind it
+-- the offset behind the word that starts at an offset
 abbrev pub behindWord : List ℕ → ℕ → ℕ
 behindWord t at = past isWordByte t at
 
--- two words are the same, byte by byte
+-- two words, or two rows of numbers, are the same
 unfoldable pub same : List ℕ → List ℕ → Bool
 same [] [] = true
 same [] (y ∷ ys) = false
@@ -92,21 +92,21 @@ isDigit b = leb 0x30 b && leb b 0x39
 abbrev pub appendDigit : ℕ → ℕ → ℕ
 appendDigit v b = v * 10 + (b - 0x30)
 
--- what w gives behind digits whose value is v: a value, if all its bytes are digits and it comes to no more than most
+-- what w gives behind digits whose value is v: a value, if each byte of w is a digit and none takes the value above most
 unfoldable pub valueBehind : ℕ → ℕ → List ℕ → Value
 valueBehind most v [] = Value.Is v
 valueBehind most v (b ∷ w) =
-    pick (not (isDigit b)) Value.Missing
-    (pick (ltb most (appendDigit v b)) Value.Missing
+    pick (not (isDigit b)) Value.NoNumber
+    (pick (ltb most (appendDigit v b)) Value.NoNumber
     (valueBehind most (appendDigit v b) w))
 
 -- what a word is as a number from 0 to most: one digit or more in decimal. Zeros before it change nothing.
 unfoldable pub valueUpTo : ℕ → List ℕ → Value
-valueUpTo most w = pick (eqb (length w) 0) Value.Missing (valueBehind most 0 w)
+valueUpTo most w = pick (eqb (length w) 0) Value.NoNumber (valueBehind most 0 w)
 
 -- what was found at an offset, the word there ending at e
 abbrev pub foundAt : ℕ → ℕ → Value → Number
-foundAt at e Value.Missing = Number.Missing at
+foundAt at e Value.NoNumber = Number.NoNumber at
 foundAt at e (Value.Is v) = Number.Found v e
 
 -- a number from 0 to most as the next word from at on, on the same line

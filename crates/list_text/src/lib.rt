@@ -14,21 +14,21 @@ pub enum Expected {
     Name,
     // a comma or the end of the line
     Separator,
-    // the end of the text, because the list has no room for another field
-    Full,
+    // the end of the text before this event, which the list has no room for
+    EndOfList,
     // the end of the text, because a text may not be longer
-    Shorter,
+    EndOfText,
 }
 
-// What a word is as a number: none, or its value.
+// What a word is as a number: none that fits, or its value.
 pub enum Value {
-    Missing,
+    NoNumber,
     Is(u32),
 }
 
-// What stands where a number is due: none, and where it was due; or its value, and the offset behind it.
+// What stands where a number is due: none that fits, and the offset where it was due; or its value, and the offset behind it.
 pub enum Number {
-    Missing(usize),
+    NoNumber(usize),
     Found(u32, usize),
 }
 

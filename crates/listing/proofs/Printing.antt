@@ -13,7 +13,7 @@ use Rattle.model.specs.Pick.{pick, pick-true, pick-false, by-test}
 use Rattle.model.proofs.Local.{both-left, both-right}
 use Rattle.listing.specs.declared.Put.{Put}
 use Rattle.listing.specs.declared.Put.the-variants.{Next, NoRoom}
-use Rattle.listing.specs.Printing.{putNumber, putNext, Print, shown, room, written, printed, joined, Printed, Whole}
+use Rattle.listing.specs.Printing.{putNumber, putNext, Print, shown, room, written, printed, joined, Printed, Whole, noRoom, putLength, linesNumber, LinesExported}
 
 -- What follows a print: the lines ys, unless it was refused.
 abbrev andThen : Print → List (List ℕ) → Print
@@ -206,3 +206,31 @@ module _ (b s last : List ℕ) (at : ℕ) (a : Put) (h : at ≤ length b) (e : s
   put-refused w =
       by-room _ (λ q i j. let y : _≡_ {A = ℕ} 0 1 = cc in let v : ⊥ = omega arith in absurd v)
       (λ q i j. rw (q, j, free-ends, append-nil, take-append-drop))
+
+-- ── the promise of a function that Rust or C calls, from that of printing ──
+
+module _ (xs : List (List ℕ)) (b : List ℕ) where
+  length-put : putLength (pick (leb (length (joined xs)) (length b)) (Next (length (joined xs))) NoRoom) ≡ linesNumber xs b
+  unfolding linesNumber pick
+  length-put = by (leb (length (joined xs)) (length b))
+    where
+      by : (t : Bool) → putLength (pick t (Next (length (joined xs))) NoRoom) ≡ pick t (length (joined xs)) noRoom
+      by true = refl
+      by false = refl
+
+  only-long : length b < noRoom → linesNumber xs b ≡ noRoom → length b < length (joined xs)
+  unfolding linesNumber
+  only-long h =
+      by-test (λ (n : ℕ). n ≡ noRoom → length b < length (joined xs))
+      (λ q z. absurd (let f = leb-true (length (joined xs)) (length b) q in omega arith))
+      (λ q _. leb-false (length (joined xs)) (length b) q)
+
+  pub lines-exported : (o : List ℕ) (a : Put) → length b < noRoom → Printed xs b o a → (r : ℕ) → r ≡ putLength a → LinesExported xs b o r
+  lines-exported o a h p r e =
+      let n : r ≡ linesNumber xs b = e ∙ (ap putLength (p .answer) ∙ length-put) in
+      record {
+        number = n;
+        buffer = ap (λ (x : Print). x .bytes) (p .lines);
+        whole = p .whole;
+        only = λ z. only-long h (sym n ∙ z);
+      }

@@ -1,5 +1,5 @@
--- 15, "fewer bytes free than the line has, or offset past the end", on single buffers: on each side of the end, with the bytes that the buffer then holds. And T-05's totals:
--- the smallest and the largest.
+-- 15, "fewer bytes free than the line has, or offset past the end", on single buffers: on each side of the end, with the bytes that the buffer then holds. T-05's totals:
+-- the smallest and the largest. And numbers on each side of a power of ten.
 use mathlib.Core.Bool.{true, false}
 use mathlib.Core.Path.{_≡_}
 use mathlib.Core.List.{List, [], _∷_, _++_}
@@ -9,6 +9,7 @@ use Rattle.model.specs.Limits.{tower}
 use Rattle.model.specs.Counts.{total}
 use Rattle.model.specs.State.{start}
 use Rattle.listing.specs.Ascii.{bytes}
+use Rattle.listing.specs.Decimal.{decimal}
 use Rattle.listing.specs.Lines.{messagesLine, deliveredWord, totalLine, totalLines}
 use Rattle.listing.specs.Printing.{putNumber, shown, room, printed}
 use Rattle.listing.specs.declared.Put.the-variants.{Next, NoRoom}
@@ -45,3 +46,18 @@ pub record TotalCases : Type 0 where
   pub none : totalLines (start 16 tower) ≡ bytes "sent 0\n" ∷ bytes "delivered 0\n" ∷ bytes "lost 0\n" ∷ []
   -- 256 counts of 2^32 - 1: more than 32 bits
   pub largest : totalLine deliveredWord (total (replicate 256 4294967295)) ≡ bytes "delivered 1099511627520\n"
+
+-- "numbers have no leading zeros": no digit too many and none too few
+pub record DigitCases : Type 0 where
+  pub zero : decimal 0 ≡ bytes "0"
+  pub nine : decimal 9 ≡ bytes "9"
+  pub ten : decimal 10 ≡ bytes "10"
+  pub ninety-nine : decimal 99 ≡ bytes "99"
+  pub hundred : decimal 100 ≡ bytes "100"
+  pub three-digits : decimal 999 ≡ bytes "999"
+  pub four-digits : decimal 1000 ≡ bytes "1000"
+  pub nine-digits : decimal 999999999 ≡ bytes "999999999"
+  pub ten-digits : decimal 1000000000 ≡ bytes "1000000000"
+  -- the largest of 32 and of 64 bits
+  pub most : decimal 4294967295 ≡ bytes "4294967295"
+  pub most-wide : decimal 18446744073709551615 ≡ bytes "18446744073709551615"

@@ -2,7 +2,7 @@
 use mathlib.Core.Bool.{Bool, _&&_}
 use mathlib.Core.Path.{_≡_}
 use mathlib.Core.List.{List, [], _∷_, _++_}
-use Prim.Native.Nat.{ℕ, _+_, _-_, _≤_}
+use Prim.Native.Nat.{ℕ, _+_, _-_, _≤_, _<_}
 use lib.ListN.{length, take, drop}
 use lib.Dec.{leb}
 use Rattle.model.specs.Pick.{pick}
@@ -71,3 +71,28 @@ pub record Appended (b : List ℕ) (p : ℕ) (s : List ℕ) (o : List ℕ) (r : 
   pub text : take r o ≡ take p b ++ s
   -- what stands behind is as it was
   pub behind : drop r o ≡ drop r b
+
+-- ── printing as a function that Rust or C calls ──
+
+-- refusal 15 as a number that is no text's length: the largest of 64 bits
+abbrev pub noRoom : ℕ
+noRoom = 18446744073709551615
+
+-- the answer of printing as one number
+abbrev pub putLength : Put → ℕ
+putLength (Next n) = n
+putLength NoRoom = noRoom
+
+-- what is answered for the lines xs with a lent buffer that holds b: the length of their bytes, or that they do not fit
+unfoldable pub linesNumber : List (List ℕ) → List ℕ → ℕ
+linesNumber xs b = pick (leb (length (joined xs)) (length b)) (length (joined xs)) noRoom
+
+-- r: what is answered, o: what the buffer then holds
+pub record LinesExported (xs : List (List ℕ)) (b o : List ℕ) (r : ℕ) : Type 0 where
+  pub number : r ≡ linesNumber xs b
+  -- the lines one after the other from its start, up to the first that has no room; behind them what was there
+  pub buffer : o ≡ printed b 0 xs .bytes
+  -- where they fit, that is all of them
+  pub whole : length (joined xs) ≤ length b → o ≡ joined xs ++ drop (length (joined xs)) b
+  -- and only where they do not is `noRoom` answered
+  pub only : r ≡ noRoom → length b < length (joined xs)

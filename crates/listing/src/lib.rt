@@ -16,13 +16,23 @@ ghost use Rattle.model.specs.Counts as counts;
 ghost use Rattle.model.specs.State.{startingNode, view};
 ghost use Rattle.listing.specs.Decimal.{decimal};
 ghost use Rattle.listing.specs.Lines.{row, cabinetsLine, refusedLine, stoppedLine, nodeLine, messagesLine, turnsLine, sentWord, deliveredWord, lostWord, totalLine, totalLines, tableLines};
-ghost use Rattle.listing.specs.Printing.{shown, written, printed, Appended};
+ghost use Rattle.listing.specs.Printing.{shown, written, printed, Appended, putLength};
 ghost use Rattle.listing.specs.Parts.{padded};
 
 // Written, and the offset after it; or refusal 15.
 pub enum Put {
     Next(usize),
     NoRoom,
+}
+
+// The answer of printing as one number, for Rust or C.
+pub fn put_length(a: Put) -> u64
+    ensures { λ r. ⌜ r ≡ putLength a ⌝ }
+{
+    match a {
+        Put::Next(n) => n as u64,
+        Put::NoRoom => 18446744073709551615,
+    }
 }
 
 // The last digit of x.
