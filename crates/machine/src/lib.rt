@@ -32,6 +32,7 @@ use model::StartAnswer;
 use model::Status;
 use model::Table;
 use model::TaskNo;
+pub use queue::place_for;
 pub use range::in_range;
 
 // What `starting` answers, and the table beside it.

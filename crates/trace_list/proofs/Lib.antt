@@ -1,0 +1,5 @@
+pub mod Put
+pub mod Compared
+pub mod Moved
+pub mod Given
+pub mod Ends
