@@ -16,12 +16,15 @@ use crate::recovery_corners::Call;
 use crate::shortest::shortest;
 use crate::traffic_tables::pairs;
 use crate::tuned;
+use crate::two_bytes::compare::difference;
 use crate::vectors::{node_text, table_text};
 use std::fmt::Write;
 use std::ops::Range;
 
 /// How many bytes behind a text or a table are looked at.
-const BEHIND: usize = 64;
+pub const BEHIND: usize = 64;
+/// Texts of more bytes are not printed whole.
+const LONG: usize = 20_000;
 
 /// A buffer that is lent to a library with random bytes in it, and what it held before.
 pub struct Lent {
@@ -238,14 +241,23 @@ pub fn printed_difference(
 
 /// Prints into a buffer of so many bytes with random ones in it, and compares with the text: all of it, or
 /// refusal 15 and its lines up to the first that does not fit. All else must be as it was.
-fn text_difference(
+pub fn text_difference(
     print: impl FnOnce(&mut [u8]) -> Option<usize>,
     text: &[u8],
     room: usize,
 ) -> Option<String> {
+    written_difference(print, text, fitting(text, room), room)
+}
+
+/// The same where so many bytes of the text are to be written.
+pub fn written_difference(
+    print: impl FnOnce(&mut [u8]) -> Option<usize>,
+    text: &[u8],
+    written: usize,
+    room: usize,
+) -> Option<String> {
     let mut lent = Lent::new(room, &mut Numbers::new((room + text.len()) as u64));
     let length = print(&mut lent.now);
-    let written = fitting(text, room);
     let expected = (written == text.len()).then_some(written);
     if length != expected {
         return Some(format!(
@@ -263,7 +275,11 @@ fn text_difference(
     Some(format!("into {room} bytes: byte {place}, behind the {written} printed, has changed"))
 }
 
+/// Both texts, or of long ones where they differ.
 fn two_texts(library: &[u8], own: &[u8]) -> String {
+    if library.len().max(own.len()) > LONG {
+        return difference(("library's", library), ("here", own)).err().unwrap_or_default();
+    }
     format!(
         "library's:\n{}here:\n{}",
         String::from_utf8_lossy(library),

@@ -17,6 +17,15 @@ pub fn ended(counts: Result<(u64, u64), String>) -> ExitCode {
     }
 }
 
+/// Prints the first difference, if there is one, at which a program ended after so many had passed. Gives how many passed
+/// and how many failed.
+pub fn told((passed, found): (u64, Result<(), String>)) -> (u64, u64) {
+    if let Err(words) = &found {
+        println!("{words}");
+    }
+    (passed, u64::from(found.is_err()))
+}
+
 /// Prints what is found of some cases and gives how many passed and how many failed. No cases are no pass.
 pub fn counted<T>(cases: &[T], found: impl Fn(&T) -> Option<String>) -> Result<(u64, u64), String> {
     if cases.is_empty() {

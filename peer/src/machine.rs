@@ -174,6 +174,11 @@ pub fn only(i: u8) -> Set {
     1 << (i - 1)
 }
 
+/// The nodes of a set, from 1 up.
+pub fn nodes_of(set: Set) -> impl Iterator<Item = u8> {
+    (1..=MAX_NODES).filter(move |&i| set & only(i) != 0)
+}
+
 /// The highest node of a set, which must not be empty.
 pub fn highest(set: Set) -> u8 {
     16 - set.leading_zeros() as u8

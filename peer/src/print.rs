@@ -1,7 +1,7 @@
 //! The text that the bench program prints for a list.
 
 use crate::list::{read_list, Stop};
-use crate::machine::{advance, total, Event, Table};
+use crate::machine::{advance, total, Event, Node, Table};
 use std::fmt::Write;
 
 /// Runs a list from the starting table and gives the whole text.
@@ -21,6 +21,20 @@ pub fn run_list_and(
     list: &[u8],
     then: impl FnOnce(&mut Table, &mut String),
 ) -> Vec<u8> {
+    let tell = |text: &mut String, table: &mut Table, e: usize, event: &Event| {
+        if let Err(r) = machine(table, event) {
+            line(text, format_args!("refused {e} {r}"));
+        }
+    };
+    run_list_telling(list, tell, then)
+}
+
+/// The same with anything told of each event, which is to be done to the table: "e counts events from 1".
+pub fn run_list_telling(
+    list: &[u8],
+    mut tell: impl FnMut(&mut String, &mut Table, usize, &Event),
+    then: impl FnOnce(&mut Table, &mut String),
+) -> Vec<u8> {
     let mut text = String::new();
     match read_list(list) {
         // "if the whole list or the first field failed, that line is all that is printed"
@@ -29,10 +43,7 @@ pub fn run_list_and(
             let mut table = Table::start(list.n, list.limits);
             line(&mut text, format_args!("cabinets {}", list.n));
             for (k, event) in list.events.iter().enumerate() {
-                // "e counts events from 1, r the number"
-                if let Err(r) = machine(&mut table, event) {
-                    line(&mut text, format_args!("refused {} {}", k + 1, r));
-                }
+                tell(&mut text, &mut table, k + 1, event);
             }
             if let Some(stop) = list.stop {
                 print_stop(&mut text, stop);
@@ -45,35 +56,28 @@ pub fn run_list_and(
 }
 
 /// "`stopped b r`"
-fn print_stop(text: &mut String, stop: Stop) {
+pub fn print_stop(text: &mut String, stop: Stop) {
     line(text, format_args!("stopped {} {}", stop.offset, stop.number));
 }
 
-/// "a line per cabinet: number, status, coordinator, group, task, counter, count of members; last
-/// `messages` and how many wait". T-05: "three more lines, `sent`, `delivered` and `lost`, each with its
-/// total".
+/// "a line per cabinet"; "last `messages` and how many wait". T-05: "three more lines, `sent`, `delivered` and
+/// `lost`, each with its total".
 pub fn print_table(text: &mut String, table: &Table) {
     for i in 1..=table.n {
-        let node = table.node(i);
-        line(
-            text,
-            format_args!(
-                "{} {} {} {} {} {} {}",
-                i,
-                node.status as u8,
-                node.coordinator,
-                node.group,
-                node.task,
-                node.counter,
-                node.members.count_ones()
-            ),
-        );
+        line(text, format_args!("{}", node_words(i, table.node(i))));
     }
     line(text, format_args!("messages {}", table.messages.len()));
     let traffic = &table.traffic;
     line(text, format_args!("sent {}", total(&traffic.sent)));
     line(text, format_args!("delivered {}", total(&traffic.delivered)));
     line(text, format_args!("lost {}", total(&traffic.lost)));
+}
+
+/// "number, status, coordinator, group, task, counter, count of members"
+pub fn node_words(i: u8, node: &Node) -> String {
+    let &Node { coordinator, group, task, counter, .. } = node;
+    let (status, members) = (node.status as u8, node.members.count_ones());
+    format!("{i} {status} {coordinator} {group} {task} {counter} {members}")
 }
 
 /// "0x0A ends each line"

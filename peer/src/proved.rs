@@ -7,6 +7,7 @@ use crate::controller::{
     share::Cabinet,
 };
 use crate::list::{first_event, read_list};
+use crate::list_text::{list_of_text::list_or_line, text_of_list::text_of_list};
 use crate::machine::{
     self, Activity, Body, Event, Limits, Message, Node, PairCounts, Status, Table, Traffic,
     ASSIGNMENTS, MAX_MESSAGES, MAX_NODES,
@@ -14,6 +15,7 @@ use crate::machine::{
 use crate::numbers::Numbers;
 use crate::print::run_list;
 use crate::round::{self, bytes::turn_by};
+use crate::trace::text::trace;
 use std::ops::Range;
 
 pub const NODE_BYTES: usize = 29;
@@ -90,7 +92,27 @@ pub trait Library {
         message: &[u8],
         out: &mut [u8],
     ) -> u8;
+
+    /// A list as text, as `print` gives its text.
+    fn text_of_list(&self, list: &[u8], out: &mut [u8]) -> Option<usize>;
+
+    /// The list of a text stands at the start of out, and its length is given; for a bad text the line that is told of
+    /// it, and its length is the error. None when that does not fit. All else in out stays as it was.
+    fn list_of_text(&self, text: &[u8], out: &mut [u8]) -> Option<Result<usize, usize>>;
+
+    /// The trace of a list stands at the start of out, and its length is given; None when it does not fit, and then its
+    /// pieces up to the first that does not fit are there: the first line, the lines of each event, the rest. All else
+    /// in out stays as it was.
+    fn trace(&self, list: &[u8], out: &mut [u8]) -> Option<usize>;
 }
+
+/// What the library's numbers say that are lengths, or that there is no room.
+fn length(number: u64) -> Option<usize> {
+    (number != u64::MAX).then_some(number as usize)
+}
+
+/// What is added to the length of the line that is told of a bad text.
+const BAD_TEXT: usize = 1 << 32;
 
 /// The proved library.
 pub struct Proved(());
@@ -156,6 +178,24 @@ mod linked {
             out: *mut u8,
             out_len: usize,
         ) -> u8;
+        pub fn nevraspu_text_of_list(
+            list: *const u8,
+            list_len: usize,
+            out: *mut u8,
+            out_len: usize,
+        ) -> u64;
+        pub fn nevraspu_list_of_text(
+            text: *const u8,
+            text_len: usize,
+            out: *mut u8,
+            out_len: usize,
+        ) -> u64;
+        pub fn nevraspu_trace(
+            list: *const u8,
+            list_len: usize,
+            out: *mut u8,
+            out_len: usize,
+        ) -> u64;
     }
 }
 
@@ -165,6 +205,9 @@ mod linked {
 mod linked {
     // Functions of the same form.
     pub use nevraspu_controller_event as nevraspu_controller_message;
+    pub use nevraspu_print as nevraspu_list_of_text;
+    pub use nevraspu_print as nevraspu_text_of_list;
+    pub use nevraspu_print as nevraspu_trace;
     pub use nevraspu_step as nevraspu_bully_step;
 
     pub unsafe fn nevraspu_print(_: *const u8, _: usize, _: *mut u8, _: usize) -> u64 {
@@ -220,14 +263,9 @@ impl Proved {
 impl Library for Proved {
     fn print(&self, list: &[u8], out: &mut [u8]) -> Option<usize> {
         // Safety: the library reads the one slice and writes the other, each within its length.
-        let length = unsafe {
+        length(unsafe {
             linked::nevraspu_print(list.as_ptr(), list.len(), out.as_mut_ptr(), out.len())
-        };
-        if length == u64::MAX {
-            None
-        } else {
-            Some(length as usize)
-        }
+        })
     }
 
     fn step(&self, table: &[u8], field: &[u8], out: &mut [u8]) -> u8 {
@@ -321,6 +359,28 @@ impl Library for Proved {
             )
         }
     }
+
+    fn text_of_list(&self, list: &[u8], out: &mut [u8]) -> Option<usize> {
+        // Safety: as above.
+        length(unsafe {
+            linked::nevraspu_text_of_list(list.as_ptr(), list.len(), out.as_mut_ptr(), out.len())
+        })
+    }
+
+    fn list_of_text(&self, text: &[u8], out: &mut [u8]) -> Option<Result<usize, usize>> {
+        // Safety: as above.
+        let length = length(unsafe {
+            linked::nevraspu_list_of_text(text.as_ptr(), text.len(), out.as_mut_ptr(), out.len())
+        })?;
+        Some(length.checked_sub(BAD_TEXT).map_or(Ok(length), Err))
+    }
+
+    fn trace(&self, list: &[u8], out: &mut [u8]) -> Option<usize> {
+        // Safety: as above.
+        length(unsafe {
+            linked::nevraspu_trace(list.as_ptr(), list.len(), out.as_mut_ptr(), out.len())
+        })
+    }
 }
 
 /// This program's own machine behind the same boundary.
@@ -328,10 +388,7 @@ pub struct Own;
 
 impl Library for Own {
     fn print(&self, list: &[u8], out: &mut [u8]) -> Option<usize> {
-        let text = run_list(list);
-        let length = fitting(&text, out.len());
-        out[..length].copy_from_slice(&text[..length]);
-        (length == text.len()).then_some(length)
+        write_fitting(&run_list(list), out)
     }
 
     fn step(&self, table: &[u8], field: &[u8], out: &mut [u8]) -> u8 {
@@ -368,6 +425,37 @@ impl Library for Own {
     ) -> u8 {
         message_by(Cabinet::message, (n, own), record, message, out)
     }
+
+    fn text_of_list(&self, list: &[u8], out: &mut [u8]) -> Option<usize> {
+        write_fitting(&text_of_list(list), out)
+    }
+
+    fn list_of_text(&self, text: &[u8], out: &mut [u8]) -> Option<Result<usize, usize>> {
+        list_of_text_by(list_or_line, text, out)
+    }
+
+    fn trace(&self, list: &[u8], out: &mut [u8]) -> Option<usize> {
+        trace(list).write(out)
+    }
+}
+
+/// Writes the lines of a text that fit. Gives its length, if it fits whole.
+pub fn write_fitting(text: &[u8], out: &mut [u8]) -> Option<usize> {
+    let length = fitting(text, out.len());
+    out[..length].copy_from_slice(&text[..length]);
+    (length == text.len()).then_some(length)
+}
+
+/// The library's list of a text, or the line that is told of it, by any function that gives them.
+pub fn list_of_text_by(
+    list_or_line: impl Fn(&[u8]) -> Result<Vec<u8>, Vec<u8>>,
+    text: &[u8],
+    out: &mut [u8],
+) -> Option<Result<usize, usize>> {
+    let answer = list_or_line(text);
+    let (Ok(bytes) | Err(bytes)) = &answer;
+    out.get_mut(..bytes.len())?.copy_from_slice(bytes);
+    Some(answer.map(|list| list.len()).map_err(|line| line.len()))
 }
 
 /// The library's step by any machine, which is to answer 1 on a table that is not in range.

@@ -2,7 +2,7 @@
 //! machine, of the round, of the controllers and of T-13, and what a fuzzer asks of any book.
 
 use crate::corners::{counts_text, Count, Source};
-use std::collections::HashMap;
+use std::collections::{HashMap, HashSet};
 use std::hash::Hash;
 
 /// What a fuzzer asks of its book of corners.
@@ -45,6 +45,14 @@ impl<C: Eq + Hash> Tally<C> {
         self.counts.entry(corner).or_default()[source as usize] += 1;
     }
 
+    /// Adds what another met.
+    pub fn add_all(&mut self, other: Tally<C>) {
+        for (corner, [runs, tables]) in other.counts {
+            let count = self.counts.entry(corner).or_default();
+            *count = [count[0] + runs, count[1] + tables];
+        }
+    }
+
     pub fn count(&self, corner: &C) -> Count {
         self.counts.get(corner).copied().unwrap_or_default()
     }
@@ -84,5 +92,58 @@ impl<C: Eq + Hash> Book for Tally<C> {
             }
         }
         found
+    }
+}
+
+/// How often each corner is met at least, and each of those that take long.
+pub const TIMES: u64 = 1000;
+pub const DEAR_TIMES: u64 = 10;
+
+/// The counts of usual corners and of dear ones, which take long.
+#[derive(Clone, Debug)]
+pub struct Graded<C> {
+    usual: Tally<C>,
+    dear: Tally<C>,
+    which_dear: HashSet<C>,
+}
+
+impl<C: Eq + Hash> Graded<C> {
+    pub fn new(
+        usual: fn() -> Vec<(C, Where)>,
+        dear: fn() -> Vec<(C, Where)>,
+        words: fn(&C) -> String,
+    ) -> Graded<C> {
+        let which_dear = dear().into_iter().map(|(corner, _)| corner).collect();
+        Graded { usual: Tally::new(usual, words), dear: Tally::new(dear, words), which_dear }
+    }
+
+    pub fn add(&mut self, source: Source, corner: C) {
+        match self.which_dear.contains(&corner) {
+            true => self.dear.add(source, corner),
+            false => self.usual.add(source, corner),
+        }
+    }
+
+    pub fn add_all(&mut self, other: Graded<C>) {
+        self.usual.add_all(other.usual);
+        self.dear.add_all(other.dear);
+    }
+
+    /// The counts in lines.
+    pub fn text(&self) -> String {
+        let (usual, dear) = (self.usual.text(), self.dear.text());
+        format!("{usual}of what takes long, at least {DEAR_TIMES} times each:\n{dear}")
+    }
+
+    /// What has no place or was met too seldom.
+    pub fn wrong(&self) -> Vec<String> {
+        let told = |(tally, times): (&Tally<C>, u64)| {
+            let impossible = tally.impossible().into_iter();
+            let seldom = tally.seldom(times).into_iter();
+            let impossible = impossible.map(|words| format!("a corner that has no place: {words}"));
+            let seldom = seldom.map(move |words| format!("met fewer than {times} times: {words}"));
+            impossible.chain(seldom).collect::<Vec<_>>()
+        };
+        [(&self.usual, TIMES), (&self.dear, DEAR_TIMES)].into_iter().flat_map(told).collect()
     }
 }

@@ -7,7 +7,7 @@ use crate::machine::{
     MAX_NODES,
 };
 use std::fmt::Write;
-use std::path::Path;
+use std::path::{Path, PathBuf};
 use std::str::SplitWhitespace;
 
 /// One event on one table, with what follows. After a refusal the table is as it was.
@@ -49,6 +49,16 @@ pub fn read_lists(directory: &Path) -> Result<Vec<ListCase>, String> {
     }
     cases.sort_by(|a, b| a.name.cmp(&b.name));
     Ok(cases)
+}
+
+/// The lists of some directories, each with its name in words.
+pub fn read_named_lists(directories: &[PathBuf]) -> Result<Vec<(String, Vec<u8>)>, String> {
+    let mut lists = Vec::new();
+    for directory in directories {
+        let cases = read_lists(directory)?;
+        lists.extend(cases.into_iter().map(|case| (format!("list {}", case.name), case.list)));
+    }
+    Ok(lists)
 }
 
 /// A line of sums.txt: what is known of the text of an input.

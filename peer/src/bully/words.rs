@@ -1,7 +1,7 @@
 //! Events, places, calls and tables of the Bully machine in words.
 
 use crate::bully::machine::{Event, Node, Place, Table};
-use crate::machine::{only, Set, Status, MAX_NODES};
+use crate::machine::{nodes_of, Set, Status, MAX_NODES};
 use std::fmt;
 
 impl fmt::Display for Event {
@@ -36,8 +36,7 @@ impl fmt::Display for Place {
 
 /// `{1, 2}`
 fn set_words(set: Set) -> String {
-    let members: Vec<String> =
-        (1..=MAX_NODES).filter(|&i| set & only(i) != 0).map(|i| i.to_string()).collect();
+    let members: Vec<String> = nodes_of(set).map(|i| i.to_string()).collect();
     format!("{{{}}}", members.join(", "))
 }
 

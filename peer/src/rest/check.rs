@@ -3,6 +3,7 @@
 //! alone. Counts what was met.
 
 use crate::corners::Source;
+use crate::ending::told;
 use crate::list::{Stop, MAX_LIST};
 use crate::machine::{MAX_NODES, STAND, TOWER};
 use crate::numbers::Numbers;
@@ -12,8 +13,8 @@ use crate::rest::text::rest;
 use crate::tally::Where::{self, Either};
 use crate::tally::{Book, Tally};
 use crate::two_bytes::compare::{difference, input_words};
-use crate::two_bytes::process::{printed, side_by_side, Input};
-use crate::vectors::read_lists;
+use crate::two_bytes::process::{printed, side_by_side, whole_path, Input};
+use crate::vectors::read_named_lists;
 use std::path::PathBuf;
 
 const SEED: u64 = 20_260;
@@ -33,18 +34,10 @@ pub fn checked(name: &str) -> Result<(u64, u64), String> {
     let [program, directories @ ..] = arguments.as_slice() else {
         return Err(format!("{name} PROGRAM [LISTS_DIR ..]"));
     };
-    let program = program.canonicalize().map_err(|e| format!("{}: {e}", program.display()))?;
-    let mut lists = Vec::new();
-    for directory in directories {
-        let cases = read_lists(directory)?;
-        lists.extend(cases.into_iter().map(|case| (format!("list {}", case.name), case.list)));
-    }
+    let program = whole_path(program)?;
+    let lists = read_named_lists(directories)?;
     let prints = |list: &[u8]| printed(&program, &Input::whole(list.to_vec()));
-    let (passed, found) = check(&lists, prints);
-    if let Err(words) = &found {
-        println!("{words}");
-    }
-    Ok((passed, u64::from(found.is_err())))
+    Ok(told(check(&lists, prints)))
 }
 
 /// Compares what is printed for each named list and for random ones. Gives how many lists passed; the error is the first

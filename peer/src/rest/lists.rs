@@ -13,7 +13,11 @@ use crate::rest::runs::crowded;
 /// List k of any number: of the tower with each n in turn, of the stand, damaged, and too long or nearly.
 pub fn any_list(k: usize, numbers: &mut Numbers) -> Vec<u8> {
     let (n, limits, events) = events(k, numbers);
-    let list = write_list(n, limits, &events);
+    whole_or_damaged(k, write_list(n, limits, &events), numbers)
+}
+
+/// A list as it is, damaged, or too long or nearly, in turn.
+pub fn whole_or_damaged(k: usize, list: Vec<u8>, numbers: &mut Numbers) -> Vec<u8> {
     match k % 12 {
         0..=5 => list,
         6 => {

@@ -2,10 +2,11 @@
 //! one piece and once in two; and on wrong inputs of every kind, random ones among them, the same ones each time.
 //! With vectors both are held to them.
 
+use crate::ending::told;
 use crate::numbers::Numbers;
 use crate::sha256::sha256;
 use crate::two_bytes::corners::{corners, rounds, Corner};
-use crate::two_bytes::process::{printed, side_by_side, Input};
+use crate::two_bytes::process::{printed, side_by_side, whole_path, Input};
 use crate::two_bytes::Request;
 use crate::vectors::{read_sums, read_wrong_inputs, Sum, WrongInput};
 use std::path::{Path, PathBuf};
@@ -26,12 +27,8 @@ pub fn compared(name: &str, request: &'static Request) -> Result<(u64, u64), Str
         [program, folder] => (program, Vectors::read(request, folder)?),
         _ => return Err(format!("{name} PROGRAM [FOLDER]")),
     };
-    let program = program.canonicalize().map_err(|e| format!("{}: {e}", program.display()))?;
-    let (passed, found) = compare(request, &vectors, |input: &Input| printed(&program, input));
-    if let Err(words) = &found {
-        println!("{words}");
-    }
-    Ok((passed, u64::from(found.is_err())))
+    let program = whole_path(program)?;
+    Ok(told(compare(request, &vectors, |input: &Input| printed(&program, input))))
 }
 
 /// Compares what is printed for each input. Gives how many inputs passed; the error is the first difference.

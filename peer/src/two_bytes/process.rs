@@ -1,8 +1,8 @@
 //! A program's text, by a process of its own for each input, and many processes at a time.
 
 use std::io::Write;
-use std::path::Path;
-use std::process::{ChildStdin, Command, Stdio};
+use std::path::{Path, PathBuf};
+use std::process::{ChildStdin, Command, Output, Stdio};
 use std::sync::atomic::{AtomicUsize, Ordering};
 use std::time::Duration;
 
@@ -35,8 +35,23 @@ impl Input {
     }
 }
 
+/// The whole path of a program, which must be there.
+pub fn whole_path(program: &Path) -> Result<PathBuf, String> {
+    program.canonicalize().map_err(|e| format!("{}: {e}", program.display()))
+}
+
 /// What a program prints for an input. It must end well, and say nothing on standard error.
 pub fn printed(program: &Path, input: &Input) -> Result<Vec<u8>, String> {
+    let output = ran(program, input)?;
+    if output.stderr.is_empty() {
+        Ok(output.stdout)
+    } else {
+        Err(ending(&output))
+    }
+}
+
+/// What a program prints for an input, on standard error too. It must end well.
+pub fn ran(program: &Path, input: &Input) -> Result<Output, String> {
     let fault = |e: std::io::Error| format!("the program can't be run: {e}");
     let mut child = Command::new(program)
         .stdin(Stdio::piped())
@@ -55,11 +70,17 @@ pub fn printed(program: &Path, input: &Input) -> Result<Vec<u8>, String> {
         child.wait_with_output()
     });
     let output = output.map_err(fault)?;
-    if !output.status.success() || !output.stderr.is_empty() {
-        let words = output.stderr.escape_ascii();
-        return Err(format!("the program: {}, standard error: {words}", output.status));
+    if output.status.success() {
+        Ok(output)
+    } else {
+        Err(ending(&output))
     }
-    Ok(output.stdout)
+}
+
+/// How a program ended, in words.
+fn ending(output: &Output) -> String {
+    let words = output.stderr.escape_ascii();
+    format!("the program: {}, standard error: {words}", output.status)
 }
 
 /// Works on the numbers from 0 to so many, many at a time, up to the first error. Gives what came of those before it, in

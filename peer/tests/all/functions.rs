@@ -8,6 +8,7 @@ type Step<'a> = Box<dyn Fn(&[u8], &[u8], &mut [u8]) -> u8 + 'a>;
 type Fold<'a> = Box<dyn Fn(&[u8]) -> u32 + 'a>;
 type Recovery<'a> = Box<dyn Fn(&[u8], u8, &mut [u8]) -> u8 + 'a>;
 type Turn<'a> = Box<dyn Fn(&[u8], u8, u8, &mut [u8]) -> u8 + 'a>;
+type ListOfText<'a> = Box<dyn Fn(&[u8], &mut [u8]) -> Option<Result<usize, usize>> + 'a>;
 type Controller<'a> = Box<dyn Fn(u8, u8, &[u8], &[u8], &mut [u8]) -> u8 + 'a>;
 
 /// What each takes and gives is said in `Library`.
@@ -20,6 +21,9 @@ pub struct Functions<'a> {
     pub turn: Turn<'a>,
     pub controller_event: Controller<'a>,
     pub controller_message: Controller<'a>,
+    pub text_of_list: Print<'a>,
+    pub list_of_text: ListOfText<'a>,
+    pub trace: Print<'a>,
 }
 
 impl Default for Functions<'_> {
@@ -37,6 +41,9 @@ impl Default for Functions<'_> {
             controller_message: Box::new(|n, own, record, message, out| {
                 Own.controller_message(n, own, record, message, out)
             }),
+            text_of_list: Box::new(|list, out| Own.text_of_list(list, out)),
+            list_of_text: Box::new(|text, out| Own.list_of_text(text, out)),
+            trace: Box::new(|list, out| Own.trace(list, out)),
         }
     }
 }
@@ -72,5 +79,14 @@ impl Library for Functions<'_> {
         out: &mut [u8],
     ) -> u8 {
         (self.controller_message)(n, own, record, message, out)
+    }
+    fn text_of_list(&self, list: &[u8], out: &mut [u8]) -> Option<usize> {
+        (self.text_of_list)(list, out)
+    }
+    fn list_of_text(&self, text: &[u8], out: &mut [u8]) -> Option<Result<usize, usize>> {
+        (self.list_of_text)(text, out)
+    }
+    fn trace(&self, list: &[u8], out: &mut [u8]) -> Option<usize> {
+        (self.trace)(list, out)
     }
 }

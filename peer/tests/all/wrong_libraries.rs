@@ -4,7 +4,7 @@ use crate::finds::found_in;
 use crate::functions::Functions;
 use peer::fuzzing::Fuzz;
 use peer::machine::{Event, Table};
-use peer::proved::{fitting, step_by, Library};
+use peer::proved::{step_by, write_fitting, Library};
 
 /// A library whose step is by another machine, which is given any table.
 pub fn steps<'a>(machine: impl Fn(&mut Table, &Event) -> Result<(), u8> + 'a) -> Functions<'a> {
@@ -15,12 +15,7 @@ pub fn steps<'a>(machine: impl Fn(&mut Table, &Event) -> Result<(), u8> + 'a) ->
 
 /// A library whose text is by another program, which is given any list.
 pub fn texts<'a>(program: impl Fn(&[u8]) -> String + 'a) -> Functions<'a> {
-    let print = move |list: &[u8], out: &mut [u8]| {
-        let text = program(list);
-        let length = fitting(text.as_bytes(), out.len());
-        out[..length].copy_from_slice(&text.as_bytes()[..length]);
-        (length == text.len()).then_some(length)
-    };
+    let print = move |list: &[u8], out: &mut [u8]| write_fitting(program(list).as_bytes(), out);
     Functions { print: Box::new(print), ..Functions::default() }
 }
 
