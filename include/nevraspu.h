@@ -73,8 +73,9 @@ extern "C" {
 #define NEVRASPU_LIST_MOST 65536      /* the longest list */
 #define NEVRASPU_TEXT_MOST 279149     /* no text of nevraspu_print has more */
 #define NEVRASPU_LIST_TEXT_MOST 278540 /* no text of nevraspu_text_of_list has more */
+#define NEVRASPU_TRACE_MOST 16778240  /* no text of nevraspu_trace has more */
 
-/* What a function that writes a text answers where it does not fit (01's refusal 15). */
+/* What a function that writes a text or a list answers where it does not fit (01's refusal 15). */
 #define NEVRASPU_NO_ROOM ((uint64_t)-1)
 
 /* What nevraspu_list_of_text answers for a bad text, with the length of its message added. */
@@ -243,15 +244,16 @@ uint64_t nevraspu_print(const uint8_t *list, size_t list_len,
                         uint8_t *out, size_t out_len);
 
 /*
- * A list run step by step, as the program `trace` prints it: a line for each event, with its number
- * and `accepted` or `refused` and the refusal's number; behind an accepted one the record that
- * changed and the message taken out and put in; at the end the bench's table.
+ * A list run step by step, as the program `trace` prints it: `cabinets` and n; a line for each
+ * event, with its number, the event as text, and `accepted` or `refused` and the refusal's number;
+ * below an accepted one the record that changed and the message taken out and put in; where the
+ * list stops, `stopped`, the offset and the refusal's number; last the bench's table.
  *
  * The answer: the length of the text, which stands whole at the start of out; or NEVRASPU_NO_ROOM
  * where it does not fit, and then its pieces from the first on (the first line, the lines of each
  * event, the table at the end) stand there, up to the one that has no room. What is behind the last
- * piece written is left as it was. No size is named that always has the room: where it is missing,
- * call again with a larger out. A piece has at most 1,024 bytes, and there are at most 16,385.
+ * piece written is left as it was. An out of NEVRASPU_TRACE_MOST bytes always has the room: a piece
+ * has at most 1,024 bytes, and there are at most 16,385. Most traces are far shorter.
  */
 uint64_t nevraspu_trace(const uint8_t *list, size_t list_len,
                         uint8_t *out, size_t out_len);
@@ -281,7 +283,8 @@ uint64_t nevraspu_text_of_list(const uint8_t *list, size_t list_len,
  *                            says where, and what was expected there
  *   NEVRASPU_NO_ROOM         what is to be written does not fit: out is as it was
  * What is behind what is written is left as it was. An out of NEVRASPU_LIST_MOST bytes always has
- * the room. A text may have 1,048,576 bytes.
+ * the room; the line has at most 128, and ends with a line end. A text may have 1,048,576 bytes; a
+ * longer one is bad at the first byte too many.
  */
 uint64_t nevraspu_list_of_text(const uint8_t *text, size_t text_len,
                                uint8_t *out, size_t out_len);

@@ -1,1 +1,2 @@
+-- What the parser promises.
 pub mod Made

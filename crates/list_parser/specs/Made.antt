@@ -1,7 +1,7 @@
 -- What the parser promises: for any text what is answered, and what the lent buffer then holds.
 use Prim.Native.Nat.{ℕ, _+_, _≤_}
 use mathlib.Core.Path.{_≡_}
-use mathlib.Core.List.{List, [], _∷_, _++_}
+use mathlib.Core.List.{List, _++_}
 use lib.ListN.{length, take, drop}
 use Rattle.short_lists_text.specs.Rows.{concatMap}
 use Rattle.list_text.specs.Script.{eventField, listBytes, Said, wrong, said, Script, wrongAt, script, Outcome, bad, list, listOf}
@@ -23,7 +23,7 @@ abbrev pub heldBy : Outcome → List ℕ → List ℕ
 heldBy (bad p x) b = b
 heldBy (list l) b = l ++ drop (length l) b
 
--- Of a text t, with a lent buffer that held b: what is answered, r, and what the buffer then holds, o.
+-- Of a text t, with a lent buffer of 65,536 bytes that held b: what is answered, r, and what the buffer then holds, o.
 pub record Made (t b o : List ℕ) (r : Parsed) : Type 0 where
   pub answer : r ≡ parsedOf (listOf t)
   pub bytes : o ≡ heldBy (listOf t) b
@@ -51,7 +51,7 @@ abbrev pub fillingIn : List ℕ → Filling → Filled
 fillingIn o (Filling.Wrong p x) = wrongFill p x
 fillingIn o (Filling.Bytes k) = filled (take k o)
 
--- the offset in the text, or the count of bytes, is one
+-- the offset is one in the text or its end, and the count of bytes is one of the buffer
 abbrev pub FillingWithin : List ℕ → List ℕ → Filling → Type 0
 FillingWithin t o (Filling.Wrong p x) = p ≤ length t
 FillingWithin t o (Filling.Bytes k) = k ≤ length o

@@ -3,7 +3,6 @@ use list_text::Expected;
 use list_text::Place;
 use listing::put_bytes;
 use listing::put_number;
-ghost use mathlib.Core.List.{_++_};
 ghost use Prim.Native.Nat.{_+_, _≤_};
 ghost use lib.ListN.{length};
 ghost use Rattle.listing.specs.Printing.{Appended};

@@ -1,8 +1,5 @@
 -- The single texts and lists hold by computing.
-use Prim.Native.Nat.{ℕ, _<_}
-use mathlib.Core.Path.{_≡_, refl}
-use mathlib.Core.List.{List}
-use lib.ListN.{length}
+use mathlib.Core.Path.{refl}
 use borrow.Author.Tests.{lt-ltb}
 use Rattle.model.specs.Pick.{pick}
 use Rattle.event_list.specs.Format.{lengthOf, cutShort, checked, eventOf, nextAt, limitsOf, nodesOf, firstOf, readFrom, rest, reading}

@@ -4,13 +4,12 @@ use native.Mathlib.Omega.{arith}
 use mathlib.Core.Path.{_≡_, refl, sym, _∙_, ap, subst}
 use mathlib.Core.List.{List, [], _∷_, _++_, map, append-nil}
 use lib.ListN.{length}
-use Rattle.model.specs.Pick.{pick, by-test}
+use Rattle.model.specs.Pick.{by-test}
 use Rattle.model.specs.declared.Limits.{Limits}
 use Rattle.model.specs.declared.Event.{Event}
 use Rattle.event_list.specs.declared.Stop.{Stop}
 use Rattle.event_list.specs.declared.Stop.the-variants.{WrongCount}
 use Rattle.event_list.specs.declared.First.{First}
-use Rattle.event_list.specs.declared.First.the-variants as First
 use Rattle.event_list.specs.Format.{maxBytes, tagAt, limitsOf, nodesOf, Ending, complete, Reading, Listed, failed, begun, reading}
 use Rattle.listing.specs.Printing.{joined}
 use Rattle.run_list.specs.Text.{endingLines}

@@ -41,7 +41,7 @@ use Rattle.list_text.proofs.Found.{Stops, IsWord, is-word, behind-one, 
 use Rattle.list_text.proofs.Found as Found
 use Rattle.list_text.proofs.Fields.{all-take, fields-only}
 use Rattle.list_text.proofs.Lines.{cabinets-opens, stand-opens}
-use Rattle.list_text.proofs.Claims.{text-is, reads-back}
+use Rattle.list_text.proofs.Claims.{text-is, reads-back, text-reads}
 
 -- ── the first b bytes of a list ──
 
@@ -365,5 +365,16 @@ stays l m a e = by (reading l) refl
     by (failed s) i = absurd (not-list (listOf (listText l)) m (failed-bad l s i) e)
     by (begun n lim r) i = ends n lim r i (r .ending) refl
 
+-- A list that stops does not read to its end, as the list of a text does.
+refused-text : (l m : List ℕ) (n : ℕ) (lim : Limits) (r : Reading) (b : ℕ) (s : Stop) → AllBytes l → reading l ≡ begun n lim r → r .ending ≡ stopped b s → listOf (listText l) ≡ list m → ⊥
+refused-text l m n lim r b s h e q a =
+    let w : listOf (listText l) ≡ list l = a ∙ ap list (sym (stays l m h a)) in
+    let z : _≡_ {A = ℕ} 1 0 = ap isStop (sym q ∙ text-reads .to-end (listText l) l n lim r w e) in
+    omega arith
+  where
+    isStop : Ending → ℕ
+    isStop complete = 0
+    isStop (stopped c t) = 1
+
 pub damage-shown : DamageShown
-damage-shown = record { up-to = up-to; stays = stays }
+damage-shown = record { up-to = up-to; stays = stays; refused = refused-text }

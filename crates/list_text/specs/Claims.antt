@@ -95,8 +95,10 @@ pub record DamageShown : Type 0 where
   -- before that line stands the text of the list that ends there
   pub up-to : (l : List ℕ) (n : ℕ) (lim : Limits) (r : Reading) (b : ℕ) (s : Stop) → reading l ≡ begun n lim r → r .ending ≡ stopped b s
       → listText l ≡ listText (take b l) ++ stoppedLine b (stopNumber s)
-  -- damage does not go away by being printed and read: of all texts of lists only those of good ones are accepted, and give the list
+  -- damage does not go away by being printed and read: a text of a list that is accepted gives that list
   pub stays : (l m : List ℕ) → AllBytes l → listOf (listText l) ≡ list m → l ≡ m
+  -- and the text of a list that stops is not accepted
+  pub refused : (l m : List ℕ) (n : ℕ) (lim : Limits) (r : Reading) (b : ℕ) (s : Stop) → AllBytes l → reading l ≡ begun n lim r → r .ending ≡ stopped b s → listOf (listText l) ≡ list m → ⊥
 
 -- the place of a bad text is one in it, or its end
 abbrev pub PlaceWithin : Type 0

@@ -2,7 +2,7 @@
 -- The desk's request: "first `cabinets N` (tower) or `stand N`, then events by their names and numbers (`recover 1`, `finish 2 100`, `deliver 2 1`), parted by a comma and a space or by line ends;
 -- empty lines and `#` to the end of a line are skipped." "Numbers out of 01's ranges (cabinet 17, task 5) are written as they are, as far as their bytes can hold them".
 use Prim.Native.Nat.{ℕ, zero, suc, _+_, _-_}
-use mathlib.Core.Bool.{Bool, _||_}
+use mathlib.Core.Bool.{_||_}
 use mathlib.Core.List.{List, [], _∷_, _++_}
 use lib.ListN.{length, getD, take}
 use lib.Dec.{eqb, leb, ltb}
@@ -182,8 +182,8 @@ scriptOf t = pick (ltb maxText (length t)) (wrongAt maxText Expected.EndOfText) 
 
 -- ── line and column ──
 
--- "its line and column": both from 1, the column in bytes. s is what stands before the place, and starts at line i and column j. But for a text that is too long, all bytes before the place on its
--- line are those of words that were taken and of blanks, so a column counts characters as well.
+-- "its line and column": both from 1, the column in bytes. s is what stands before the place, and starts at line i and column j. But for a text that is too long, and one that
+-- ends in a comment before any opening, the bytes before the place on its line are those of words, blanks and commas, so that a column counts characters as well.
 unfoldable pub placeFrom : ℕ → ℕ → List ℕ → Place
 placeFrom i j [] = record { line = i; column = j }
 placeFrom i j (b ∷ s) = placeFrom (pick (isLineEnd b) (i + 1) i) (pick (isLineEnd b) 1 (j + 1)) s

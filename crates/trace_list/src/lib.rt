@@ -66,7 +66,7 @@ fn refused(r: u8, out: &mut [u8; PIECE]) -> TracePiece
     }
 }
 
-// How many nodes there are; behind that their starting table.
+// How many nodes there are; the trace goes on from their starting table.
 fn headed(n: u8, limits: Limits, out: &mut [u8; PIECE]) -> TracePiece
     requires { ⌜ n ≤ 16 ⌝ }
     ensures { λ p. ⌜ MidPiece 4 1 (start n limits) (cabinetsLine n) (now (out .exit)) p ⌝ }
