@@ -94,7 +94,7 @@ fn put_word_set(out: &mut [u8], at: usize, w: &[u8], s: u16) -> usize
     put_set(out, p, s)
 }
 
-// Asking and waiting: a number, and the set found.
+// Asking, waiting and inviting: a number, and the set found.
 fn put_found(out: &mut [u8], at: usize, w: &[u8], i: u8, f: u16) -> usize
     requires { ⌜ (at + length (now w) + 80 ≤ length (now out)) ⌝ }
     ensures { λ r. ⌜ Appended (now (out .entry)) at (numbered (now (w .entry)) i ++ (bytes " found" ++ setText f)) (now (out .exit)) r × (r ≤ at + length (now (w .entry)) + 80) ⌝ }
@@ -103,7 +103,7 @@ fn put_found(out: &mut [u8], at: usize, w: &[u8], i: u8, f: u16) -> usize
     put_word_set(out, p, b" found", f)
 }
 
-// Inviting, handing and forwarding: whom now, and whom still.
+// Handing and forwarding: whom now, and whom still.
 fn put_still(out: &mut [u8], at: usize, w: &[u8], i: u8, s: u16) -> usize
     requires { ⌜ (at + length (now w) + 80 ≤ length (now out)) ⌝ }
     ensures { λ r. ⌜ Appended (now (out .entry)) at (numbered (now (w .entry)) i ++ (bytes " still" ++ setText s)) (now (out .exit)) r × (r ≤ at + length (now (w .entry)) + 80) ⌝ }
