@@ -16,7 +16,7 @@ use Rattle.model.specs.Procedures.{reaction, stays, answers, recovers, next, inv
 use Rattle.model.specs.React.{checked, timed_out, ticked, expired, resumed, on_are_you_coordinator, on_are_you_there, on_invitation, on_accept, on_ready, on_reply, received, react}
 use Rattle.model.specs.Range.{is_other, is_set_of_others, is_group, is_given_task, is_call, activity_in_range, node_in_range, is_group_or_none, is_led, carries_group, message_in_range}
 use Rattle.model.specs.Step.{forms, is_calling}
-use Rattle.model.proofs.Invariant.{NodeNumber, owner_of, counter_of_lem}
+use Rattle.model.proofs.Invariant.{NodeNumber, owner_of_lem, counter_of_lem}
 use Rattle.model.proofs.Next.{next_in, next_other}
 use Rattle.model.proofs.Origin.{merges_mark}
 use Rattle.model.proofs.Invitation.{acts_not_owned}
@@ -239,12 +239,12 @@ module _ {n i : ℕ} (p : Numbered n i) where
       record {
         low = omega (arith, counter_of_lem (k + 1) i number);
         high = omega (arith, counter_of_lem (k + 1) i number);
-        owner = omega (arith, owner_of (k + 1) i number, p.high);
+        owner = omega (arith, owner_of_lem (k + 1) i number, p.high);
       }
 
   formed_up : (a : Status) (k t l : ℕ) → is_down a ≡ false → k < counter_end → t ≤ task_end → l ≤ call_end → Up n i a (k + 1) (group_of (k + 1) i) i t 0 l
   formed_up a k t l e h ht hl =
-      record { up = e; counter = omega arith; group = fresh k h; led = owner_of (k + 1) i number; task = ht; members = empty_set; last = hl }
+      record { up = e; counter = omega arith; group = fresh k h; led = owner_of_lem (k + 1) i number; task = ht; members = empty_set; last = hl }
 
   recovers_in : {l : ℕ} (c : Node) → c.last.number ≤ call_end → Fits n i c.counter l (recovers i c)
   recovers_in c h room _ =

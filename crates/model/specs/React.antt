@@ -91,7 +91,7 @@ on_are_you_there i c m =
 abbrev pub only_replies : ℕ → Node → GroupNo → Bool
 only_replies i c g =
     -- "3: if not Normal,
-    not (isNormal c.status)
+    not (is_normal c.status)
     -- or it owns that group, plain reply and no change."
     || eqb (owner_of g.number) i
     -- 02: "From now on an invitation to the group a cabinet already holds gets a plain reply and changes nothing else."

@@ -4,4 +4,4 @@ use Rattle.node_set.proofs.insert.Statement.{statement}
 use Rattle.node_set.proofs.insert.Tie as tie
 
 pub insert_spec : {M : Type 1} → statement M
-insert_spec = tie.close (tie.spec (λ c κs. search rules) (λ c. rw c.bit-of.ensures))
+insert_spec = tie.close (tie.spec (λ c κs. search rules) (λ c. rw c.bit_of.ensures))

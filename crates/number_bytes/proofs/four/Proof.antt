@@ -5,7 +5,7 @@ use Rattle.number_bytes.proofs.four.Statement.{statement}
 use Rattle.number_bytes.proofs.four.Tie as tie
 
 returns : tie.Need-returns
-returns c = rw (four_is, c.two2.ensures, c.before.two.ensures)
+returns c = rw (four_is, c.two-2.ensures, c.before.two.ensures)
 
 pub four_spec : {M : Type 1} → statement M
 four_spec =

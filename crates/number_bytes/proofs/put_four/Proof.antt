@@ -9,7 +9,7 @@ returns c =
     let p = c.before.before in
     let q = p.before.before.before.before in
     let a = q.before.before.before.args in
-    rw (four_bytes a.x, written_append, length_bytes, ← q.put_two.ensures) p.put-two2.ensures
+    rw (four_bytes a.x, written_append, length_bytes, ← q.put_two.ensures) p.put_two-2.ensures
 
 pub put_four_spec : {M : Type 1} → statement M
 put_four_spec =

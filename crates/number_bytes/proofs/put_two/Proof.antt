@@ -11,7 +11,7 @@ returns c =
     let p = c.before.before in
     let q = p.before.before.before.before in
     let a = q.before.before.before.args in
-    rw (two_bytes a.x (search rules), ← q.put.ensures) p.put2.ensures
+    rw (two_bytes a.x (search rules), ← q.put.ensures) p.put-2.ensures
 
 pub put_two_spec : {M : Type 1} → statement M
 put_two_spec =

@@ -5,7 +5,7 @@ use Rattle.number_bytes.proofs.two.Statement.{statement}
 use Rattle.number_bytes.proofs.two.Tie as tie
 
 returns : tie.Need-returns
-returns c = rw (two_is, c.byte2.ensures, c.before.byte.ensures)
+returns c = rw (two_is, c.byte-2.ensures, c.before.byte.ensures)
 
 pub two_spec : {M : Type 1} → statement M
 two_spec =
