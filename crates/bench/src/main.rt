@@ -1,5 +1,7 @@
 // The bench program: reads a list from standard input, and writes what is printed for it to standard output.
 // Where the list can't be read nothing is printed, and standard error says why; so it does where the text can't be written.
+#![tactic(auto)]
+
 ghost use Rattle.std.specs.Prelude.{◌≡◌, length};
 
 use run_list::TEXT_LIMIT;

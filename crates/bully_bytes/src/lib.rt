@@ -7,6 +7,8 @@
 //           have is 0
 // Reading takes runs modulo 2, status modulo 4 and a place's tag modulo 8; every other number as it stands, in range or not.
 // What is read and written is in specs/Bytes, what a field says in specs/Field.
+#![tactic(auto)]
+
 ghost use Rattle.std.specs.Prelude.{◌≡◌, ◌+◌, ◌≤◌};
 ghost use Rattle.number_bytes.specs.Bytes.{many, all, written};
 ghost use Rattle.bully_bytes.specs.Bytes as spec;
@@ -22,14 +24,14 @@ use number_bytes::{byte, from, one, put_one, put_two, status_number, status_of, 
 pub const SIZE: usize = 193;
 
 // What a field says: why it is no event of this machine, or its event.
-#[derive(Drop)]
+#[derive(Clone, Copy)]
 pub enum FieldRead {
     Stopped(Stop),
     Got(Event),
 }
 
 // A place with room for each thing that one of them holds.
-#[derive(Drop)]
+#[derive(Clone, Copy)]
 struct PlaceParts {
     tag: u8,
     node: u8,

@@ -1,4 +1,6 @@
 // The Bully machine over a table, by value: the starting table, and the step for any table and any event (02, T-07).
+#![tactic(auto)]
+
 mod calls;
 mod grounds;
 mod node;
@@ -19,7 +21,7 @@ use model::{StartAnswer, Status, TaskNo};
 pub use range::in_range;
 
 // What `starting` answers, and the table beside it.
-#[derive(Drop)]
+#[derive(Clone, Copy)]
 pub struct Start {
     pub answer: StartAnswer,
     pub table: Table,

@@ -1,9 +1,11 @@
 // The types of the Bully machine (02, T-07; Appendix I of document 002). What they mean, and every rule over them, is in specs/.
 // This crate has no functions: `bully_machine` holds the code. Status and task are those of crate model.
+#![tactic(auto)]
+
 use model::{Status, TaskNo};
 
 // 02: "the place in its procedure", with what it needs to go on. The others quoted are the appendix's words. Sets are 16-bit masks, bit i - 1 for node i.
-#[derive(Drop)]
+#[derive(Clone, Copy)]
 pub enum Place {
     Idle,
     // Election, "FOR j := i + 1, i + 2, …, n - 1, n": whom it asks now
@@ -23,7 +25,7 @@ pub enum Place {
 }
 
 // One node (02: cabinet). In the appendix S(i) has s for the status, c for the coordinator, d for the task, h for the last halter, and Up.
-#[derive(Drop)]
+#[derive(Clone, Copy)]
 pub struct Node {
     // 02: "whether the cabinet runs"
     pub runs: bool,
@@ -38,14 +40,14 @@ pub struct Node {
 }
 
 // n nodes. Records past n are no part of the table.
-#[derive(Drop)]
+#[derive(Clone, Copy)]
 pub struct Table {
     pub n: u8,
     pub nodes: [Node; 16],
 }
 
 // 02: "events crash, recover, check, timeout, go on and finish with a task"
-#[derive(Drop)]
+#[derive(Clone, Copy)]
 pub enum Event {
     Crash(u8),
     Recover(u8),
@@ -56,7 +58,7 @@ pub enum Event {
 }
 
 // What a step answers: accepted, or the ground of its refusal. The numbers are in specs/Answers.
-#[derive(Drop)]
+#[derive(Clone, Copy)]
 pub enum Answer {
     Accepted,
     NotInRange,
@@ -67,7 +69,7 @@ pub enum Answer {
 }
 
 // The answer of a step, and the table after it.
-#[derive(Drop)]
+#[derive(Clone, Copy)]
 pub struct Outcome {
     pub table: Table,
     pub answer: Answer,

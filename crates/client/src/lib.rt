@@ -1,4 +1,6 @@
 // What a user of the library writes: the public entries called one after another, and a part of demand 3, or of T-05, T-07 or T-09, cited for the table that comes out.
+#![tactic(auto)]
+
 mod bully;
 mod turns;
 

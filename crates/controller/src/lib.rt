@@ -1,6 +1,8 @@
 // The controller in the cabinet (02, T-11): one node's share of the machine. It takes n, its own number, its own record, and one event other than deliver and lose or the bytes of one message;
 // it gives the answer, the record after it and at most one message, in bytes. Nothing else is read or kept, and no function here takes a table.
 // What is answered is in specs/Controller and specs/Stepped; what n of them over one queue of messages do is in specs/Network.
+#![tactic(auto)]
+
 ghost use Rattle.std.specs.Prelude.{◌≡◌};
 ghost use Rattle.message_fields.specs.Fields.{Packed};
 ghost use Rattle.model.specs.Answers.{answer_number};
@@ -13,7 +15,7 @@ use message_fields::{MessageRead, Packet};
 use model::{Answer, Event, Input, Message, Node, Outgoing, TaskNo};
 
 // The events other than deliver and lose, which are the queue's.
-#[derive(Drop)]
+#[derive(Clone, Copy)]
 pub enum LocalEvent {
     Crash(u8),
     Recover(u8),
@@ -25,7 +27,7 @@ pub enum LocalEvent {
 }
 
 // The answer, the record after it, and the message that is sent; no bytes where none is.
-#[derive(Drop)]
+#[derive(Clone, Copy)]
 pub struct ControllerOutcome {
     pub answer: Answer,
     pub node: Node,

@@ -1,4 +1,6 @@
 // The driver of T-09 over a table, by value: a turn of the round, for any table and any place.
+#![tactic(auto)]
+
 ghost use Rattle.std.specs.Prelude.{◌≡◌, true, ◌≤◌};
 ghost use Rattle.model.specs.State.{view, waits};
 ghost use Rattle.round.specs.Order as order;

@@ -1,5 +1,7 @@
 // The list reader: fields, the refusals that end a list (01's 2 to 6), and the event decoder.
 // What a list means is in specs/Format.
+#![tactic(auto)]
+
 ghost use Rattle.std.specs.Prelude.{◌≡◌, ◌+◌, ◌≤◌, ◌<◌, length};
 ghost use Rattle.event_list.specs.Format.{two_bytes, length_at, task_of, stop_number, nodes_of, first_of, field_at, next_at};
 ghost use Rattle.event_list.specs.Parts.{sized, decoded, counted_in, first_in};
@@ -8,7 +10,7 @@ use model::{Event, Limits, TaskNo};
 use number_bytes::byte;
 
 // Why a list ends before its end. 01's numbers are given by `stop_number`.
-#[derive(Drop)]
+#[derive(Clone, Copy)]
 pub enum Stop {
     TooLong,
     CutShort,
@@ -18,7 +20,7 @@ pub enum Stop {
 }
 
 // What stands at an offset past the first field: the list's end, a refusal, or an event and where the next field starts.
-#[derive(Drop)]
+#[derive(Clone, Copy)]
 pub enum Next {
     Done,
     Stopped(Stop),
@@ -26,14 +28,14 @@ pub enum Next {
 }
 
 // What the whole list and its first field say: a refusal, or the number of nodes and the table's limits.
-#[derive(Drop)]
+#[derive(Clone, Copy)]
 pub enum First {
     Stopped(Stop),
     Nodes(u8, Limits),
 }
 
 // What stands at an offset: nothing, too few bytes for a field, or a field whose contents are list[start..end].
-#[derive(Drop)]
+#[derive(Clone, Copy)]
 pub enum Field {
     End,
     Short,

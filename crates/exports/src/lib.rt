@@ -6,6 +6,8 @@
 //   uint8_t nevraspu_turn(const uint8_t *table, size_t table_len, uint8_t a, uint8_t b, uint8_t *out, size_t out_len);
 // Any bytes at all are answered. A caller has only to hand in pointers that are good for their lengths, out apart from the others.
 // What is answered, and what out then holds, is in specs/Boundary; nevraspu_bully_step is in bully.rt, and nevraspu_turn in turn.rt.
+#![tactic(auto)]
+
 mod bully;
 mod turn;
 

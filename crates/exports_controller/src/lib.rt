@@ -6,6 +6,8 @@
 // That n of them over one queue do as the whole machine does (controller/specs/Claims) asks four things of whoever runs them: the record given out is kept, over a power cut too, and handed in next, and 29
 // zero bytes are the first; where the queue has no room for the message given out, the record that was handed in is kept instead, as if the event had been refused; a message that is handed in is taken
 // out of the queue only where it is answered by 0; and of the messages from one cabinet to another the oldest is handed in. They are (a) to (d) of include/nevraspu.h.
+#![tactic(auto)]
+
 ghost use Rattle.std.specs.Prelude.{◌≡◌, ◌≤◌, length};
 ghost use Rattle.event_list.specs.Format.{next_at};
 ghost use Rattle.number_bytes.specs.Bytes.{written};
@@ -26,7 +28,7 @@ const BYTES_AT: usize = 30;
 const OUTCOME_SIZE: usize = 55;
 
 // What a field says: why it is no event of a controller, or its event.
-#[derive(Drop)]
+#[derive(Clone, Copy)]
 pub enum FieldRead {
     Stopped(Stop),
     Got(LocalEvent),

@@ -1,5 +1,7 @@
 // Printing a list, for Rust or C to link. It is a library of its own: where the step by value is in the same library, the run loop's judgement is
 // compiled as a call, and printing takes up to a third longer.
+#![tactic(auto)]
+
 ghost use Rattle.exports_print.specs.Boundary.{PrintExported};
 
 //   uint64_t nevraspu_print(const uint8_t *list, size_t list_len, uint8_t *out, size_t out_len);

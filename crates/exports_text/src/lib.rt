@@ -1,5 +1,7 @@
 // Lists as text, both ways, a run step by step, a run that comes to rest, and all short lists, for Rust or C to link. That an out of the size named always has the room is
 // `RoomAlways` of specs/Boundary.
+#![tactic(auto)]
+
 ghost use Rattle.std.specs.Prelude.{◌≡◌, ◌-◌, ◌≤◌, length, take};
 ghost use Rattle.exports_text.specs.Boundary.{TextExported, TraceExported, RestExported, WrittenOut, ListExported, AldebaranExported, ShortListsExported};
 ghost use Rattle.exports_text.specs.Window.{window};

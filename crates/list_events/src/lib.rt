@@ -1,5 +1,7 @@
 // The events of which short lists are made, as code: the test of an input of two bytes, the events by their places in the alphabet, and the text of an event.
 // What the alphabet and the text of an event are, is in crate short_lists_text; the alphabet by places, in specs/.
+#![tactic(auto)]
+
 mod alphabet;
 mod text;
 

@@ -1,5 +1,7 @@
 // A text as list: reads a text from standard input, and writes the list that it stands for to standard output.
 // Of a bad text nothing is written there, and standard error has a line with its place and what was expected. Where the text can't be read, or the list can't be written, standard error says why.
+#![tactic(auto)]
+
 ghost use Rattle.std.specs.Prelude.{◌≡◌, length};
 
 use list_parser::{LIST_LIMIT, MESSAGE_LIMIT, Parsed};

@@ -1,5 +1,7 @@
 // From a text to the list that it stands for, and what is told of a bad text.
 // What that is, is in list_text/specs: Words, Script and Message.
+#![tactic(auto)]
+
 mod events;
 mod fields;
 mod message;
@@ -18,14 +20,14 @@ pub use message::{MESSAGE_LIMIT, put_message};
 use words::past_skipped;
 
 // What a text comes to: it is bad at a place, where something else was expected; or the list has so many bytes.
-#[derive(Drop)]
+#[derive(Clone, Copy)]
 pub enum Parsed {
     Bad(Place, Expected),
     List(usize),
 }
 
 // The same with the offset of the place.
-#[derive(Drop)]
+#[derive(Clone, Copy)]
 pub enum Filling {
     Wrong(usize, Expected),
     Bytes(usize),

@@ -1,5 +1,7 @@
 // The text of a list: a line for its first field and one for each event, up to where it ends or stops. Nothing is run.
 // What the text is, is in list_text/specs/Text.
+#![tactic(auto)]
+
 ghost use Rattle.std.specs.Prelude.{◌≡◌, [], ◌∷◌, ◌++◌, map, ◌≤◌, length};
 ghost use Rattle.event_list.specs.Format.{rest};
 ghost use Rattle.listing.specs.Printing.{shown, printed, Printed, Whole};

@@ -1,5 +1,7 @@
 // All accepted lists of a length, found by a search over a stack of tables, and their text in pieces: no beginning of a list is run twice, and nothing grows with
 // the text. What the text is, is in crate short_lists_text; what a search means, in specs/.
+#![tactic(auto)]
+
 mod line;
 
 ghost use Rattle.std.specs.Prelude.{◌≡◌, ◌-◌, ◌≤◌, length};
@@ -19,7 +21,7 @@ pub const PIECE: usize = 65536;
 
 // A table on the way to lists, its messages as words and without its counts, on which no short list depends; how many events of the alphabet were tried on it; and the
 // beginning of the line of every list through it, which is the first end bytes of line.
-#[derive(Drop)]
+#[derive(Clone, Copy)]
 struct Level {
     nodes: [Node; 16],
     words: [u32; WORDS],
@@ -30,7 +32,7 @@ struct Level {
 }
 
 // A search for lists of a length among n nodes, of which some were given; n is 0 where the input is refused. Only `begin` and `next_lines` make one.
-#[derive(Drop)]
+#[derive(Clone, Copy)]
 pub struct Search {
     n: u8,
     length: usize,
@@ -41,7 +43,7 @@ pub struct Search {
 }
 
 // So many bytes were written. Where they are not the last of the text, search goes on with the next.
-#[derive(Drop)]
+#[derive(Clone, Copy)]
 pub struct Piece {
     pub written: usize,
     pub done: bool,

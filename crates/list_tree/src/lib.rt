@@ -1,5 +1,7 @@
 // The accepted lists of up to four events as a tree of states, found level by level, and the text of it in the Aldebaran form (T-12). What the text is, is in crate
 // aldebaran_text; what a tree means, in specs/.
+#![tactic(auto)]
+
 mod line;
 mod tree;
 

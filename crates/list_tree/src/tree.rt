@@ -13,14 +13,14 @@ use model::{Event, Table};
 const EDGES: usize = 600;
 
 // How a state is reached: from the state `source`, by the event.
-#[derive(Drop)]
+#[derive(Clone, Copy)]
 pub struct Edge {
     pub source: usize,
     pub event: Event,
 }
 
 // States of lists of events among n nodes (01's cabinets): state 0 is the list of no events, and there is one more for each of the first count edges: edges[k] leads into the state k + 1.
-#[derive(Drop)]
+#[derive(Clone, Copy)]
 pub struct Tree {
     pub n: u8,
     pub count: usize,

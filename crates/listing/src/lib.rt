@@ -1,5 +1,7 @@
 // The printed lines of the machine, each written into the free end of a lent buffer from an offset that the caller names.
 // What a line is, and what writing answers, is in specs/: Decimal, Lines, Printing.
+#![tactic(auto)]
+
 ghost use Rattle.std.specs.Prelude.{◌≡◌, [], ◌∷◌, ◌++◌, ◌+◌, ◌%◌, ◌≤◌, length, drop, get_or};
 ghost use Rattle.model.specs.Answers.{status_number};
 ghost use Rattle.model.specs.Counts as counts;
@@ -12,7 +14,7 @@ ghost use Rattle.listing.specs.Parts.{padded};
 use model::{Activity, CallNo, GroupNo, Node, Status, Table, TaskNo};
 
 // Written, and the offset after it; or refusal 15.
-#[derive(Drop)]
+#[derive(Clone, Copy)]
 pub enum Put {
     Next(usize),
     NoRoom,

@@ -1,4 +1,6 @@
 // The machine over a table, by value: the starting table, the step for any table and any event, and the records of a recovery.
+#![tactic(auto)]
+
 mod grounds;
 mod queue;
 mod range;
@@ -19,21 +21,21 @@ pub use queue::place_for;
 pub use range::in_range;
 
 // What `starting` answers, and the table beside it.
-#[derive(Drop)]
+#[derive(Clone, Copy)]
 pub struct Start {
     pub answer: StartAnswer,
     pub table: Table,
 }
 
 // What `recovery` answers: the answer to recover i, and the eight records beside it.
-#[derive(Drop)]
+#[derive(Clone, Copy)]
 pub struct RecoveryAnswer {
     pub answer: Answer,
     pub records: [Node; 8],
 }
 
 // What is answered to an event, and what its node does where it is accepted.
-#[derive(Drop)]
+#[derive(Clone, Copy)]
 pub struct Verdict {
     pub answer: Answer,
     pub reaction: Reaction,

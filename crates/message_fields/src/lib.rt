@@ -5,6 +5,8 @@
 //   0x23   task 2           kind 5
 //   0x24   1 yes, 0 no      kind 6
 // Numbers have their high byte first. Each message has one form, and all other bytes are refused. What is read and written is in specs/Fields.
+#![tactic(auto)]
+
 ghost use Rattle.std.specs.Prelude.{◌≡◌, [], ◌++◌, ◌≤◌, length, take};
 ghost use Rattle.model.specs.Pick.{pick};
 ghost use Rattle.model.specs.Range.{carries_group};
@@ -16,14 +18,14 @@ use model::{CallNo, GroupNo, Message, TaskNo};
 use number_bytes::{four, one, put_four, put_one, put_two, two, yes_number};
 
 // The bytes of a message, and how many they are; behind them stand zeros. No message: none.
-#[derive(Drop)]
+#[derive(Clone, Copy)]
 pub struct Packet {
     pub bytes: [u8; 25],
     pub length: u8,
 }
 
 // What bytes say: that they are no message, or the message.
-#[derive(Drop)]
+#[derive(Clone, Copy)]
 pub enum MessageRead {
     Wrong,
     Got(Message),

@@ -1,26 +1,27 @@
 // The types of the election machine. What they mean, and every rule over them, is in specs/.
 // This crate has no functions: `node_step` and `machine` hold the code.
+#![tactic(auto)]
 
 // "group number = counter × 16 + (owner − 1), or 0 for none"
-#[derive(Drop)]
+#[derive(Clone, Copy)]
 pub struct GroupNo {
     pub number: u32,
 }
 
 // "task, 0 to 65,535, 0 for none"
-#[derive(Drop)]
+#[derive(Clone, Copy)]
 pub struct TaskNo {
     pub number: u16,
 }
 
 // "last call number, 0 to 16,777,215"
-#[derive(Drop)]
+#[derive(Clone, Copy)]
 pub struct CallNo {
     pub number: u32,
 }
 
 // "status: 0 Down, 1 Election, 2 Reorganization, 3 Normal"
-#[derive(Drop)]
+#[derive(Clone, Copy)]
 pub enum Status {
     Down,
     Election,
@@ -29,7 +30,7 @@ pub enum Status {
 }
 
 // "activity, with what it needs to go on". Sets are 16-bit masks, bit i - 1 for node i.
-#[derive(Drop)]
+#[derive(Clone, Copy)]
 pub enum Activity {
     Idle,
     // "cabinet asked, set found"
@@ -70,7 +71,7 @@ pub enum Activity {
 }
 
 // One node (01: cabinet).
-#[derive(Drop)]
+#[derive(Clone, Copy)]
 pub struct Node {
     pub status: Status,
     pub counter: u32,
@@ -84,7 +85,7 @@ pub struct Node {
 }
 
 // "a sender, a receiver (another cabinet), a kind and a call number"; group, task and yes where the kind carries them.
-#[derive(Drop)]
+#[derive(Clone, Copy)]
 pub struct Message {
     pub sender: u8,
     pub receiver: u8,
@@ -96,7 +97,7 @@ pub struct Message {
 }
 
 // T-08: the most nodes that a table may have, and the most messages that may wait in it. "its two limits are part of the table's starting data"
-#[derive(Drop)]
+#[derive(Clone, Copy)]
 pub struct Limits {
     pub nodes: u8,
     pub messages: u8,
@@ -104,7 +105,7 @@ pub struct Limits {
 
 // n nodes, the table's two limits, and the waiting messages in the order sent. Records past n and places past `waiting` are no part of 01's table.
 // T-05: "for each ordered pair, how many messages were sent, delivered and lost", row by sender: a to b at (a - 1) * 16 + (b - 1).
-#[derive(Drop)]
+#[derive(Clone, Copy)]
 pub struct Table {
     pub n: u8,
     pub limits: Limits,
@@ -117,7 +118,7 @@ pub struct Table {
 }
 
 // The nine events.
-#[derive(Drop)]
+#[derive(Clone, Copy)]
 pub enum Event {
     Crash(u8),
     Recover(u8),
@@ -131,7 +132,7 @@ pub enum Event {
 }
 
 // What one node is told: an event other than deliver and lose, or a message that reached it.
-#[derive(Drop)]
+#[derive(Clone, Copy)]
 pub enum Input {
     Crash,
     Recover,
@@ -144,14 +145,14 @@ pub enum Input {
 }
 
 // "So an event sends at most one message."
-#[derive(Drop)]
+#[derive(Clone, Copy)]
 pub enum Outgoing {
     Nothing,
     Send(Message),
 }
 
 // What the history takes from a step: whether a group was formed in it, and how.
-#[derive(Drop)]
+#[derive(Clone, Copy)]
 pub enum Mark {
     Plain,
     Recovers,
@@ -159,7 +160,7 @@ pub enum Mark {
 }
 
 // What one node does with an input.
-#[derive(Drop)]
+#[derive(Clone, Copy)]
 pub struct Reaction {
     pub node: Node,
     pub outgoing: Outgoing,
@@ -167,7 +168,7 @@ pub struct Reaction {
 }
 
 // What the starting data of a table are answered with: no refusal, refusal 1 for limits that are none of T-08's two pairs, or refusal 6.
-#[derive(Drop)]
+#[derive(Clone, Copy)]
 pub enum StartAnswer {
     Started,
     WrongLimits,
@@ -176,7 +177,7 @@ pub enum StartAnswer {
 
 // What a step of the machine or of a controller (T-11) answers: accepted, or the ground of its refusal; WrongMessage and OtherNode (20 and 21) are the controller's alone. The numbers of 01 and
 // 02 are in specs/Answers.
-#[derive(Drop)]
+#[derive(Clone, Copy)]
 pub enum Answer {
     Accepted,
     NotInRange,
@@ -196,7 +197,7 @@ pub enum Answer {
 }
 
 // The answer of a step, and the table after it; the table stands first, because behind one byte it is copied from an odd place, in more pieces.
-#[derive(Drop)]
+#[derive(Clone, Copy)]
 pub struct Outcome {
     pub table: Table,
     pub answer: Answer,

@@ -1,4 +1,6 @@
 // Sets of nodes as 16-bit masks: bit i - 1 is node i. What each function answers is in specs/NodeSet, and the laws are in specs/Claims.
+#![tactic(auto)]
+
 ghost use Rattle.std.specs.Prelude.{◌≡◌, ◌≤◌};
 ghost use Rattle.node_set.specs.NodeSet as spec;
 

@@ -1,5 +1,7 @@
 // The local step of one node: the definitions of model's specs/React as functions.
 // Each other file has those of the file of model's specs that it is named after; but grounds goes by this crate's own specs/Grounds.
+#![tactic(auto)]
+
 mod grounds;
 mod node;
 mod procedures;

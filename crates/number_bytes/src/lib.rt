@@ -1,6 +1,8 @@
 // Numbers as bytes, high byte first, and what else the byte forms of both machines' tables share. Reading takes any bytes: past their end stand zeros. Writing
 // leaves out what is past the end.
 // What is read and written is in specs/Bytes.
+#![tactic(auto)]
+
 ghost use Rattle.std.specs.Prelude.{◌≡◌, ◌+◌, ◌^◌, ◌<◌, get_or, drop, set};
 ghost use Rattle.model.specs.Answers.{status_number};
 ghost use Rattle.number_bytes.specs.Bytes as spec;

@@ -1,5 +1,7 @@
 // The waiting messages as numbers, so that they can be lent: message k stands in the four words from 4 * k on.
 // What the words mean is in specs/Packed. Nothing is asked of them: any words are messages.
+#![tactic(auto)]
+
 ghost use Rattle.std.specs.Prelude.{◌≡◌, ◌++◌, ◌+◌, ◌*◌, ◌%◌, ◌≤◌, ◌<◌, length, get_or, take, set};
 ghost use Rattle.model.specs.State.{no_message};
 ghost use Rattle.model.specs.Step.{actor, sent};
@@ -12,7 +14,7 @@ use model::{CallNo, Event, GroupNo, Message, Node, Outgoing, TaskNo};
 pub const WORDS: usize = 256;
 
 // What is ruled on an event: where its message stands, or how many wait; and the judgement.
-#[derive(Drop)]
+#[derive(Clone, Copy)]
 pub struct Ruling {
     pub place: usize,
     pub verdict: Verdict,

@@ -1,5 +1,7 @@
 // Definitions of model's specs as functions that several crates use: tests of a status, a node's number, a pair of nodes, a set of nodes, a task, a majority, a table's limits and
 // an answer, the answer to a number of nodes, and the number of an answer. The two pairs of limits (T-08) are named here, and nowhere else in the code.
+#![tactic(auto)]
+
 ghost use Rattle.std.specs.Prelude.{◌≡◌, ◌≤◌};
 ghost use Rattle.model.specs.Limits as limits;
 ghost use Rattle.model.specs.Limits.{node_limit};

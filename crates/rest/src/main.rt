@@ -1,5 +1,7 @@
 // T-13's program: reads a list from standard input, runs it and then makes turns of the round until no message waits, and writes what is printed for it to standard output.
 // Where the list can't be read nothing is printed, and standard error says why; so it does where the text can't be written.
+#![tactic(auto)]
+
 ghost use Rattle.std.specs.Prelude.{◌≡◌, length};
 
 use rest_list::REST_LIMIT;

@@ -1,5 +1,7 @@
 // T-13: a list of events run, then turns of the round until no message waits, and the text that is printed for it.
 // What the text is, is in specs/Text; what the turns are, in rest_bound/specs/Turns.
+#![tactic(auto)]
+
 ghost use Rattle.std.specs.Prelude.{◌≡◌, true};
 ghost use Rattle.model.specs.State.{view, in_range};
 ghost use Rattle.listing.specs.Printing.{shown, printed, Printed, Whole};
@@ -14,7 +16,7 @@ use round::Place;
 use session_list::Left;
 
 // The table in which no message waits, and how many turns were made until then.
-#[derive(Drop)]
+#[derive(Clone, Copy)]
 struct Rested {
     table: Table,
     turns: u32,

@@ -1,5 +1,7 @@
 // A list of events run from the starting table, and the text that is printed for it.
 // What the text is, is in specs/Text.
+#![tactic(auto)]
+
 ghost use Rattle.std.specs.Prelude.{◌≡◌, true, ◌∷◌, ◌≤◌, length};
 ghost use Rattle.model.specs.Answers.{answer_number};
 ghost use Rattle.model.specs.State.{view, in_range};
@@ -15,7 +17,7 @@ use model::{Answer, Limits, Table};
 
 // What is printed before the first event: all of it, where the first field failed or a line has no room; or the line of n nodes. Then a run of
 // n nodes with these limits follows, and is printed from the offset on.
-#[derive(Drop)]
+#[derive(Clone, Copy)]
 pub enum Heading {
     Ended(Put),
     Nodes(u8, Limits, usize),

@@ -1,4 +1,6 @@
 // The table that the rig keeps for a whole session: each event is applied to it in place. docs/IN-PLACE.md says how this is proved.
+#![tactic(auto)]
+
 ghost use Rattle.machine.specs.Stepped.{Stepped};
 
 use model::{Answer, Event, Outcome, Table};

@@ -1,5 +1,7 @@
 // A list of events run on one table that is kept for the whole session, each applied in place; the lines that are printed of them; and the table that they leave.
 // The loop is that of `run_list` over the step in place, and hands the table on. The text of the list is the one that `run_list` prints: specs/Text there.
+#![tactic(auto)]
+
 ghost use Rattle.std.specs.Prelude.{◌≡◌, ◌≤◌, length};
 ghost use Rattle.model.specs.State.{view};
 ghost use Rattle.event_list.specs.Format.{rest};
@@ -13,14 +15,14 @@ use model::Table;
 use run_list::{Heading, TEXT_LIMIT};
 
 // What is left to print where a list was run: nothing, and then what printing answered; or its last table, from this offset on.
-#[derive(Drop)]
+#[derive(Clone, Copy)]
 pub enum Left {
     Nothing(Put),
     Table(usize),
 }
 
 // What running a list gives: what is left to print, and its last table. Where nothing is left the table is of no use.
-#[derive(Drop)]
+#[derive(Clone, Copy)]
 pub struct Ran {
     pub left: Left,
     pub table: Table,

@@ -1,6 +1,8 @@
 // The bench program over a table that is kept for the whole session: reads a list from standard input, applies its events in place,
 // and writes what is printed for it to standard output.
 // Where the list can't be read nothing is printed, and standard error says why; so it does where the text can't be written.
+#![tactic(auto)]
+
 ghost use Rattle.std.specs.Prelude.{◌≡◌, length};
 
 use run_list::TEXT_LIMIT;

@@ -2,6 +2,8 @@
 // Where the input can't be read nothing is printed; where a piece can't be written nothing more is written. `standard_io` says on standard error why.
 // No promise can say what a program reads and writes. To be seen in this file: all that was read, and no more, goes to `begin`; each piece is written once, its
 // first `written` bytes, before the next is made; and it stops only after the last or where a write fails.
+#![tactic(auto)]
+
 ghost use Rattle.std.specs.Prelude.{◌≡◌, length};
 
 use list_search::PIECE;

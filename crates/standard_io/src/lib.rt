@@ -1,5 +1,7 @@
 // A program's standard input and output: all of the one read into a lent buffer, and bytes written to the other. Where that fails, a line on standard error
 // says why; a program's own message goes there as well. No contract can say which bytes are read or written.
+#![tactic(auto)]
+
 ghost use Rattle.std.specs.Prelude.{◌≡◌, ◌≤◌, ◌-◌, length};
 ghost use Rattle.standard_io.specs.Input.{Within, Counted};
 ghost use Rattle.standard_io.specs.declared.Input.TheVariants as Input;
@@ -7,7 +9,7 @@ ghost use Rattle.standard_io.specs.declared.Input.TheVariants as Input;
 use libc::{STDERR_FILENO, STDIN_FILENO, STDOUT_FILENO};
 
 // What reading gave: so many bytes, or nothing that can be used.
-#[derive(Drop)]
+#[derive(Clone, Copy)]
 pub enum Input {
     Read(usize),
     Failed,

@@ -9,6 +9,8 @@
 //   limits    nodes 1, messages 1
 // Reading takes status modulo 4, tag modulo 9 (0 Idle .. 8 Accepting) and yes modulo 2; every other number as it stands, in range or not.
 // What is read and written is in specs/Bytes.
+#![tactic(auto)]
+
 ghost use Rattle.std.specs.Prelude.{◌≡◌, ◌≤◌};
 ghost use Rattle.number_bytes.specs.Bytes.{bytes, many, all, written};
 ghost use Rattle.table_bytes.specs.Bytes as spec;
@@ -24,7 +26,7 @@ pub const SIZE: usize = 4436;
 pub const RECORDS_SIZE: usize = 232;
 
 // An activity with a place for each thing that one of them holds.
-#[derive(Drop)]
+#[derive(Clone, Copy)]
 struct Parts {
     tag: u8,
     set: u16,

@@ -1,5 +1,7 @@
 // A list as text: reads a list from standard input, and writes its text to standard output.
 // Where the list can't be read nothing is printed, and standard error says why; so it does where the text can't be written.
+#![tactic(auto)]
+
 ghost use Rattle.std.specs.Prelude.{◌≡◌, length};
 
 use list_printer::LIST_TEXT_LIMIT;

@@ -2,6 +2,8 @@
 // Where the list can't be read nothing is printed; where a piece can't be written nothing more is written. `standard_io` says on standard error why.
 // No promise can say what a program reads and writes. To be seen in this file: all that was read goes to `begin` and `next_piece`; each piece is written once, its first `written` bytes,
 // before the next is made; and it stops only after the last or where a write fails.
+#![tactic(auto)]
+
 ghost use Rattle.std.specs.Prelude.{◌≡◌, ◌≤◌, length};
 
 use standard_io::Input;

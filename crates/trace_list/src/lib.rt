@@ -1,4 +1,6 @@
 // A list of events run step by step, and the text of each step, in pieces. What the text is, is in crate trace_text; what a trace means, in specs/.
+#![tactic(auto)]
+
 mod records;
 mod steps;
 mod words;
@@ -19,7 +21,7 @@ use model::{Event, Limits, Table};
 pub const PIECE: usize = 1024;
 
 // How far a list was run: the offset of the next field, the number of the next event, and the table now. Only `begin` and `next_piece` make one.
-#[derive(Drop)]
+#[derive(Clone, Copy)]
 pub struct Trace {
     at: usize,
     event: u32,
@@ -27,7 +29,7 @@ pub struct Trace {
 }
 
 // So many bytes were written. Where they are not the last of the text, trace goes on with the next.
-#[derive(Drop)]
+#[derive(Clone, Copy)]
 pub struct TracePiece {
     pub written: usize,
     pub done: bool,

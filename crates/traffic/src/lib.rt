@@ -1,4 +1,6 @@
 // T-05, traffic totals: a table's counts as 16 rows of 16, the waiting messages counted by pair, and whether a table's counts are in range.
+#![tactic(auto)]
+
 ghost use Rattle.std.specs.Prelude.{◌≡◌, ◌+◌, ◌≤◌, ◌<◌, eqb, length, []};
 ghost use Rattle.model.specs.Counts.{count_at, listed, rows_of};
 ghost use Rattle.model.specs.Limits.{tower};
