@@ -12,7 +12,7 @@ use Rattle.number_bytes.specs.Bytes.{Each}
 
 -- R is the elements' type, and h takes an element to what R owns
 module _ {A : Type 0} (R : RattleType) (h : A → R.Denot) (P : A → Type 0) (fits : (x : A) (vs : List Val) → Is R (h x) vs → P x) where
-  each_fits : (xs : List A) (us : List Val) → shadow (each R.Denot R.own (map h xs) us) → Each P xs
+  each_fits : (xs : List A) (us : List Val) → shadow (each R.Denot R.own_val (map h xs) us) → Each P xs
   unfolding Each
   each_fits [] us s = tt
   each_fits (x ∷ xs) [] s = absurd s

@@ -1,0 +1,6 @@
+-- The number is that of the two bytes.
+use borrow.Author.Rules.{rules}
+use Rattle.event_list.proofs.task_of.Goals as goal
+
+pub returns : goal.returns
+returns c = rw c.two_bytes.ensures

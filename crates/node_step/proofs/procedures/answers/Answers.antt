@@ -1,0 +1,6 @@
+-- `answers` meets its contract: what the callees ensure.
+use borrow.Author.Rules.{rules}
+use Rattle.node_step.proofs.procedures.answers.Goals as goal
+
+pub returns : goal.returns
+returns c = rw (c.reaction.ensures, c.replies.ensures)

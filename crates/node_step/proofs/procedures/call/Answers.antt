@@ -1,0 +1,11 @@
+-- `call` meets its contract: what the callees ensure.
+use borrow.Author.Rules.{rules}
+use Rattle.node_step.proofs.procedures.call.Goals as goal
+
+pub returns : goal.returns
+returns c = rw (
+  c.reaction.ensures,
+  c.calling.ensures,
+  c.calls-m.ensures,
+  c.next_call.ensures,
+)

@@ -1,0 +1,15 @@
+-- The invariant: the test of the first a senders.
+use borrow.Author.Rules.{rules}
+use Prim.Native.Nat.{◌-◌, ◌≤◌}
+use mathlib.Core.Path.{◌≡◌, refl}
+use native.Mathlib.Omega.{arith}
+use Rattle.model.specs.State.{up_to}
+use Rattle.traffic.specs.Rows.{adding}
+use Rattle.traffic.proofs.Laws.{up_to_more}
+use Rattle.traffic.proofs.adds_up.Given as goal
+
+abbrev pub invariant-loop-a : goal.invariant-loop-a
+invariant-loop-a l = (l.a ≤ l.n) × (l.good ≡ up_to l.a (λ x. up_to l.n (adding l.sent l.delivered l.lost l.waiting x)))
+
+abbrev pub decreases-loop-a : goal.decreases-loop-a
+decreases-loop-a l = l.n - l.a

@@ -1,0 +1,15 @@
+-- The invariant: the test of the first b receivers.
+use borrow.Author.Rules.{rules}
+use Prim.Native.Nat.{◌+◌, ◌-◌, ◌≤◌}
+use mathlib.Core.Path.{◌≡◌, refl}
+use native.Mathlib.Omega.{arith}
+use Rattle.model.specs.State.{up_to}
+use Rattle.traffic.specs.Rows.{adding}
+use Rattle.traffic.proofs.Laws.{up_to_more}
+use Rattle.traffic.proofs.row_adds_up.Given as goal
+
+abbrev pub invariant-loop-b : goal.invariant-loop-b
+invariant-loop-b l = (l.b ≤ l.n) × (l.good ≡ up_to l.b (adding l.sent l.delivered l.lost l.waiting l.a))
+
+abbrev pub decreases-loop-b : goal.decreases-loop-b
+decreases-loop-b l = l.n - l.b

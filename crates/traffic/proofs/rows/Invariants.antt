@@ -1,0 +1,15 @@
+-- The invariant: the first a rows are there.
+use borrow.Author.Rules.{rules}
+use Prim.Native.Nat.{ℕ, ◌-◌, ◌≤◌}
+use mathlib.Core.Path.{◌≡◌, refl, ◌∙◌, ap}
+use native.Mathlib.Omega.{arith}
+use lib.ListN.{length, take, length-set}
+use Rattle.model.specs.Counts.{count_at, listed}
+use Rattle.traffic.proofs.Laws.{fill_turn, fill_end}
+use Rattle.traffic.proofs.rows.Given as goal
+
+abbrev pub invariant-loop-a : goal.invariant-loop-a
+invariant-loop-a l = (l.a ≤ 16) × (length l.all ≡ 16) × (take l.a l.all ≡ listed (λ x. listed (count_at l.counts x) 1 16) 1 l.a)
+
+abbrev pub decreases-loop-a : goal.decreases-loop-a
+decreases-loop-a l = 16 - l.a
