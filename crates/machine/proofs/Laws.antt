@@ -45,11 +45,11 @@ pub record Sized (t : Table) : Type 0 where
 
 pub sized : (t : Table) {vs : List Val} → Is (row T.the_type) t vs → Sized t
 sized t g = record {
-  nodes = sym (length-map t.nodes _) ∙ g.1.1.1.1.0.1.0.1;
-  messages = sym (length-map t.messages _) ∙ g.1.1.1.1.1.0.1.0.1;
-  sent = sym (length-map t.sent _) ∙ g.1.1.1.1.1.1.1.0.1.0.1;
-  delivered = sym (length-map t.delivered _) ∙ g.1.1.1.1.1.1.1.1.0.1.0.1;
-  lost = sym (length-map t.lost _) ∙ g.1.1.1.1.1.1.1.1.1.0.1.0.1;
+  nodes = g.1.1.1.1.0.1.0.1;
+  messages = g.1.1.1.1.1.0.1.0.1;
+  sent = g.1.1.1.1.1.1.1.0.1.0.1;
+  delivered = g.1.1.1.1.1.1.1.1.0.1.0.1;
+  lost = g.1.1.1.1.1.1.1.1.1.0.1.0.1;
 }
 
 -- the same of an array by itself

@@ -1,10 +1,16 @@
 -- `received` meets its contract: by the kind, what the callees ensure.
 use borrow.Author.Rules.{rules}
-use mathlib.Core.Logic.{⊎_elim}
+use mathlib.Core.Path.{◌≡◌, ◌∙◌, sym}
+use Prim.Native.Nat.{ℕ, ◌≤◌}
+use native.Mathlib.Omega.{arith}
+use Rattle.model.specs.Procedures.{stays}
+use Rattle.model.specs.declared.Node.{Node}
+use Rattle.model.specs.declared.Message.{Message}
 use borrow.Author.Tests.{ne_eqb}
 use Rattle.model.specs.Pick.{pick}
 use Rattle.model.specs.React.{received}
 use Rattle.node_step.proofs.received.Goals as goal
+use Rattle.node_step.proofs.received.Goals.{in-0-1, in_default-1}
 
 pub on_reply-requires : goal.on_reply-requires
 unfolding received pick
@@ -34,14 +40,18 @@ pub returns-in-6 : goal.returns-in-6
 unfolding received pick
 returns-in-6 c = simp (c.on_reply.ensures, c.in-6.is)
 
-pub returns-in-0 : goal.returns-in-0
+-- what is no kind of 1 to 6 changes nothing
+of_no_kind : (n i : ℕ) (c : Node) (m : Message) → (1 ≤ m.kind → 7 ≤ m.kind) → received n i c m ≡ stays c
 unfolding received pick
-returns-in-0 c = ⊎_elim (λ w. simp (c.stays.ensures, w.keys7)) (λ w. simp (
-  c.stays.ensures,
-  ne_eqb _ _ w.rest.0.0.0.0.0.0.1,
-  ne_eqb _ _ w.rest.0.0.0.0.0.1,
-  ne_eqb _ _ w.rest.0.0.0.0.1,
-  ne_eqb _ _ w.rest.0.0.0.1,
-  ne_eqb _ _ w.rest.0.0.1,
-  ne_eqb _ _ w.rest.0.1,
-)) c.in-0-1.branch
+of_no_kind n i c m h =
+    simp (
+      ne_eqb m.kind 1 (λ e. omega arith),
+      ne_eqb m.kind 2 (λ e. omega arith),
+      ne_eqb m.kind 3 (λ e. omega arith),
+      ne_eqb m.kind 4 (λ e. omega arith),
+      ne_eqb m.kind 5 (λ e. omega arith),
+      ne_eqb m.kind 6 (λ e. omega arith),
+    )
+
+pub returns-in-0 : goal.returns-in-0
+returns-in-0 c = elim c.in-0-1.branch [ in-0-1 w ↦ c.stays.ensures ∙ sym (of_no_kind _ _ _ _ (λ l. omega arith)) | in_default-1 w ↦ c.stays.ensures ∙ sym (of_no_kind _ _ _ _ (λ l. omega arith)) ]
