@@ -1,0 +1,11 @@
+-- The number is written behind the head.
+use borrow.Author.Rules.{rules}
+use mathlib.Core.Path.{refl}
+use Rattle.number_bytes.specs.Bytes.{bytes}
+use Rattle.number_bytes.proofs.Numbers.{then}
+use Rattle.message_fields.proofs.put_task.Goals as goal
+
+pub returns : goal.returns
+unfolding bytes
+returns c =
+    then _ _ _ _ 3 c.put_head.ensures refl c.put_two.ensures
