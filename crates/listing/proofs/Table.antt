@@ -21,7 +21,7 @@ use Rattle.listing.proofs.Printing.{then_next, then_refused}
 
 -- What owning a table tells of its records.
 pub nodes_long : (t : Table) {vs : List Val} → Is (declared.row table.the_type) t vs → length t.nodes ≡ 16
-nodes_long t g = sym (length-map t.nodes _) ∙ g.1.1.1.1.0.1.0.1
+nodes_long t g = g.1.1.1.1.0.1.0.1
 
 first_long : {A : Type 0} (k : ℕ) (d : A) (l : List A) → length (first_of k d l) ≡ k
 unfolding first_of

@@ -13,7 +13,7 @@ use Rattle.listing.proofs.write_two.Goals as goal
 pub returns-then-free-e : goal.returns-then-free-e
 returns-then-free-e c =
     let a = c.args in
-    let h : length a.w.now ≡ 8 = c.word-1.given.0 in
+    let h : length a.w.now ≡ 8 = c.word-1.given in
     line_refused a.free.now _ 0 (rw (← two_text a.w.now a.x a.y) (simp length-append (omega arith)))
 
 pub number_at-requires : goal.number_at-requires
@@ -30,7 +30,7 @@ returns c =
     let a = c.args in
     let b = a.free.now in
     let t = a.w.now in
-    let h : length t ≡ 8 = c.word-1.given.0 in
+    let h : length t ≡ 8 = c.word-1.given in
     let t1 = t ++ decimal a.x in
     let t2 = t1 ++ (32 ∷ decimal a.y) in
     let p1 : 8 + c.digit_count-a.result ≡ length t1 = simp length-append (omega arith) in
