@@ -41,6 +41,7 @@ among_others i j (k ∷ js) d (inr m) = by (eqb k i) refl (among_others i j js d
     by : (t : Bool) → eqb k i ≡ t → Among j (without i js) → Among j (pick (eqb k i) (without i js) (k ∷ without i js))
     by true q r = rw (q, pick_true) r
     by false q r = rw (q, pick_false) (inr r)
+among_others i j [] d x'' = elim x'' [ ]
 
 among_pairs : (f : ℕ → ℕ → Event) (n a b : ℕ) → not (is_node n a && is_other n a b) ≡ false → Among (f a b) (pairs_of f n)
 unfolding pairs_of

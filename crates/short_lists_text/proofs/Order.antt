@@ -23,6 +23,7 @@ use Rattle.short_lists_text.proofs.Rows.{all_weaken, all_append, map_by, rows_by
 bytes_never : (xs : List ℕ) → BytesBefore xs xs → ⊥
 bytes_never (x ∷ xs) (inl h) = omega arith
 bytes_never (x ∷ xs) (inr h) = bytes_never xs h.1
+bytes_never [] x' = elim x' [ ]
 
 pub event_never : (e : Event) → Before e e → ⊥
 event_never e (inl h) = omega arith
@@ -31,6 +32,7 @@ event_never e (inr h) = bytes_never (contents e) h.1
 list_never : (l : List Event) → ListBefore l l → ⊥
 list_never (e ∷ es) (inl h) = event_never e h
 list_never (e ∷ es) (inr h) = list_never es h.1
+list_never [] x' = elim x' [ ]
 
 bytes_on : (xs ys zs : List ℕ) → BytesBefore xs ys → BytesBefore ys zs → BytesBefore xs zs
 bytes_on [] (y ∷ ys) (z ∷ zs) a b = tt
@@ -38,6 +40,10 @@ bytes_on (x ∷ xs) (y ∷ ys) (z ∷ zs) (inl a) (inl b) = inl (omega arith)
 bytes_on (x ∷ xs) (y ∷ ys) (z ∷ zs) (inl a) (inr b) = let q = b.0 in inl (omega arith)
 bytes_on (x ∷ xs) (y ∷ ys) (z ∷ zs) (inr a) (inl b) = let q = a.0 in inl (omega arith)
 bytes_on (x ∷ xs) (y ∷ ys) (z ∷ zs) (inr a) (inr b) = inr (a.0 ∙ b.0, bytes_on xs ys zs a.1 b.1)
+bytes_on [] [] zs a b = elim a [ ]
+bytes_on [] (y ∷ ys) [] a b = elim b [ ]
+bytes_on (x ∷ xs) [] zs a b = elim a [ ]
+bytes_on (x ∷ xs) (y ∷ ys) [] a b = elim b [ ]
 
 event_on : (e f g : Event) → Before e f → Before f g → Before e g
 event_on e f g (inl a) (inl b) = inl (omega arith)
@@ -51,6 +57,10 @@ list_on (e ∷ l) (f ∷ m) (g ∷ r) (inl a) (inl b) = inl (event_on e f g a b)
 list_on (e ∷ l) (f ∷ m) (g ∷ r) (inl a) (inr b) = inl (subst (λ x. Before e x) b.0 a)
 list_on (e ∷ l) (f ∷ m) (g ∷ r) (inr a) (inl b) = inl (subst (λ x. Before x g) (sym a.0) b)
 list_on (e ∷ l) (f ∷ m) (g ∷ r) (inr a) (inr b) = inr (a.0 ∙ b.0, list_on l m r a.1 b.1)
+list_on [] [] r a b = elim a [ ]
+list_on [] (f ∷ m) [] a b = elim b [ ]
+list_on (e ∷ l) [] r a b = elim a [ ]
+list_on (e ∷ l) (f ∷ m) [] a b = elim b [ ]
 
 numbers_compare : (x y : ℕ) → (x < y) ⊎ ((x ≡ y) ⊎ (y < x))
 numbers_compare x y = by (ltb x y) (eqb x y) refl refl

@@ -10,6 +10,7 @@ use Rattle.short_lists_text.specs.Rows.{Among, All, Ascending, concat_map}
 pub all_of : {A : Type 0} (P : A → Type 0) (x : A) (xs : List A) → All P xs → Among x xs → P x
 all_of P x (y ∷ ys) a (inl e) = subst P (sym e) a.0
 all_of P x (y ∷ ys) a (inr m) = all_of P x ys a.1 m
+all_of {A = A} P x [] a x3 = elim x3 [ ]
 
 -- what is so of each that is among them is so of all
 pub all_by : {A : Type 0} (P : A → Type 0) (xs : List A) → ((x : A) → Among x xs → P x) → All P xs
@@ -47,6 +48,7 @@ rows_by P f (x ∷ xs) g = all_append P (f x) (concat_map f xs) (g x) (rows_by P
 pub among_left : {A : Type 0} (x : A) (xs ys : List A) → Among x xs → Among x (xs ++ ys)
 among_left x (y ∷ xs) ys (inl e) = inl e
 among_left x (y ∷ xs) ys (inr m) = inr (among_left x xs ys m)
+among_left {A = A} x [] ys x'' = elim x'' [ ]
 
 pub among_right : {A : Type 0} (x : A) (xs ys : List A) → Among x ys → Among x (xs ++ ys)
 among_right x [] ys m = m
@@ -55,10 +57,12 @@ among_right x (y ∷ xs) ys m = inr (among_right x xs ys m)
 pub among_map : {A B : Type 0} (f : A → B) (x : A) (xs : List A) → Among x xs → Among (f x) (map f xs)
 among_map f x (y ∷ ys) (inl e) = inl (ap f e)
 among_map f x (y ∷ ys) (inr m) = inr (among_map f x ys m)
+among_map {A = A} {B = B} f x [] x'' = elim x'' [ ]
 
 pub among_rows : {A B : Type 0} (f : A → List B) (x : A) (y : B) (xs : List A) → Among x xs → Among y (f x) → Among y (concat_map f xs)
 among_rows f x y (z ∷ zs) (inl e) m = among_left y (f z) (concat_map f zs) (subst (λ w. Among y (f w)) e m)
 among_rows f x y (z ∷ zs) (inr n) m = among_right y (f z) (concat_map f zs) (among_rows f x y zs n m)
+among_rows {A = A} {B = B} f x y [] x3 m = elim x3 [ ]
 
 -- ── ascending ──
 
