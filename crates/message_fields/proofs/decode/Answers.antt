@@ -1,7 +1,6 @@
 -- By its tests: the same bytes, and a message in range.
 use mathlib.Core.Bool.{not}
 use mathlib.Core.Path.{ap}
-use borrow.Author.Rules.{rules}
 use borrow.Author.Tests.{not-true, not-false}
 use Rattle.model.specs.Pick.{pick}
 use Rattle.message_fields.specs.Fields.{is_message, reading}
