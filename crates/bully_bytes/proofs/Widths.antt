@@ -1,6 +1,5 @@
 -- What owning a table tells of it: the array's length, and that each number fits its width. The paths below follow the order of the fields in crate bully_model.
 use native.Mathlib.Omega.{arith}
-use Prim.Native.Nat.{ℕ}
 use mathlib.Core.Path.{◌≡◌, refl, sym, ap, subst}
 use mathlib.Core.List.{List, [], ◌∷◌, map}
 use lib.ListN.{length}

@@ -1,6 +1,5 @@
 -- Each part is read at its place.
 use Rattle.bully_bytes.specs.Bytes.{decoded}
-use borrow.Author.Rules.{rules}
 use Rattle.bully_bytes.proofs.decode.Goals as goal
 
 pub returns : goal.returns

@@ -1,7 +1,6 @@
 -- Each tag's arm is its case of the definition; what none of the six is, is no event's tag.
 use native.Mathlib.Omega.{arith}
 use borrow.Author.Tests.{ne_eqb}
-use borrow.Author.Rules.{rules}
 use Rattle.model.specs.Pick.{pick}
 use Rattle.event_list.proofs.Fields.{not_between}
 use Rattle.bully_bytes.specs.Field.{length_of, event_of}

@@ -3,7 +3,6 @@ use Rattle.bully_bytes.specs.Bytes.{encoded}
 use Rattle.number_bytes.proofs.Numbers.{length_bytes, then}
 use Rattle.bully_bytes.proofs.Widths.{table_fits}
 use Rattle.bully_bytes.proofs.RoundTrip.{stored}
-use borrow.Author.Rules.{rules}
 use Rattle.bully_bytes.proofs.encode.Goals as goal
 
 pub returns : goal.returns

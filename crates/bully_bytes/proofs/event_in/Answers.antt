@@ -1,7 +1,6 @@
 -- By what stands at the start: the laws of proofs/Reading, one for each arm.
 use mathlib.Core.Path.{sym, ◌∙◌}
 use native.Mathlib.Omega.{arith}
-use borrow.Author.Rules.{rules}
 use Rattle.event_list.proofs.Fields.{seen}
 use Rattle.bully_bytes.proofs.Reading.{field_none, field_short, field_whole}
 use Rattle.bully_bytes.proofs.event_in.Goals as goal

@@ -1,6 +1,5 @@
 -- Each field is read at its place.
 use Rattle.bully_bytes.specs.Bytes.{node_of}
-use borrow.Author.Rules.{rules}
 use Rattle.bully_bytes.proofs.node_of.Goals as goal
 
 pub returns : goal.returns

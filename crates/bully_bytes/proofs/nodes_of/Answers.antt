@@ -1,9 +1,8 @@
 -- The invariant: the first i records are read.
 use borrow.Author.Rules.{rules}
-use Prim.Native.Nat.{◌-◌, ◌≤◌}
-use mathlib.Core.Path.{◌≡◌, refl, ◌∙◌, ap}
+use mathlib.Core.Path.{refl, ◌∙◌, ap}
 use native.Mathlib.Omega.{arith}
-use lib.ListN.{length, take, length-set}
+use lib.ListN.{length-set}
 use Rattle.number_bytes.specs.Bytes.{many}
 use Rattle.bully_bytes.specs.Bytes.{node_of}
 use Rattle.number_bytes.proofs.Records.{many_turn, many_end}

@@ -1,5 +1,4 @@
 -- Each place is its case of the definition.
-use borrow.Author.Rules.{rules}
 use Rattle.bully_bytes.proofs.parts_of.Goals as goal
 
 pub returns-in-Idle : goal.returns-in-Idle

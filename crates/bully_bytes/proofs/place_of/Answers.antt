@@ -1,4 +1,6 @@
 -- Each remainder is its case of the definition.
+use Prim.Native.Nat.{◌%◌}
+use native.Mathlib.Omega.{arith}
 use borrow.Author.Tests.{ne_eqb}
 use Rattle.model.specs.Pick.{pick}
 use Rattle.bully_bytes.specs.Bytes.{place_of}
@@ -35,5 +37,5 @@ returns-in-6 c = rw c.in-6.is
 pub returns-in-7-to-255 : goal.returns-in-7-to-255
 unfolding place_of pick
 returns-in-7-to-255 c =
-    let r = c.in-7-to-255.in-7-to-255-own.rest in
-    simp (ne_eqb _ _ r.0.0.0.0.0.0.1, ne_eqb _ _ r.0.0.0.0.0.1, ne_eqb _ _ r.0.0.0.0.1, ne_eqb _ _ r.0.0.0.1, ne_eqb _ _ r.0.0.1, ne_eqb _ _ r.0.1, ne_eqb _ _ r.1)
+    let k = c.args.p.tag % 8 in
+    simp (ne_eqb k 0 (λ q. omega arith), ne_eqb k 1 (λ q. omega arith), ne_eqb k 2 (λ q. omega arith), ne_eqb k 3 (λ q. omega arith), ne_eqb k 4 (λ q. omega arith), ne_eqb k 5 (λ q. omega arith), ne_eqb k 6 (λ q. omega arith))

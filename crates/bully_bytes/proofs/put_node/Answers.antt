@@ -3,7 +3,6 @@ use mathlib.Core.Path.{refl}
 use Rattle.number_bytes.specs.Bytes.{bytes}
 use Rattle.number_bytes.proofs.Numbers.{then}
 use Rattle.bully_bytes.specs.Bytes.{node_bytes, parts_bytes}
-use borrow.Author.Rules.{rules}
 use Rattle.bully_bytes.proofs.put_node.Goals as goal
 
 pub returns : goal.returns

@@ -1,14 +1,9 @@
 -- The invariant: what is left, written behind the first i records, is the whole.
-use borrow.Author.Rules.{rules}
 use Prim.Native.Nat.{◌+◌, ◌-◌, ◌*◌, ◌≤◌}
-use mathlib.Core.Path.{◌≡◌, refl, sym, ◌∙◌}
-use native.Mathlib.Omega.{arith}
+use mathlib.Core.Path.{◌≡◌}
 use lib.ListN.{length, drop}
 use Rattle.number_bytes.specs.Bytes.{written, all}
 use Rattle.bully_bytes.specs.Bytes.{node_bytes}
-use Rattle.number_bytes.proofs.Records.{all_turn, all_end}
-use Rattle.bully_bytes.proofs.Records.{node_long}
-use Rattle.bully_bytes.proofs.Widths.{table_fits}
 use Rattle.bully_bytes.proofs.put_nodes.Given as goal
 
 abbrev pub invariant-loop-i : goal.invariant-loop-i
