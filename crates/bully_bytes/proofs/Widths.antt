@@ -1,10 +1,14 @@
 -- What owning a table tells of it: the array's length, and that each number fits its width. The paths below follow the order of the fields in crate bully_model.
 use native.Mathlib.Omega.{arith}
-use mathlib.Core.List.{List}
+use mathlib.Core.Path.{◌≡◌, refl, sym, ap, subst}
+use mathlib.Core.List.{List, [], ◌∷◌, map}
+use lib.ListN.{length}
 use mir.Val.{Val}
 use denote.Laws.{Is}
+use denote.Array.{Array}
 use denote.Struct.Declared as struct
 use denote.Enum.Declared as enum
+use Rattle.number_bytes.specs.Bytes.{Each}
 use Rattle.number_bytes.proofs.Widths.{array_fits}
 use Rattle.bully_model.specs.declared.Place.{Place}
 use Rattle.bully_model.specs.declared.Place.TheVariants.{Idle, Asking, Halting, Announcing, Point, Handing, Checking, Contacting}
@@ -37,7 +41,16 @@ node_fits c g =
       place = parts_fit c.place h.1.1.0;
     }
 
+map_identity : {A : Type 0} (xs : List A) → map (λ x. x) xs ≡ xs
+map_identity [] = refl
+map_identity {A} (x ∷ xs) = ap (λ (r : List A). x ∷ r) (map_identity xs)
+
+records_fit : (cs : List Node) {vs : List Val} → Is (Array (struct.row node.the_type) 16) cs vs → (length cs ≡ 16) × Each NodeFits cs
+records_fit cs {vs} g =
+    array_fits (struct.row node.the_type) (λ c. c) NodeFits (λ c us f. node_fits c {vs = us} f) 16 cs {vs = vs}
+    (subst (λ (l : List Node). Is (Array (struct.row node.the_type) 16) l vs) (sym (map_identity cs)) g)
+
 pub table_fits : (t : Table) {vs : List Val} → Is (struct.row table.the_type) t vs → Fits t
-table_fits t g =
+table_fits t {vs} g =
     let f = g.1.1 in
-    record { n = f.0.1; nodes = array_fits (node.the_field).row (node.the_field).into NodeFits (λ c vs g. node_fits c {vs = vs} g) 16 t.nodes f.1.0 }
+    record { n = f.0.1; nodes = records_fit t.nodes f.1.0 }

@@ -1,9 +1,9 @@
 -- Laws for the code over a table: what a table's array is, the record of a node and one stored, and the bounds of a set's highest node.
 use Prim.Native.Nat.{ℕ, zero, suc, ◌-◌, ◌≤◌, ◌<◌}
 use native.Mathlib.Omega.{arith}
-use mathlib.Core.Path.{◌≡◌, refl, sym, ◌∙◌, ap}
+use mathlib.Core.Path.{◌≡◌, refl, sym, ap}
 use mathlib.Core.List.{List}
-use lib.ListN.{length, get_or, take, set, length-map}
+use lib.ListN.{length, get_or, take, set}
 use lib.Seq.{get_or-take}
 use mir.Val.{Val}
 use denote.Laws.{Is}
@@ -30,7 +30,7 @@ highest_fits s h n = highest_in 16 s (omega arith) (lt_within 16 s h) (omega ari
 
 -- how long it is: `c.good.0` of a parameter and `c.CALL.ok` of a call's result are the relation
 pub sized : (t : Table) {vs : List Val} → Is (row T.the_type) t vs → length t.nodes ≡ 16
-sized t g = sym (length-map t.nodes _) ∙ g.1.1.1.0.1.0.1
+sized t g = g.1.1.1.0.1.0.1
 
 pub nodes_long : (cs : List Node) {vs : List Val} → Is (Array (row node.the_type) 16) cs vs → length cs ≡ 16
 nodes_long cs g = g.1.0.1

@@ -1,5 +1,5 @@
 -- n controllers over one queue answer as the whole table does, event by event: the claims `AnswersAsTable`.
-use Prim.Native.Nat.{ℕ, ◌-◌, ◌≤◌}
+use Prim.Native.Nat.{ℕ, ◌≤◌}
 use native.Mathlib.Omega.{arith}
 use mathlib.Core.Bool.{Bool, true, false, not, ◌&&◌, true≢false}
 use mathlib.Core.Path.{◌≡◌, refl, sym, ◌∙◌, ap}
@@ -29,14 +29,13 @@ use Rattle.model.specs.declared.Outgoing.{Outgoing}
 use Rattle.model.specs.declared.Outgoing.TheVariants.{Nothing, Send}
 use Rattle.model.specs.declared.Input.TheVariants.{Receive}
 use Rattle.model.specs.declared.Event.{Event}
-use Rattle.model.specs.declared.Event.TheVariants as Event
 use Rattle.message_fields.specs.Fields.{fields, message_in, carried}
 use Rattle.message_fields.proofs.RoundTrip.{widths, message_back, fields_message}
 use Rattle.controller.specs.declared.LocalEvent.{LocalEvent}
 use Rattle.controller.specs.declared.LocalEvent.TheVariants.{Crash, Recover, Check, Timeout, Tick, Expire, Finish}
 use Rattle.controller.specs.Controller as controller
 use Rattle.controller.specs.Controller.{Incoming, event, message, as_event, event_of, input_of, reaction_in, sent_bytes, in_range_for, wrong_number_in, wrong_task_in, wrong_message, is_for_other, controller_grounds, controller_step}
-use Rattle.controller.specs.Network.{Controllers, at_controller, Network, network_of, waits_in, without_in, Result, refused, accepted, stored, answered_by, step_by, network_step}
+use Rattle.controller.specs.Network.{Controllers, at_controller, Network, network_of, waits_in, without_in, refused, accepted, stored, answered_by, step_by, network_step}
 use Rattle.controller.specs.Claims.{result_of, belongs_to_queue, incoming_at, answer_at, AnswersAsTable}
 use Rattle.controller.proofs.Queue.{waits_bytes, oldest_bytes, without_bytes, queued_sent, full_is}
 use Rattle.controller.proofs.Carried.{react_carried}

@@ -9,6 +9,7 @@ use lib.ListN.{length-map}
 use borrow.Author.Tests.{le-leb, not-false}
 use Rattle.model.specs.Pick.{pick}
 use Rattle.model.specs.Limits.{node_limit}
+use Rattle.model.specs.History.{coming}
 use Rattle.model.specs.Range.{LeftOut, node_in_range, message_in_range}
 use Rattle.model.specs.State.{State, start_by, node_at, goes, waits, without_oldest, every, in_range}
 use Rattle.model.specs.Step as table
@@ -30,12 +31,11 @@ use Rattle.model.specs.declared.Outgoing.TheVariants.{Nothing, Send}
 use Rattle.model.specs.declared.Mark.{Mark}
 use Rattle.model.specs.declared.Reaction.{Reaction}
 use Rattle.model.specs.declared.Event.{Event}
-use Rattle.model.specs.declared.Event.TheVariants as Event
 use Rattle.message_fields.specs.Fields.{fields, message_in, carried}
 use Rattle.message_fields.proofs.RoundTrip.{widths, message_back, fields_message}
 use Rattle.controller.specs.Controller.{Incoming, reaction_in, controller_step}
-use Rattle.controller.specs.Network.{Network, start_network, network_of, Result, refused, accepted, Controllers, step_by, network_after, run_by, network_step}
-use Rattle.controller.specs.Claims.{result_of, forms_at, EachGroupIn, UnsentIn, LacksIn, NetworkFixes, EachMessage, NetworkInRange}
+use Rattle.controller.specs.Network.{Network, start_network, network_of, refused, accepted, Controllers, step_by, network_after, run_by, network_step}
+use Rattle.controller.specs.Claims.{result_of, forms_at, EachGroupIn, UnsentIn, LacksIn, history_of, NetworkFixes, EachMessage, NetworkInRange}
 use Rattle.controller.proofs.Queue.{oldest_bytes}
 use Rattle.controller.proofs.Carried.{SentCarried, sends_carried}
 use Rattle.controller.proofs.Alike.{deliver_reacts}
@@ -255,7 +255,9 @@ module _ (f : Controllers) (same_answer : (n i : ℕ) (c : Node) (x : Incoming) 
           borrowed_messages = λ es e u h.
               let a = accepted_in es e u h in
               rw (a.network, run_is es)
-              (each_in (table_of es).n (in_range_size (table_of es) (ok es)).1 _ _
+              (each_in (table_of es).n (in_range_size (table_of es) (ok es)).1
+              (λ g. Lacks (table_of es) g → (forms a.mark ≡ true) × (g ≡ coming (history_of n limit es) (actor e)))
+              (λ g. LacksIn (network_of (table_of es)) g → (forms_at (network_of (table_of es)) e ≡ true) × (g ≡ coming (history_of n limit es) (actor e)))
               (λ g p z. let q = p (in_lacks (table_of es) (ok es) (all_carried es) g z) in (forms_is (table_of es) e a.state a.mark a.accepts ∙ q.0, q.1))
               1 a.state.queue (queue_in es e u a) (queue_carried es e u a) (x.borrowed_messages es e a.state a.mark a.accepts));
           formed_once = λ es e u h t. let a = accepted_in es e u h in x.formed_once es e a.state a.mark a.accepts (forms_in es e u a t);

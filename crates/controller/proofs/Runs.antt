@@ -13,7 +13,6 @@ use Rattle.model.proofs.InRange.{start_small, start_in, run_in}
 use Rattle.model.proofs.Traffic.{SentWithin, within_not_seventeen, run_within, start_within}
 use Rattle.model.specs.declared.Limits.{Limits}
 use Rattle.model.specs.declared.Event.{Event}
-use Rattle.model.specs.declared.Event.TheVariants as Event
 use Rattle.controller.specs.Controller.{controller_step}
 use Rattle.controller.specs.Network.{network_of, refused, network_after, run_by, network_step, network_run}
 use Rattle.controller.specs.Claims.{result_of, NeverSeventeen, RunsAsTable}

@@ -20,7 +20,6 @@ use Rattle.model.specs.declared.Event.{Event}
 use Rattle.model.specs.declared.Event.TheVariants.{Crash, Recover, Check, Timeout, Tick, Expire, Finish, Deliver, Lose}
 use Rattle.message_fields.specs.Fields.{fields, message_in, is_message}
 use Rattle.controller.specs.declared.LocalEvent.{LocalEvent}
-use Rattle.controller.specs.declared.LocalEvent.TheVariants as LocalEvent
 use Rattle.controller.specs.declared.ControllerOutcome.{ControllerOutcome}
 use Rattle.controller.specs.Controller as controller
 use Rattle.controller.specs.Controller.{Incoming, event, message, as_event, reaction_in, sent_bytes, in_range_for, controller_grounds, controller_step}

@@ -9,7 +9,6 @@ use Rattle.model.specs.declared.Event.{Event}
 use Rattle.model.specs.declared.Event.TheVariants.{Crash, Recover, Check, Timeout, Tick, Expire, Finish, Deliver, Lose}
 use Rattle.message_fields.specs.Fields.{fields}
 use Rattle.controller.specs.declared.LocalEvent.{LocalEvent}
-use Rattle.controller.specs.declared.LocalEvent.TheVariants as LocalEvent
 use Rattle.controller.specs.Controller as controller
 use Rattle.controller.specs.Controller.{Incoming, event, message, controller_step}
 

@@ -1,7 +1,7 @@
 -- A message on the cable (02, T-11): "A message crosses the cable as tagged fields in the house form: 0x20 sender, receiver and kind; 0x21 call number; 0x22 group; 0x23 task;
 -- 0x24 yes or no as 1 or 0. They take three single bytes, then 4, 4, 2 and 1, high byte first. Fields come in that order, only those that the kind carries, and the kind
 -- number is one byte." What is claimed of these bytes is in Claims.
-use Rattle.std.specs.Prelude.{ℕ, ◌≡◌, Bool, true, false, ◌&&◌, List, [], ◌∷◌, ◌++◌, eqb, length, replicate}
+use Rattle.std.specs.Prelude.{ℕ, ◌≡◌, Bool, ◌&&◌, List, [], ◌++◌, eqb, length, replicate}
 use Rattle.model.specs.Pick.{pick}
 use Rattle.model.specs.Range.{carries_group, message_in_range}
 use Rattle.model.specs.declared.Message.{Message}

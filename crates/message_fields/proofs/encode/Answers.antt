@@ -1,6 +1,5 @@
 -- By the kind: the fields that are written are those that it carries.
 use native.Mathlib.Omega.{arith}
-use borrow.Author.Rules.{rules}
 use Rattle.message_fields.proofs.Forms.{plain_low, plain_high, grouped, ready, reply}
 use Rattle.message_fields.proofs.encode.Goals as goal
 
@@ -16,15 +15,15 @@ returns-in-6 c =
 
 pub returns-in-0-to-1 : goal.returns-in-0-to-1
 returns-in-0-to-1 c =
-    let f = plain_low c.args.m (omega (arith, c.in-0-to-1.if-kind-lt2-own.true)) in
+    let f = plain_low c.args.m (omega arith) in
     rw (f.length, f.bytes) c.put_plain.ensures
 
 pub returns-in-2-to-4 : goal.returns-in-2-to-4
 returns-in-2-to-4 c =
-    let f = grouped c.args.m (omega (arith, c.if-kind-lt2.false)) (omega (arith, c.in-2-to-4.if-kind-lt5-own.true)) in
+    let f = grouped c.args.m (omega arith) (omega arith) in
     rw (f.length, f.bytes) c.put_grouped.ensures
 
 pub returns-in-7-to-255 : goal.returns-in-7-to-255
 returns-in-7-to-255 c =
-    let f = plain_high c.args.m (omega (arith, c.in-7-to-255.if-kind-lt5-own.false, c.in_default-1.rest.0.1, c.in_default-1.rest.1)) in
+    let f = plain_high c.args.m (omega arith) in
     rw (f.length, f.bytes) c.put_plain-in-7-to-255.ensures

@@ -1,5 +1,4 @@
 -- By its test.
-use borrow.Author.Rules.{rules}
 use Rattle.model.specs.Pick.{pick_true, pick_false}
 use Rattle.message_fields.proofs.group_in.Goals as goal
 

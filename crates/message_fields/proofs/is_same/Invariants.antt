@@ -1,12 +1,8 @@
 -- The invariant: whether the whole is the same is whether what is left is.
 use Prim.Native.Nat.{◌-◌, ◌≤◌}
-use native.Mathlib.Omega.{arith}
-use mathlib.Core.Path.{◌≡◌, refl, sym, ◌∙◌}
+use mathlib.Core.Path.{◌≡◌}
 use lib.ListN.{take, drop}
-use borrow.Author.Rules.{rules}
-use borrow.Author.Tests.{eq-eqb, ne_eqb}
 use Rattle.number_bytes.specs.Bytes.{same_bytes}
-use Rattle.message_fields.proofs.Forms.{same_none, same_turn, same_end}
 use Rattle.message_fields.proofs.is_same.Given as goal
 
 abbrev pub invariant-loop-i : goal.invariant-loop-i

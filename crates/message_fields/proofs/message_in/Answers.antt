@@ -1,5 +1,4 @@
 -- Each number is read at its place.
-use borrow.Author.Rules.{rules}
 use Rattle.message_fields.specs.Fields.{message_in}
 use Rattle.message_fields.proofs.message_in.Goals as goal
 

@@ -1,5 +1,4 @@
 -- The number is written behind the head.
-use borrow.Author.Rules.{rules}
 use mathlib.Core.Path.{refl}
 use Rattle.number_bytes.specs.Bytes.{bytes}
 use Rattle.number_bytes.proofs.Numbers.{then}

@@ -1,5 +1,4 @@
 -- By its test.
-use borrow.Author.Rules.{rules}
 use borrow.Author.Tests.{eq-eqb, ne_eqb}
 use Rattle.model.specs.Pick.{pick_true, pick_false}
 use Rattle.message_fields.proofs.task_in.Goals as goal

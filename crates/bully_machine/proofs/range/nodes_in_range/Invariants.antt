@@ -1,0 +1,13 @@
+-- `nodes_in_range` meets its contract: the answer is that of the elements from k on.
+use Prim.Native.Nat.{◌≤◌, ◌-◌, ◌+◌}
+use mathlib.Core.Path.{◌≡◌}
+use lib.ListN.{drop, take}
+use Rattle.bully_model.specs.Range.{node_in_range}
+use Rattle.model.specs.State.{every}
+use Rattle.bully_machine.proofs.range.nodes_in_range.Given as goal
+
+abbrev pub invariant-loop-k : goal.invariant-loop-k
+invariant-loop-k l = (l.k ≤ l.end) × (every (node_in_range l.n) 1 (take l.n l.nodes) ≡ every (node_in_range l.n) (l.k + 1) (drop l.k (take l.n l.nodes)))
+
+abbrev pub decreases-loop-k : goal.decreases-loop-k
+decreases-loop-k l = l.end - l.k
