@@ -15,9 +15,6 @@ returns-then-not-some_wait c =
     nothing c.args.t c.args.p c.requires c.next_pair-next.result c.outcome_of.result (sym c.some_wait.ensures ∙ not-true _ (ap not c.if-not-some_wait.true)) c.next_pair-next.ensures
     c.outcome_of.ensures
 
-pub advance-o-requires : goal.advance-o-requires
-advance-o-requires c = c.requires.in_range_lem
-
 pub lose-requires : goal.lose-requires
 lose-requires c =
     losing c.args.t c.args.p c.requires c.next_pair-next.result c.advance-o.result (sym c.some_wait.ensures ∙ not-false _ (ap not c.if-not-some_wait.false)) c.advance-o.ensures

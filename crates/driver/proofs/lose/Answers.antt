@@ -2,9 +2,6 @@
 use Rattle.driver.proofs.Turns.{lost}
 use Rattle.driver.proofs.lose.Goals as goal
 
-pub advance-o-requires : goal.advance-o-requires
-advance-o-requires c = c.requires.looks.in_range_lem
-
 pub returns : goal.returns
 returns c =
     let o = c.advance-o in

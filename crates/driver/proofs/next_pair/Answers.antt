@@ -1,13 +1,8 @@
 -- `next_pair` meets its contract: by the two tests, what `next_receiver` and `pair` ensure.
 use borrow.Author.Tests.{le-leb, lt-leb, lt-ltb, le-ltb}
-use native.Mathlib.Omega.{arith}
 use Rattle.model.specs.Pick.{pick}
 use Rattle.round.specs.Order.{next_pair}
-use Rattle.round.proofs.Order.{pair_is}
 use Rattle.driver.proofs.next_pair.Goals as goal
-
-pub next_receiver-c-requires : goal.next_receiver-c-requires
-next_receiver-c-requires c = let x = pair_is c.args.n c.args.p c.requires.1 in omega (arith, x.receiver_high, c.requires.0)
 
 pub returns-then-c-n : goal.returns-then-c-n
 unfolding next_pair pick

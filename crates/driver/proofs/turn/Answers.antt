@@ -27,7 +27,3 @@ returns-then-not-is_pair c =
     (turn_rules.no_pair (view c.args.t) c.args.p (sym c.in_range.ensures ∙ not-false _ (ap not c.if-not-in_range.false)) c.if-t-eq1.false
     (sym c.is_pair.ensures ∙ not-true _ (ap not c.if-not-is_pair.true)))
     c.outcome_of-then-not-is_pair.ensures
-
-pub look-requires : goal.look-requires
-look-requires c =
-    record { in_range_lem = sym c.in_range.ensures ∙ not-false _ (ap not c.if-not-in_range.false); in_round = sym c.is_pair.ensures ∙ not-false _ (ap not c.if-not-is_pair.false) }
