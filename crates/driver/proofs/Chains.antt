@@ -15,7 +15,6 @@ use Rattle.model.specs.declared.Answer.{Answer}
 use Rattle.model.specs.declared.Answer.TheVariants.{Accepted}
 use Rattle.machine.specs.Stepped.{Stepped}
 use Rattle.machine.specs.Folded.{Folded}
-use Rattle.machine.specs.Folded as Folded
 use Rattle.machine.proofs.Runs.{folded_append, answer_known, chain_runs, chain_fixes, chain_both}
 use Rattle.round.specs.Turn.{Turn, turn_refused, turn_accepted, turn_at, turn_number, done_in, event_of}
 use Rattle.round.specs.Schedule.{Move, turn, Drive, drive, moved, driven, events_of, pair_queue, Waits, message_at, out_in}

@@ -5,7 +5,6 @@ use Rattle.model.specs.Limits.{node_limit}
 use Rattle.model.specs.declared.Limits.{Limits}
 use Rattle.model.specs.declared.Table.{Table}
 use Rattle.model.specs.declared.Event.{Event}
-use Rattle.machine.specs.Folded as Folded
 use Rattle.machine.specs.Folded.{Folded}
 use Rattle.machine.specs.Claims.{CodeRuns, CodeFixes}
 use Rattle.machine.proofs.Runs.{chain_runs, chain_fixes, chain_both}

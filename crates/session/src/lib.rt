@@ -16,7 +16,7 @@ pub fn apply(table: &mut Table, event: Event) -> Answer
     o.answer
 }
 
-// The same on a copy of the table, which is lent to `apply` and returned: for callers that hold a table by value and are proved without a walk.
+// The same on a copy of the table, which is lent to `apply` and returned: for callers that hold a table by value.
 pub fn stepped_in_place(t: Table, e: Event) -> Outcome
     ensures { Stepped t e result }
 {
