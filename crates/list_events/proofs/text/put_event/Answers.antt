@@ -30,6 +30,9 @@ put_two-requires c = omega (arith, task_short {i = c.in-Finish.i} {x = c.in-Fini
 pub put_two-requires-in-Deliver : goal.put_two-requires-in-Deliver
 put_two-requires-in-Deliver c = omega (arith, two_short {i = c.in-Deliver.a} {x = c.in-Deliver.b} (omega arith) (omega arith))
 
+pub put_two-requires-in-Lose : goal.put_two-requires-in-Lose
+put_two-requires-in-Lose c = omega (arith, two_short {i = c.in-Lose.a} {x = c.in-Lose.b} (omega arith) (omega arith))
+
 pub returns-in-Crash : goal.returns-in-Crash
 unfolding event_text name_of
 returns-in-Crash c =
