@@ -64,6 +64,7 @@ number_of (m ∷ ms) l a = by (same_list m l) refl a (number_of ms l)
     by true q b f = rw (q, pick_true) (omega arith, list_same m l q)
     by false q (inl e) f = absurd (true≢false (sym (list_self l) ∙ subst (λ x. same_list x l ≡ false) (sym e) q))
     by false q (inr b) f = let r = f b in let h = r.0 in rw (q, pick_false) (omega (arith, h), r.1)
+number_of [] l a = elim a [ ]
 
 -- where they ascend in an order in which nothing is before itself, the list at place b has the number b
 module _ (R : List Event → List Event → Type 0) (never : (l : List Event) → R l l → ⊥) where
