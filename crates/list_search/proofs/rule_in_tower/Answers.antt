@@ -1,0 +1,6 @@
+-- `list_search::rule_in_tower` meets its contract: what `rule` ensures, with the tower's limit.
+use borrow.Author.Rules.{rules}
+use Rattle.list_search.proofs.rule_in_tower.Goals as goal
+
+pub returns : goal.returns
+returns c = rw c.tower-limits.ensures at c.rule.ensures
