@@ -13,7 +13,6 @@ use Rattle.model.specs.Pick.{pick, by_test}
 use Rattle.event_list.specs.declared.Stop.{Stop}
 use Rattle.event_list.specs.declared.Stop.TheVariants.{TooLong, CutShort, WrongTag, WrongLength, WrongCount}
 use Rattle.event_list.specs.declared.Field.{Field}
-use Rattle.event_list.specs.declared.Field.TheVariants as Field
 use Rattle.event_list.specs.declared.Next.TheVariants as Next
 use Rattle.event_list.specs.declared.First.TheVariants as First
 use Rattle.event_list.specs.Format.{stop_number, max_bytes, between, two_bytes, tag_at, length_at, contents_at, behind, cut_short, field_at, checked, next_at, first_of}

@@ -14,9 +14,7 @@ use Rattle.model.specs.declared.Limits.{Limits}
 use Rattle.model.specs.declared.Event.{Event}
 use Rattle.event_list.specs.declared.Stop.{Stop}
 use Rattle.event_list.specs.declared.Next.{Next}
-use Rattle.event_list.specs.declared.Next.TheVariants as Next
 use Rattle.event_list.specs.declared.First.{First}
-use Rattle.event_list.specs.declared.First.TheVariants as First
 use Rattle.event_list.specs.Format.{max_bytes, between, tag_at, length_at, contents_at, behind, first_tag, event_tag, length_of, cut_short, checked, next_at, limits_of, nodes_of, first_of, Ending, complete, stopped, ended, after, onward, read_from, rest, failed, begun, reading}
 use Rattle.event_list.specs.Claims.{ReadsAll}
 use Rattle.event_list.proofs.Fields.{uncut, next_end}

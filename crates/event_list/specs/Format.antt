@@ -10,11 +10,8 @@ use Rattle.model.specs.declared.Event.TheVariants.{Crash, Recover, Check, Timeou
 use Rattle.event_list.specs.declared.Stop.{Stop}
 use Rattle.event_list.specs.declared.Stop.TheVariants.{TooLong, CutShort, WrongTag, WrongLength, WrongCount}
 use Rattle.event_list.specs.declared.Field.{Field}
-use Rattle.event_list.specs.declared.Field.TheVariants as Field
 use Rattle.event_list.specs.declared.Next.{Next}
-use Rattle.event_list.specs.declared.Next.TheVariants as Next
 use Rattle.event_list.specs.declared.First.{First}
-use Rattle.event_list.specs.declared.First.TheVariants as First
 
 -- the "No." of each ground: "Refusals 2 to 6 end the list"
 abbrev pub stop_number : Stop → ℕ

@@ -5,9 +5,7 @@ use Rattle.model.specs.declared.Limits.{Limits}
 use Rattle.model.specs.declared.Event.{Event}
 use Rattle.event_list.specs.declared.Stop.TheVariants.{WrongTag, WrongLength}
 use Rattle.event_list.specs.declared.Next.{Next}
-use Rattle.event_list.specs.declared.Next.TheVariants as Next
 use Rattle.event_list.specs.declared.First.{First}
-use Rattle.event_list.specs.declared.First.TheVariants as First
 use Rattle.event_list.specs.Format.{first_tag, event_tag, length_of, event_of, limits_of, nodes_of}
 
 -- ground 5 of an event's field

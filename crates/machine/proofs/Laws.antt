@@ -1,13 +1,13 @@
 -- Laws of lists for the table's loops, and what a table's arrays are: the first n records and the first waiting places.
-use Prim.Native.Nat.{ℕ, suc, ◌+◌, ◌-◌, ◌≤◌, ◌<◌}
+use Prim.Native.Nat.{ℕ, suc, ◌+◌, ◌≤◌, ◌<◌}
 use native.Mathlib.Numerals.{add-one}
 use native.Mathlib.Omega.{arith}
 use native.Mathlib.Nat.{le_trans}
 use mathlib.Core.Path.{◌≡◌, refl, sym, ◌∙◌, ap}
 use mathlib.Core.List.{List, [], ◌∷◌, ◌++◌, append-nil}
 use mathlib.Core.Bool.{Bool, true, false, not, ◌&&◌, true≢false}
-use mathlib.Core.Logic.{◌⊎◌, ⊎_elim}
-use lib.ListN.{length, get_or, take, drop, set, length-map, length-set, length-take, drop_of_length-le}
+use mathlib.Core.Logic.{⊎_elim}
+use lib.ListN.{length, get_or, take, drop, set, length-set, length-take, drop_of_length-le}
 use lib.Seq.{drop-cons, drop-set-lt, take-set-lt, take-suc-set, take-take, append_snoc, get_or-take, length-take-le, take_all}
 use mir.Val.{Val}
 use denote.Laws.{Is}

@@ -16,7 +16,7 @@ use Rattle.model.specs.Counts.{pair_place, one_more}
 use Rattle.model.specs.Range.{is_pair, message_in_range, count_in_range}
 use Rattle.model.specs.State.{starting_node, node_at, no_message, waits, oldest, every, in_range, first_of, view}
 use Rattle.model.specs.Grounds.{first}
-use Rattle.model.specs.Step.{actor, reaction_to, remaining, sent, with_sent, with_delivered, with_lost, effect, wrong_number, is_sending, pair_at_end}
+use Rattle.model.specs.Step.{actor, reaction_to, remaining, with_sent, with_delivered, with_lost, effect, wrong_number, is_sending, pair_at_end}
 use Rattle.model.proofs.Judged.{Clear}
 use Rattle.model.proofs.Local.{both_left, both_right}
 use Rattle.model.proofs.Fields.{in_range_within, in_range_own, count_facts, in_range_size, in_range_each, in_range_node, in_range_oldest}

@@ -16,7 +16,6 @@ use Rattle.model.specs.declared.Outgoing.{Outgoing}
 use Rattle.model.specs.declared.Outgoing.TheVariants.{Nothing, Send}
 use Rattle.model.specs.declared.Reaction.{Reaction}
 use Rattle.model.specs.declared.Input.{Input}
-use Rattle.model.specs.declared.Input.TheVariants as Input
 use Rattle.node_step.specs.Fits.{Fits}
 use Rattle.node_step.specs.Grounds.{number_grounds, node_grounds, own_end_grounds}
 use Rattle.machine.specs.declared.Verdict.{Verdict}

@@ -31,7 +31,6 @@ use Rattle.model.specs.declared.Mark.{Mark}
 use Rattle.model.specs.declared.Mark.TheVariants.{Plain, Recovers, Merges}
 use Rattle.model.specs.declared.Reaction.{Reaction}
 use Rattle.model.specs.declared.Input.{Input}
-use Rattle.model.specs.declared.Input.TheVariants as Input
 use Rattle.model.specs.declared.Event.{Event}
 
 -- ── the message of each procedure ──

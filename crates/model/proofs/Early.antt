@@ -15,7 +15,7 @@ use borrow.Author.Tests.{not-false, eqb-true, eqb-false, eq-eqb}
 use Rattle.node_set.specs.NodeSet.{with}
 use Rattle.model.specs.Pick.{pick, by_test}
 use Rattle.model.specs.Node.{is_down, is_normal, is_idle, is_collecting, tasked, merged, invited, joined}
-use Rattle.model.specs.Procedures.{reaction, stays, answers, recovers, invite_next, merges, hand_next, finishes, forward_next, asked_all, ask_at, ask_after}
+use Rattle.model.specs.Procedures.{stays, answers, recovers, invite_next, merges, hand_next, finishes, forward_next, asked_all, ask_at, ask_after}
 use Rattle.model.specs.React.{leads, checked, timed_out, ticked, expired, resumed, on_are_you_coordinator, on_are_you_there, on_invitation, on_accept, on_ready, on_reply, received, react}
 use Rattle.model.specs.Range.{is_node}
 use Rattle.model.specs.State.{State, starting_node, start, node_at, goes, waits, oldest}
@@ -38,7 +38,6 @@ use Rattle.model.specs.declared.Outgoing.TheVariants.{Nothing, Send}
 use Rattle.model.specs.declared.Mark.{Mark}
 use Rattle.model.specs.declared.Mark.TheVariants.{Plain, Merges}
 use Rattle.model.specs.declared.Reaction.{Reaction}
-use Rattle.model.specs.declared.Input.TheVariants as Input
 use Rattle.model.specs.declared.Event.{Event}
 use Rattle.model.specs.declared.Event.TheVariants.{Crash, Recover, Check, Timeout, Tick, Expire, Finish, Deliver, Lose}
 

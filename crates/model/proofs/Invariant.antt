@@ -1,12 +1,12 @@
 -- The invariant of a table beside its history, and how it passes from one history to a larger one. All of it speaks of one record or one message and the history.
-use Prim.Native.Nat.{ℕ, zero, suc, ◌+◌, ◌-◌, ◌*◌, ◌/◌, ◌%◌, ◌<◌, ◌≤◌}
+use Prim.Native.Nat.{ℕ, ◌+◌, ◌<◌, ◌≤◌}
 use native.Mathlib.Omega.{arith}
 use native.Mathlib.Nat.{le_trans, le_refl}
 use mathlib.Core.Bool.{Bool, true, false}
-use mathlib.Core.Path.{◌≡◌, refl, sym, ◌∙◌, ap, subst}
+use mathlib.Core.Path.{◌≡◌, refl, sym, ◌∙◌, ap}
 use lib.Dec.{eqb}
 use borrow.Author.Tests.{eqb-true, eq-eqb, ne_eqb}
-use Rattle.model.specs.Pick.{pick, pick_true, pick_false, by_test}
+use Rattle.model.specs.Pick.{pick_true, pick_false, by_test}
 use Rattle.model.specs.Node.{owner_of, counter_of, group_of}
 use Rattle.model.specs.History.{Entry, NotFormed, NoTask, Task, History, updated, newest, coming, formed, marked}
 use Rattle.model.specs.declared.Status.{Status}

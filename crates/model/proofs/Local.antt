@@ -1,17 +1,17 @@
 -- A reaction of one node keeps the invariant: one lemma a procedure.
-use Prim.Native.Nat.{ℕ, zero, suc, ◌+◌, ◌-◌, ◌*◌, ◌/◌, ◌%◌, ◌<◌, ◌≤◌}
+use Prim.Native.Nat.{ℕ, ◌+◌}
 use native.Mathlib.Omega.{arith}
-use mathlib.Core.Bool.{Bool, true, false, ◌&&◌, not, true≢false}
-use mathlib.Core.Path.{◌≡◌, refl, sym, ◌∙◌, ap, subst}
+use mathlib.Core.Bool.{Bool, true, false, ◌&&◌, true≢false}
+use mathlib.Core.Path.{◌≡◌, refl, sym, ◌∙◌, ap}
 use lib.Dec.{eqb}
 use borrow.Author.Tests.{eqb-true}
 use Rattle.node_set.specs.NodeSet.{with}
 use Rattle.model.specs.Pick.{pick, by_test}
-use Rattle.model.specs.Node.{is_down, is_election, is_reorganization, is_normal, is_collecting, owner_of, group_of, turned, calling, settled, tasked, joined, merged, invited, replies}
+use Rattle.model.specs.Node.{is_down, is_reorganization, is_collecting, owner_of, group_of, turned, calling, settled, tasked, merged, invited, replies}
 use Rattle.model.specs.Procedures.{stays, answers, recovers, invite_next, merges, hand_next, finishes, forward_next, asked_all, ask_at, ask_after}
 use Rattle.model.specs.React.{checked, timed_out, ticked, expired, resumed, on_are_you_coordinator, on_are_you_there, on_invitation, on_accept, on_ready, on_reply, received, react}
-use Rattle.model.specs.History.{Entry, NotFormed, NoTask, Task, History, marked, newest, coming, formed}
-use Rattle.model.proofs.Invariant.{updated_same, NodeNumber, Phase, Free, Gathers, Hands, phase, Gathering, Fixed, PhaseOk, Led, Settled, Counted, NodeOk, When, MessageOk, OutgoingOk, MarkOk, ReactionOk, owner_of_lem, counter_of_lem, tasked_newest, tasked_extends}
+use Rattle.model.specs.History.{Entry, NoTask, Task, History, marked, newest, coming, formed}
+use Rattle.model.proofs.Invariant.{updated_same, NodeNumber, Phase, Free, Gathers, Hands, phase, Gathering, Fixed, PhaseOk, Led, Counted, NodeOk, MessageOk, MarkOk, ReactionOk, owner_of_lem, counter_of_lem, tasked_newest}
 use Rattle.model.specs.declared.Status.{Status}
 use Rattle.model.specs.declared.Status.TheVariants.{Down, Election, Reorganization, Normal}
 use Rattle.model.specs.declared.Activity.{Activity}
@@ -21,7 +21,7 @@ use Rattle.model.specs.declared.CallNo.{CallNo}
 use Rattle.model.specs.declared.TaskNo.{TaskNo}
 use Rattle.model.specs.declared.Message.{Message}
 use Rattle.model.specs.declared.Mark.{Mark}
-use Rattle.model.specs.declared.Mark.TheVariants.{Plain, Recovers, Merges}
+use Rattle.model.specs.declared.Mark.TheVariants.{Plain, Merges}
 use Rattle.model.specs.declared.Input.{Input}
 use Rattle.model.specs.declared.Input.TheVariants.{Crash, Recover, Check, Timeout, Tick, Expire, Finish, Receive}
 

@@ -1,6 +1,6 @@
 -- The node of an accepted event is 1 to n.
 use Prim.Native.Nat.{ℕ, ◌≤◌}
-use mathlib.Core.Bool.{Bool, true, false, not, ◌&&◌}
+use mathlib.Core.Bool.{true, false, not, ◌&&◌}
 use mathlib.Core.Path.{◌≡◌}
 use lib.Dec.{leb}
 use borrow.Author.Tests.{leb-true, not-false}

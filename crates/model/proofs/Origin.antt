@@ -1,17 +1,17 @@
 -- Where groups come from: a reaction that forms no group keeps its node's, or takes that of the message that it acts on; a message out carries its sender's.
 use Prim.Native.Nat.{ℕ, ◌+◌}
-use mathlib.Core.Bool.{Bool, true, false, ◌&&◌, ◌||◌, true≢false}
+use mathlib.Core.Bool.{Bool, true, false, ◌||◌, true≢false}
 use mathlib.Core.Logic.{◌⊎◌, inl, inr}
 use mathlib.Core.Path.{◌≡◌, refl, sym, ◌∙◌, ap}
 use mathlib.Core.List.{List, [], ◌∷◌}
 use Rattle.node_set.specs.NodeSet.{with}
 use Rattle.model.specs.Pick.{pick, by_test}
 use Rattle.model.specs.Node.{invited}
-use Rattle.model.specs.Procedures.{stays, recovers, invite_next, merges, hand_next, finishes, forward_next, asked_all, ask_at, ask_after}
+use Rattle.model.specs.Procedures.{recovers, invite_next, merges, hand_next, finishes, forward_next, asked_all, ask_at, ask_after}
 use Rattle.model.specs.React.{checked, timed_out, ticked, expired, resumed, on_are_you_coordinator, on_are_you_there, on_invitation, on_accept, on_ready, on_reply, received, react}
 use Rattle.model.specs.Range.{carries_group}
 use Rattle.model.specs.State.{State, node_at, goes, waits, oldest}
-use Rattle.model.specs.Step.{actor, reaction_to, none_waits, forms}
+use Rattle.model.specs.Step.{reaction_to, forms}
 use Rattle.model.specs.Claims.{Unsent}
 use Rattle.model.specs.declared.Activity.{Activity}
 use Rattle.model.specs.declared.Activity.TheVariants.{Idle, Asking, Waiting, Inviting, Collecting, Handing, Contacting, Forwarding, Accepting}
@@ -22,7 +22,7 @@ use Rattle.model.specs.declared.Message.{Message}
 use Rattle.model.specs.declared.Outgoing.{Outgoing}
 use Rattle.model.specs.declared.Outgoing.TheVariants.{Nothing, Send}
 use Rattle.model.specs.declared.Mark.{Mark}
-use Rattle.model.specs.declared.Mark.TheVariants.{Plain, Recovers, Merges}
+use Rattle.model.specs.declared.Mark.TheVariants.{Plain, Merges}
 use Rattle.model.specs.declared.Reaction.{Reaction}
 use Rattle.model.specs.declared.Event.{Event}
 use Rattle.model.specs.declared.Event.TheVariants.{Crash, Recover, Check, Timeout, Tick, Expire, Finish, Deliver, Lose}

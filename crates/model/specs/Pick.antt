@@ -1,5 +1,5 @@
 -- Choice by a test, and its laws. It stays shut: a proof opens it by `unfolding pick`, or goes by cases with `by_test`.
-use Rattle.std.specs.Prelude.{ℕ, Bool, true, false, ◌≡◌, refl}
+use Rattle.std.specs.Prelude.{Bool, true, false, ◌≡◌, refl}
 
 -- a where the test holds, else b
 unfoldable pub pick {ℓ} : {A : Type ℓ} → Bool → A → A → A

@@ -1,14 +1,12 @@
 -- The procedures of one node: what it does next, each as a reaction (its new record, the message out or none, the mark for the history).
 -- No procedure speaks of a refusal: Step holds the grounds.
-use Rattle.std.specs.Prelude.{ℕ, ◌+◌, ◌-◌, Bool, true, false, not, eqb, leb, ltb}
+use Rattle.std.specs.Prelude.{ℕ, ◌+◌, ◌-◌, Bool, not, eqb, leb, ltb}
 use Rattle.node_set.specs.NodeSet.{without, highest}
 use Rattle.model.specs.Pick.{pick}
 use Rattle.model.specs.Node.{next_call, turned, calling, settled, tasked, merged, asks, calls, readies, replies}
 use Rattle.model.specs.Recovery.{recovered}
-use Rattle.model.specs.declared.Status.{Status}
-use Rattle.model.specs.declared.Status.TheVariants.{Down, Election, Reorganization, Normal}
-use Rattle.model.specs.declared.Activity.{Activity}
-use Rattle.model.specs.declared.Activity.TheVariants.{Idle, Asking, Waiting, Inviting, Collecting, Handing, Contacting, Forwarding, Accepting}
+use Rattle.model.specs.declared.Status.TheVariants.{Reorganization, Normal}
+use Rattle.model.specs.declared.Activity.TheVariants.{Idle, Asking, Waiting, Inviting, Collecting, Handing, Forwarding, Accepting}
 use Rattle.model.specs.declared.Node.{Node}
 use Rattle.model.specs.declared.CallNo.{CallNo}
 use Rattle.model.specs.declared.TaskNo.{TaskNo}

@@ -6,18 +6,14 @@ use Rattle.node_set.specs.NodeSet.{has, with}
 use Rattle.model.specs.Pick.{pick}
 use Rattle.model.specs.Node.{is_election, is_reorganization, is_normal, owner_of, next_call, turned, calling, settled, tasked, joined, invited, calls, replies}
 use Rattle.model.specs.Procedures.{reaction, stays, answers, recovers, invite_next, merges, hand_next, finishes, forward_next, ask_after}
-use Rattle.model.specs.declared.Status.{Status}
-use Rattle.model.specs.declared.Status.TheVariants.{Down, Election, Reorganization, Normal}
+use Rattle.model.specs.declared.Status.TheVariants.{Down, Reorganization, Normal}
 use Rattle.model.specs.declared.Activity.{Activity}
 use Rattle.model.specs.declared.Activity.TheVariants.{Idle, Asking, Waiting, Inviting, Collecting, Handing, Contacting, Forwarding, Accepting}
 use Rattle.model.specs.declared.Node.{Node}
-use Rattle.model.specs.declared.TaskNo.{TaskNo}
 use Rattle.model.specs.declared.GroupNo.{GroupNo}
 use Rattle.model.specs.declared.Message.{Message}
-use Rattle.model.specs.declared.Outgoing.{Outgoing}
-use Rattle.model.specs.declared.Outgoing.TheVariants.{Nothing, Send}
-use Rattle.model.specs.declared.Mark.{Mark}
-use Rattle.model.specs.declared.Mark.TheVariants.{Plain, Recovers, Merges}
+use Rattle.model.specs.declared.Outgoing.TheVariants.{Send}
+use Rattle.model.specs.declared.Mark.TheVariants.{Plain}
 use Rattle.model.specs.declared.Reaction.{Reaction}
 use Rattle.model.specs.declared.Input.{Input}
 use Rattle.model.specs.declared.Input.TheVariants.{Crash, Recover, Check, Timeout, Tick, Expire, Finish, Receive}

@@ -1,5 +1,5 @@
 -- The step: the table of grounds, the effect of an event, and runs.
-use Rattle.std.specs.Prelude.{ℕ, ◌+◌, ◌-◌, Bool, true, false, not, ◌&&◌, List, [], ◌∷◌, ◌++◌, eqb, ltb, length, set}
+use Rattle.std.specs.Prelude.{ℕ, ◌-◌, Bool, true, false, not, ◌&&◌, List, [], ◌∷◌, ◌++◌, eqb, ltb, length, set}
 use Rattle.model.specs.Grounds.{Ground, ground, judged}
 use Rattle.model.specs.Limits.{counter_end, call_end, traffic_end}
 use Rattle.model.specs.Counts.{count_at, one_more}
@@ -19,7 +19,6 @@ use Rattle.model.specs.declared.Mark.{Mark}
 use Rattle.model.specs.declared.Mark.TheVariants.{Plain, Recovers, Merges}
 use Rattle.model.specs.declared.Reaction.{Reaction}
 use Rattle.model.specs.declared.Input.{Input}
-use Rattle.model.specs.declared.Input.TheVariants as Input
 use Rattle.model.specs.declared.Event.{Event}
 use Rattle.model.specs.declared.Event.TheVariants.{Crash, Recover, Check, Timeout, Tick, Expire, Finish, Deliver, Lose}
 

@@ -1,5 +1,5 @@
 -- A turn: its refusals, what it does, and that at a pair with a waiting message it takes one out.
-use Prim.Native.Nat.{ℕ, ◌+◌, ◌<◌}
+use Prim.Native.Nat.{ℕ, ◌<◌}
 use native.Mathlib.Omega.{arith}
 use mathlib.Core.Bool.{Bool, true, false, not, ◌&&◌, true≢false, and-false}
 use mathlib.Core.Logic.{◌⊎◌, inl, inr}
@@ -14,7 +14,7 @@ use Rattle.model.specs.Limits.{counter_end, call_end}
 use Rattle.model.specs.Counts.{one, one_more}
 use Rattle.model.specs.Grounds.{judged}
 use Rattle.model.specs.Node.{is_down}
-use Rattle.model.specs.State.{State, starting_node, node_at, no_message, waits, oldest, without_oldest, waiting, in_range}
+use Rattle.model.specs.State.{State, starting_node, node_at, no_message, waits, oldest, without_oldest, in_range}
 use Rattle.model.specs.Step.{reaction_to, remaining, sent, effect, forms, is_calling, is_sending, pair_at_end, grounds, Result, refused, accepted, step, kept, run_from}
 use Rattle.model.specs.Traffic.{tally}
 use Rattle.model.specs.Claims.{Accepts}
@@ -28,7 +28,6 @@ use Rattle.model.proofs.Refusals.{clear_ends}
 use Rattle.model.specs.declared.Node.{Node}
 use Rattle.model.specs.declared.Message.{Message}
 use Rattle.model.specs.declared.Outgoing.{Outgoing}
-use Rattle.model.specs.declared.Outgoing.TheVariants as Outgoing
 use Rattle.model.specs.declared.Outgoing.TheVariants.{Send}
 use Rattle.model.specs.declared.Mark.{Mark}
 use Rattle.model.specs.declared.Mark.TheVariants.{Plain}

@@ -1,5 +1,5 @@
 -- T-05: counts in 16 rows of 16, the most that a count may be, and the sum of a pair. The model has the counts, their rows and their range.
-use Rattle.std.specs.Prelude.{ℕ, ◌+◌, ◌-◌, ◌≤◌, ◌<◌, ◌≡◌, Bool, ◌&&◌, List, [], eqb, leb, get_or, set}
+use Rattle.std.specs.Prelude.{ℕ, ◌+◌, ◌-◌, Bool, ◌&&◌, List, [], eqb, leb, get_or, set}
 use Rattle.model.specs.Counts.{sender_at, receiver_at, count_at}
 use Rattle.model.specs.Limits.{queue_limit, traffic_end}
 use Rattle.model.specs.Pick.{pick}

@@ -1,6 +1,5 @@
 -- The length decides ground 5; `nodes_of` decides 6.
 use borrow.Author.Tests.{eq-eqb, ne_eqb}
-use borrow.Author.Rules.{rules}
 use Rattle.model.specs.Pick.{pick}
 use Rattle.event_list.specs.Parts.{counted_in}
 use Rattle.event_list.proofs.counted.Goals as goal

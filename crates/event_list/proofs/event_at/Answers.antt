@@ -1,7 +1,6 @@
 -- By what stands at the offset: the laws of proofs/Fields, one for each arm.
 use mathlib.Core.Path.{sym, ◌∙◌}
 use native.Mathlib.Omega.{arith}
-use borrow.Author.Rules.{rules}
 use Rattle.event_list.proofs.Fields.{seen, next_end, next_short, next_whole}
 use Rattle.event_list.proofs.event_at.Goals as goal
 

@@ -1,6 +1,5 @@
 -- Each return has the tests of the definition that led there.
 use borrow.Author.Tests.{lt-ltb, le-ltb, le-leb, lt-leb}
-use borrow.Author.Rules.{rules}
 use Rattle.model.specs.Pick.{pick}
 use Rattle.event_list.specs.Format.{cut_short, field_at}
 use Rattle.event_list.proofs.field_at.Goals as goal

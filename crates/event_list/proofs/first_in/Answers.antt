@@ -1,6 +1,5 @@
 -- The tag decides ground 4 and the limits; `counted` decides 5 and 6.
 use borrow.Author.Tests.{ne_eqb}
-use borrow.Author.Rules.{rules}
 use Rattle.model.specs.Pick.{pick}
 use Rattle.event_list.specs.Format.{limits_of, length_of}
 use Rattle.event_list.specs.Parts.{counted_in, first_in}

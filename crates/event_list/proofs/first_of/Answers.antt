@@ -1,7 +1,6 @@
 -- By what stands at offset 0: the laws of proofs/Fields, one for each return.
 use mathlib.Core.Path.{sym, ◌∙◌}
 use native.Mathlib.Omega.{arith}
-use borrow.Author.Rules.{rules}
 use Rattle.event_list.proofs.Fields.{seen, first_long, first_empty, first_short, first_whole}
 use Rattle.event_list.proofs.first_of.Goals as goal
 

@@ -1,5 +1,4 @@
 -- The test is the definition's.
-use borrow.Author.Rules.{rules}
 use Rattle.model.specs.Pick.{pick}
 use Rattle.event_list.specs.Format.{nodes_of}
 use Rattle.event_list.proofs.nodes_of.Goals as goal

@@ -1,5 +1,4 @@
 -- The number is that of the two bytes.
-use borrow.Author.Rules.{rules}
 use Rattle.event_list.proofs.task_of.Goals as goal
 
 pub returns : goal.returns

@@ -1,6 +1,5 @@
 -- `advance` meets its contract: the judgement of the event, by proofs/Judged, with the record and the message as read from the table.
 use mathlib.Core.Bool.{not}
-use borrow.Author.Rules.{rules}
 use borrow.Author.Tests.{not-false, ltb-true}
 use native.Mathlib.Omega.{arith}
 use Prim.Native.Nat.{ℕ, ◌+◌, ◌%◌}

@@ -1,7 +1,6 @@
 -- `begun_answer` meets its contract: the pair first, then what `start_answer` ensures.
 use mathlib.Core.Bool.{not}
 use mathlib.Core.Path.{ap}
-use borrow.Author.Rules.{rules}
 use mathlib.Core.Path.{◌∙◌}
 use Rattle.model.specs.Pick.{pick}
 use Rattle.machine.proofs.begun_answer.Goals as goal

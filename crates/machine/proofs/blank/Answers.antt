@@ -1,5 +1,4 @@
 -- `blank` meets its contract: what `starting_node` ensures.
-use borrow.Author.Rules.{rules}
 use Rattle.machine.proofs.blank.Goals as goal
 
 pub returns : goal.returns

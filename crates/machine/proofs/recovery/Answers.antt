@@ -1,7 +1,6 @@
 -- `recovery` meets its contract: the step's refusal, or the records that `recovery_records` ensures.
 use mathlib.Core.Bool.{not}
 use mathlib.Core.Path.{ap}
-use borrow.Author.Rules.{rules}
 use borrow.Author.Tests.{not-false}
 use mathlib.Core.Path.{sym, ◌∙◌}
 use Rattle.machine.proofs.Laws.{sized}

@@ -1,5 +1,4 @@
 -- `starting` meets its contract: what the callees ensure.
-use borrow.Author.Rules.{rules}
 use mathlib.Core.Path.{◌∙◌, ap}
 use Rattle.model.specs.State.{view}
 use Rattle.machine.proofs.Laws.{start_is}

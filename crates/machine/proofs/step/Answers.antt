@@ -1,9 +1,8 @@
 -- `step` meets its contract: ground 1, and then `advance`.
 use mathlib.Core.Bool.{not}
 use mathlib.Core.Path.{ap}
-use borrow.Author.Rules.{rules}
 use borrow.Author.Tests.{not-true, not-false}
-use mathlib.Core.Path.{◌≡◌, sym, ◌∙◌}
+use mathlib.Core.Path.{sym, ◌∙◌}
 use Rattle.machine.proofs.Parts.{range_refuses}
 use Rattle.machine.proofs.step.Goals as goal
 

@@ -1,5 +1,4 @@
 -- `checked` meets its contract: by the test, what the callees ensure.
-use borrow.Author.Rules.{rules}
 use borrow.Author.Tests.{lt-ltb, le-ltb}
 use Rattle.model.specs.Pick.{pick}
 use Rattle.model.specs.React.{checked}

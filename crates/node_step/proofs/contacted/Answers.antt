@@ -1,5 +1,4 @@
 -- `contacted` meets its contract: by the answer, what the callees ensure.
-use borrow.Author.Rules.{rules}
 use Rattle.model.specs.Pick.{pick}
 use Rattle.node_step.proofs.contacted.Goals as goal
 

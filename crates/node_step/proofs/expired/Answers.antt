@@ -1,5 +1,4 @@
 -- `expired` meets its contract: by the activity, what the callees ensure.
-use borrow.Author.Rules.{rules}
 use Rattle.model.specs.React.{expired}
 use Rattle.node_step.proofs.expired.Goals as goal
 

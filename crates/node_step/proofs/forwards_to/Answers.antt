@@ -1,5 +1,4 @@
 -- `forwards_to` meets its contract: by the test.
-use borrow.Author.Rules.{rules}
 use borrow.Author.Tests.{eq-eqb, ne_eqb}
 use Rattle.model.specs.Pick.{pick}
 use Rattle.node_step.proofs.forwards_to.Goals as goal

@@ -1,5 +1,4 @@
 -- `found_with` meets its contract: by the answer, what `insert` ensures.
-use borrow.Author.Rules.{rules}
 use Rattle.model.specs.Pick.{pick}
 use Rattle.node_step.proofs.found_with.Goals as goal
 

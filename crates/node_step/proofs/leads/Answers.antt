@@ -1,5 +1,4 @@
 -- `leads` meets its contract: what `is_normal` ensures.
-use borrow.Author.Rules.{rules}
 use Rattle.node_step.proofs.leads.Goals as goal
 
 pub returns : goal.returns

@@ -1,5 +1,4 @@
 -- `on_accept` meets its contract: by the test, what the callees ensure.
-use borrow.Author.Rules.{rules}
 use Rattle.model.specs.Pick.{pick}
 use Rattle.model.specs.React.{on_accept}
 use Rattle.node_step.proofs.on_accept.Goals as goal

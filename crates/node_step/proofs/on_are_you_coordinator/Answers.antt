@@ -1,5 +1,4 @@
 -- `on_are_you_coordinator` meets its contract: what the callees ensure.
-use borrow.Author.Rules.{rules}
 use Rattle.model.specs.React.{on_are_you_coordinator}
 use Rattle.node_step.proofs.on_are_you_coordinator.Goals as goal
 

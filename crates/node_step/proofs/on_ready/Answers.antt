@@ -1,5 +1,4 @@
 -- `on_ready` meets its contract: by the test, what the callees ensure.
-use borrow.Author.Rules.{rules}
 use Rattle.model.specs.Pick.{pick}
 use Rattle.model.specs.React.{on_ready}
 use Rattle.node_step.proofs.on_ready.Goals as goal

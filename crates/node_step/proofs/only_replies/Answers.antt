@@ -1,5 +1,4 @@
 -- `only_replies` meets its contract: what `is_normal` and `owner_of` ensure.
-use borrow.Author.Rules.{rules}
 use Rattle.node_step.proofs.only_replies.Goals as goal
 
 pub returns : goal.returns

@@ -1,5 +1,4 @@
 -- `react` meets its contract: by the input, what the callees ensure.
-use borrow.Author.Rules.{rules}
 use Rattle.model.specs.React.{react}
 use Rattle.node_step.proofs.react.Goals as goal
 

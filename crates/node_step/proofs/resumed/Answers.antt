@@ -1,5 +1,4 @@
 -- `resumed` meets its contract: by the activity, what the callees ensure.
-use borrow.Author.Rules.{rules}
 use Rattle.model.specs.React.{resumed}
 use Rattle.node_step.proofs.resumed.Goals as goal
 

@@ -1,5 +1,4 @@
 -- `ticked` meets its contract: by the activity, what the callees ensure.
-use borrow.Author.Rules.{rules}
 use Rattle.model.specs.React.{ticked}
 use Rattle.node_step.proofs.ticked.Goals as goal
 

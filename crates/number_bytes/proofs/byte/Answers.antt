@@ -1,7 +1,6 @@
 -- Past the end stands the default.
 use mathlib.Core.Path.{sym}
 use lib.ListN.{get_or-eq_default}
-use borrow.Author.Rules.{rules}
 use Rattle.number_bytes.proofs.byte.Goals as goal
 
 pub returns-else-k-s : goal.returns-else-k-s

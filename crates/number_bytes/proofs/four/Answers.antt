@@ -1,6 +1,5 @@
 -- The high half comes first.
 use Rattle.number_bytes.proofs.Numbers.{four_is}
-use borrow.Author.Rules.{rules}
 use Rattle.number_bytes.proofs.four.Goals as goal
 
 pub returns : goal.returns

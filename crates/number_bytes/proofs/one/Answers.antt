@@ -1,7 +1,6 @@
 -- The number of one byte is the byte.
 use mathlib.Core.Path.{sym, ◌∙◌}
 use Rattle.number_bytes.proofs.Numbers.{one_is}
-use borrow.Author.Rules.{rules}
 use Rattle.number_bytes.proofs.one.Goals as goal
 
 pub returns : goal.returns

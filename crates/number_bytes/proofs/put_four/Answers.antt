@@ -1,6 +1,5 @@
 -- The high half comes first.
 use Rattle.number_bytes.proofs.Numbers.{four_bytes, length_bytes, written_append}
-use borrow.Author.Rules.{rules}
 use Rattle.number_bytes.proofs.put_four.Goals as goal
 
 pub returns : goal.returns

@@ -1,6 +1,5 @@
 -- The high byte comes first.
 use Rattle.number_bytes.proofs.Numbers.{two_is}
-use borrow.Author.Rules.{rules}
 use Rattle.number_bytes.proofs.two.Goals as goal
 
 pub returns : goal.returns

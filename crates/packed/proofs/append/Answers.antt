@@ -1,11 +1,8 @@
 -- `append` meets its contract, by whether something is sent.
-use borrow.Author.Rules.{rules}
-use Prim.Native.Nat.{ℕ, ◌≤◌, ◌<◌, ◌+◌}
 use native.Mathlib.Omega.{arith}
 use native.Mathlib.Numerals.{add-one}
-use mathlib.Core.Path.{◌≡◌, refl, sym, ◌∙◌, ap}
+use mathlib.Core.Path.{sym}
 use mathlib.Core.List.{append-nil}
-use lib.ListN.{length}
 use lib.Seq.{take-suc-set}
 use Rattle.packed.specs.Packed.{held}
 use Rattle.packed.proofs.Laws.{held_long}

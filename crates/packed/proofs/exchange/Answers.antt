@@ -1,7 +1,6 @@
 -- `exchange` meets its contract: a message goes out and what is sent in, or only that.
-use borrow.Author.Rules.{rules}
 use borrow.Author.Tests.{lt-ltb, le-ltb}
-use Prim.Native.Nat.{ℕ, ◌≤◌, ◌<◌}
+use Prim.Native.Nat.{◌≤◌, ◌<◌}
 use native.Mathlib.Omega.{arith}
 use Rattle.model.specs.Pick.{pick_true, pick_false}
 use Rattle.model.specs.Step.{sent}

@@ -1,14 +1,9 @@
 -- `find` meets its contract: what is found is what is found from i on.
-use borrow.Author.Rules.{rules}
-use Prim.Native.Nat.{ℕ, ◌≤◌, ◌<◌, ◌-◌, ◌+◌}
-use mathlib.Core.Path.{◌≡◌, refl, sym, ◌∙◌, ap}
-use native.Mathlib.Omega.{arith}
-use lib.ListN.{drop, take, length}
-use Rattle.model.specs.State.{no_message}
+use Prim.Native.Nat.{◌≤◌, ◌-◌, ◌+◌}
+use mathlib.Core.Path.{◌≡◌}
+use lib.ListN.{drop, take}
 use Rattle.machine.specs.Parts.{place}
-use Rattle.machine.proofs.Laws.{place_hit, place_miss, place_end}
 use Rattle.packed.specs.Packed.{held}
-use Rattle.packed.proofs.Laws.{held_long, queue_take, found_at}
 use Rattle.packed.proofs.find.Given as goal
 
 abbrev pub invariant-loop-i : goal.invariant-loop-i

@@ -1,6 +1,5 @@
 -- `message_at` meets its contract: the message of the four words.
-use borrow.Author.Rules.{rules}
-use Prim.Native.Nat.{ℕ, ◌%◌}
+use Prim.Native.Nat.{◌%◌}
 use native.Mathlib.Omega.{arith}
 use mathlib.Core.Path.{sym, ◌∙◌}
 use Rattle.model.specs.State.{no_message}

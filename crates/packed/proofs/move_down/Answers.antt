@@ -1,9 +1,7 @@
 -- `move_down` meets its contract: the four words are those of the next message.
-use borrow.Author.Rules.{rules}
-use Prim.Native.Nat.{ℕ, ◌+◌, ◌*◌, ◌<◌}
 use native.Mathlib.Omega.{arith}
-use mathlib.Core.Path.{◌≡◌, refl, sym, ◌∙◌, ap}
-use lib.ListN.{set, length, length-set}
+use mathlib.Core.Path.{sym, ◌∙◌, ap}
+use lib.ListN.{set, length-set}
 use Rattle.model.specs.State.{no_message}
 use Rattle.model.specs.declared.Message.{Message}
 use Rattle.packed.specs.Packed.{held}

@@ -1,5 +1,4 @@
 -- `place_for` meets its contract, by the event.
-use borrow.Author.Rules.{rules}
 use native.Mathlib.Nat.{le_refl}
 use Prim.Native.Nat.{ℕ}
 use mathlib.Core.Bool.{true, false}

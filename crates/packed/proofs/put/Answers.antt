@@ -1,9 +1,6 @@
 -- `put` meets its contract: the four words are the message's.
-use borrow.Author.Rules.{rules}
-use Prim.Native.Nat.{ℕ}
 use native.Mathlib.Omega.{arith}
-use mathlib.Core.Path.{◌≡◌, ◌∙◌, ap}
-use mathlib.Core.List.{List}
+use mathlib.Core.Path.{◌∙◌, ap}
 use lib.ListN.{set, length-set}
 use Rattle.model.specs.declared.Message.{Message}
 use Rattle.packed.specs.Packed.{held}

@@ -1,11 +1,9 @@
 -- `remove` meets its contract: without its message at j, the row is what it is to be.
 use borrow.Author.Rules.{rules}
-use Prim.Native.Nat.{ℕ, ◌≤◌, ◌<◌, ◌-◌, ◌+◌}
-use mathlib.Core.Path.{◌≡◌, refl, sym, ◌∙◌, ap}
+use Prim.Native.Nat.{◌+◌}
+use mathlib.Core.Path.{◌≡◌, refl, sym, ◌∙◌}
 use native.Mathlib.Omega.{arith}
-use lib.ListN.{length, take}
 use Rattle.model.specs.State.{no_message}
-use Rattle.machine.specs.Parts.{without}
 use Rattle.machine.proofs.Laws.{without_turn, without_last_lem}
 use Rattle.packed.specs.Packed.{held}
 use Rattle.packed.proofs.Laws.{held_long}

@@ -1,6 +1,4 @@
 -- `rule` meets its contract: the judgement, with the place and the message as they are found.
-use borrow.Author.Rules.{rules}
-use mathlib.Core.Path.{◌∙◌, sym}
 use Rattle.packed.proofs.rule.Goals as goal
 
 pub judge-requires : goal.judge-requires

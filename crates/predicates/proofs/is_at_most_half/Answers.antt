@@ -1,7 +1,6 @@
 -- `is_at_most_half` meets its contract: a set of at most 16 nodes keeps the sum small.
 use Prim.Native.Nat.{ℕ, ◌≤◌, ◌<◌}
 use native.Mathlib.Omega.{arith}
-use borrow.Author.Rules.{rules}
 use Rattle.node_set.specs.NodeSet.{count}
 use Rattle.node_set.proofs.Laws.{lt_within, count_within}
 use Rattle.predicates.proofs.is_at_most_half.Goals as goal

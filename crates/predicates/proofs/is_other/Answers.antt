@@ -1,5 +1,4 @@
 -- `is_other` meets its contract: what `is_node` ensures.
-use borrow.Author.Rules.{rules}
 use Rattle.predicates.proofs.is_other.Goals as goal
 
 pub returns : goal.returns

@@ -1,5 +1,4 @@
 -- `is_pair` meets its contract: both parts, as the callees ensure them.
-use borrow.Author.Rules.{rules}
 use Rattle.predicates.proofs.is_pair.Goals as goal
 
 pub returns : goal.returns

@@ -1,5 +1,4 @@
 -- `is_set_of_others` meets its contract: what the callees ensure.
-use borrow.Author.Rules.{rules}
 use Rattle.predicates.proofs.is_set_of_others.Goals as goal
 
 pub returns : goal.returns

@@ -1,5 +1,4 @@
 -- `is_tower_or_stand` meets its contract: what the callees ensure.
-use borrow.Author.Rules.{rules}
 use Rattle.predicates.proofs.is_tower_or_stand.Goals as goal
 
 pub returns : goal.returns

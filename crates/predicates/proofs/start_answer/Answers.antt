@@ -1,5 +1,4 @@
 -- `start_answer` meets its contract: what `wrong_count` ensures, either way.
-use borrow.Author.Rules.{rules}
 use Rattle.model.specs.Pick.{pick}
 use Rattle.predicates.proofs.start_answer.Goals as goal
 

@@ -1,10 +1,8 @@
 -- The invariant: the test of the first a senders.
 use borrow.Author.Rules.{rules}
-use Prim.Native.Nat.{◌-◌, ◌≤◌}
 use mathlib.Core.Path.{◌≡◌, refl}
 use native.Mathlib.Omega.{arith}
 use Rattle.model.specs.State.{up_to}
-use Rattle.traffic.specs.Rows.{adding}
 use Rattle.traffic.proofs.Laws.{up_to_more}
 use Rattle.traffic.proofs.adds_up.Goals as goal
 

@@ -1,5 +1,4 @@
 -- `count` meets its contract, by its test.
-use borrow.Author.Rules.{rules}
 use Rattle.model.specs.Pick.{pick}
 use Rattle.traffic.specs.Rows.{one_more_in}
 use Rattle.traffic.proofs.Laws.{numbers}

@@ -1,12 +1,10 @@
 -- The invariant: the test so far, and those of the counts from k on.
 use borrow.Author.Rules.{rules}
-use Prim.Native.Nat.{◌-◌, ◌≤◌}
-use mathlib.Core.Path.{◌≡◌, refl, sym, ◌∙◌}
-use mathlib.Core.Bool.{◌&&◌}
+use mathlib.Core.Path.{refl, sym, ◌∙◌}
 use native.Mathlib.Omega.{arith}
 use borrow.Author.Tests.{eq-eqb}
 use Rattle.model.specs.State.{counts_in_range}
-use Rattle.traffic.proofs.Laws.{rest, each_turn, each_end}
+use Rattle.traffic.proofs.Laws.{each_turn, each_end}
 use Rattle.traffic.proofs.each_in_range.Goals as goal
 
 pub loop-k-init : goal.loop-k-init

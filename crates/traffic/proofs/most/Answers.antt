@@ -1,5 +1,4 @@
 -- `most` meets its contract, by its test.
-use borrow.Author.Rules.{rules}
 use mathlib.Core.Path.{◌∙◌, sym}
 use Rattle.model.specs.Pick.{pick}
 use Rattle.traffic.specs.Rows.{most_at}

@@ -1,10 +1,10 @@
 -- The invariant: the first b counts are there.
 use borrow.Author.Rules.{rules}
-use Prim.Native.Nat.{ℕ, ◌-◌, ◌≤◌}
-use mathlib.Core.Path.{◌≡◌, refl, ap}
+use Prim.Native.Nat.{ℕ}
+use mathlib.Core.Path.{refl, ap}
 use native.Mathlib.Omega.{arith}
-use lib.ListN.{length, take, get_or, length-set}
-use Rattle.model.specs.Counts.{count_at, listed}
+use lib.ListN.{get_or, length-set}
+use Rattle.model.specs.Counts.{listed}
 use Rattle.traffic.proofs.Laws.{fill_turn, fill_end}
 use Rattle.traffic.proofs.row.Goals as goal
 

@@ -1,10 +1,9 @@
 -- The invariant: the test of the first b receivers.
 use borrow.Author.Rules.{rules}
-use Prim.Native.Nat.{◌+◌, ◌-◌, ◌≤◌}
+use Prim.Native.Nat.{◌+◌, ◌-◌}
 use mathlib.Core.Path.{◌≡◌, refl}
 use native.Mathlib.Omega.{arith}
 use Rattle.model.specs.State.{up_to}
-use Rattle.traffic.specs.Rows.{adding}
 use Rattle.traffic.proofs.Laws.{up_to_more}
 use Rattle.traffic.proofs.row_adds_up.Goals as goal
 

@@ -1,11 +1,8 @@
 -- The invariant: the test of the first b receivers.
-use borrow.Author.Rules.{rules}
-use Prim.Native.Nat.{◌+◌, ◌-◌, ◌≤◌}
-use mathlib.Core.Path.{◌≡◌, refl}
-use native.Mathlib.Omega.{arith}
+use Prim.Native.Nat.{◌-◌, ◌≤◌}
+use mathlib.Core.Path.{◌≡◌}
 use Rattle.model.specs.State.{up_to}
 use Rattle.traffic.specs.Rows.{adding}
-use Rattle.traffic.proofs.Laws.{up_to_more}
 use Rattle.traffic.proofs.row_adds_up.Given as goal
 
 abbrev pub invariant-loop-b : goal.invariant-loop-b

@@ -1,9 +1,9 @@
 -- The invariant: the first a rows are there.
 use borrow.Author.Rules.{rules}
-use Prim.Native.Nat.{ℕ, ◌-◌, ◌≤◌}
-use mathlib.Core.Path.{◌≡◌, refl, ◌∙◌, ap}
+use Prim.Native.Nat.{ℕ}
+use mathlib.Core.Path.{refl, ◌∙◌, ap}
 use native.Mathlib.Omega.{arith}
-use lib.ListN.{length, take, length-set}
+use lib.ListN.{length-set}
 use Rattle.model.specs.Counts.{count_at, listed}
 use Rattle.traffic.proofs.Laws.{fill_turn, fill_end}
 use Rattle.traffic.proofs.rows.Goals as goal

@@ -1,11 +1,8 @@
 -- The invariant: the first a rows are there.
-use borrow.Author.Rules.{rules}
-use Prim.Native.Nat.{ℕ, ◌-◌, ◌≤◌}
-use mathlib.Core.Path.{◌≡◌, refl, ◌∙◌, ap}
-use native.Mathlib.Omega.{arith}
-use lib.ListN.{length, take, length-set}
+use Prim.Native.Nat.{◌-◌, ◌≤◌}
+use mathlib.Core.Path.{◌≡◌}
+use lib.ListN.{length, take}
 use Rattle.model.specs.Counts.{count_at, listed}
-use Rattle.traffic.proofs.Laws.{fill_turn, fill_end}
 use Rattle.traffic.proofs.rows.Given as goal
 
 abbrev pub invariant-loop-a : goal.invariant-loop-a

@@ -1,5 +1,4 @@
 -- `traffic_in_range` meets its contract: the definition's tests are the two calls.
-use borrow.Author.Rules.{rules}
 use native.Mathlib.Omega.{arith}
 use mathlib.Core.Path.{◌∙◌}
 use Rattle.model.specs.State.{no_message, first_of, traffic_in_range}

@@ -1,15 +1,10 @@
 -- The invariant: the first k messages are counted.
-use borrow.Author.Rules.{rules}
-use Prim.Native.Nat.{ℕ, ◌-◌, ◌≤◌}
-use mathlib.Core.Path.{◌≡◌, refl, ◌∙◌, ap}
-use mathlib.Core.List.{List}
-use native.Mathlib.Omega.{arith}
-use lib.ListN.{get_or, take, length-take}
-use Rattle.model.specs.Counts.{listed, rows_of}
+use Prim.Native.Nat.{◌-◌, ◌≤◌}
+use mathlib.Core.Path.{◌≡◌}
+use lib.ListN.{take}
+use Rattle.model.specs.Counts.{rows_of}
 use Rattle.model.specs.State.{no_message, how_many}
 use Rattle.model.specs.State as state
-use Rattle.traffic.specs.Rows.{one_more_in, used_of}
-use Rattle.traffic.proofs.Laws.{waiting_turn, waiting_end, waiting_few, used_few, messages_long}
 use Rattle.traffic.proofs.waiting_rows.Given as goal
 
 abbrev pub invariant-loop-k : goal.invariant-loop-k

@@ -1,7 +1,6 @@
 -- `end_answer` meets its contract: the ends of the node's own numbers, and 14 behind them.
 use mathlib.Core.Bool.{not}
 use mathlib.Core.Path.{ap}
-use borrow.Author.Rules.{rules}
 use mathlib.Core.Path.{refl}
 use Rattle.node_step.specs.Grounds.{own_end_grounds}
 use Rattle.machine.proofs.Judged.{in_front, behind_met, behind_clear}

@@ -1,7 +1,4 @@
 -- `input_of` meets its contract, by the event.
-use borrow.Author.Rules.{rules}
-use mathlib.Core.Path.{sym, ap}
-use Rattle.machine.specs.Parts.{input_of}
 use Rattle.machine.proofs.grounds.input_of.Goals as goal
 
 pub returns-in-Finish : goal.returns-in-Finish

@@ -1,7 +1,6 @@
 -- `judge` meets its contract: by the group of grounds that refuses, or by the last.
 use mathlib.Core.Bool.{not}
 use mathlib.Core.Path.{ap}
-use borrow.Author.Rules.{rules}
 use borrow.Author.Tests.{ltb-true}
 use native.Mathlib.Omega.{arith}
 use Rattle.machine.proofs.Judged.{passed, halted, by_numbers, by_state, by_ends}

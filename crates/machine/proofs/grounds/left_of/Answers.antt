@@ -1,5 +1,4 @@
 -- `left_of` meets its contract, by its test.
-use borrow.Author.Rules.{rules}
 use native.Mathlib.Omega.{arith}
 use Rattle.model.specs.Pick.{pick}
 use Rattle.machine.proofs.grounds.left_of.Goals as goal

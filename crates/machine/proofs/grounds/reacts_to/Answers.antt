@@ -1,5 +1,4 @@
 -- `reacts_to` meets its contract: a lose changes nothing, and any other event tells its node something.
-use borrow.Author.Rules.{rules}
 use mathlib.Core.Path.{sym, ◌∙◌}
 use Rattle.machine.proofs.Judged.{reacts_lost, reacts_told, told_fits}
 use Rattle.machine.proofs.grounds.reacts_to.Goals as goal

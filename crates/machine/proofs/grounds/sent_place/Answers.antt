@@ -1,5 +1,4 @@
 -- `sent_place` meets its contract: by what is sent.
-use borrow.Author.Rules.{rules}
 use Rattle.machine.proofs.grounds.sent_place.Goals as goal
 
 pub returns-in-Send : goal.returns-in-Send

@@ -1,7 +1,6 @@
 -- `state_answer` meets its contract: the grounds of the node's record, and 11 behind them.
 use mathlib.Core.Bool.{not}
 use mathlib.Core.Path.{ap}
-use borrow.Author.Rules.{rules}
 use mathlib.Core.Path.{refl}
 use Rattle.node_step.specs.Grounds.{node_grounds}
 use Rattle.machine.proofs.Judged.{in_front, behind_met, behind_clear}

@@ -1,5 +1,4 @@
 -- `with_last` meets its contract: Accepted is the answer of number 0.
-use borrow.Author.Rules.{rules}
 use Rattle.model.specs.Pick.{pick_true, pick_false}
 use Rattle.model.proofs.Answers.{zero_accepted}
 use Rattle.machine.proofs.grounds.with_last.Goals as goal

@@ -1,11 +1,8 @@
 -- `find` meets its contract: what is found is what is found from i on.
-use borrow.Author.Rules.{rules}
-use Prim.Native.Nat.{ℕ, ◌≤◌, ◌<◌, ◌-◌, ◌+◌}
-use mathlib.Core.Path.{◌≡◌, refl, sym, ◌∙◌, ap}
-use native.Mathlib.Omega.{arith}
+use Prim.Native.Nat.{◌≤◌, ◌-◌, ◌+◌}
+use mathlib.Core.Path.{◌≡◌}
 use lib.ListN.{drop, take}
 use Rattle.machine.specs.Parts.{place}
-use Rattle.machine.proofs.Laws.{messages_long, queue_is, place_hit, place_miss, place_end}
 use Rattle.machine.proofs.queue.find.Given as goal
 
 abbrev pub invariant-loop-i : goal.invariant-loop-i

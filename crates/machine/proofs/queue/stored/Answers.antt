@@ -1,11 +1,10 @@
 -- `stored` meets its contract: the queue without its message at j is what the table is to hold.
 use borrow.Author.Rules.{rules}
-use Prim.Native.Nat.{ℕ, ◌≤◌, ◌-◌}
+use Prim.Native.Nat.{ℕ}
 use mathlib.Core.Path.{◌≡◌, refl, ◌∙◌, ap}
 use native.Mathlib.Omega.{arith}
 use mathlib.Core.List.{List}
-use lib.ListN.{length, get_or, take, length-set}
-use Rattle.machine.specs.Parts.{without}
+use lib.ListN.{length, get_or, length-set}
 use Rattle.machine.proofs.Laws.{sized, without_turn, moves, stored_quiet, stored_sent}
 use Rattle.machine.proofs.queue.stored.Goals as goal
 

@@ -1,14 +1,8 @@
 -- `stored` meets its contract: the queue without its message at j is what the table is to hold.
-use borrow.Author.Rules.{rules}
-use Prim.Native.Nat.{ℕ, ◌≤◌, ◌-◌}
-use mathlib.Core.Path.{◌≡◌, refl, ◌∙◌, ap}
-use native.Mathlib.Omega.{arith}
-use mathlib.Core.List.{List}
-use lib.ListN.{length, get_or, take, length-set}
+use Prim.Native.Nat.{◌≤◌, ◌-◌}
+use mathlib.Core.Path.{◌≡◌}
+use lib.ListN.{length, take}
 use Rattle.machine.specs.Parts.{without}
-use Rattle.machine.proofs.Laws.{sized, without_turn, moves, stored_quiet, stored_sent}
-use Rattle.machine.proofs.queue.stored.Reads as reads
-use Rattle.machine.proofs.queue.stored.Lts as lts
 use Rattle.machine.proofs.queue.stored.Given as goal
 
 abbrev pub invariant-loop-j : goal.invariant-loop-j

@@ -1,7 +1,6 @@
 -- `in_range` meets its contract: the limits, n and the number waiting first, so that the view's lists are the arrays' first parts.
 use mathlib.Core.Path.{ap}
 use borrow.Author.Tests.{not-true, not-false}
-use borrow.Author.Rules.{rules}
 use mathlib.Core.Path.{sym, ◌∙◌, ap₂}
 use mathlib.Core.Path.{◌≡◌}
 use mathlib.Core.Bool.{Bool, false, not, ◌&&◌}

@@ -3,12 +3,8 @@ use mathlib.Core.Bool.{not}
 use mathlib.Core.Path.{ap}
 use borrow.Author.Rules.{rules}
 use borrow.Author.Tests.{not-true, not-false}
-use Prim.Native.Nat.{ℕ, ◌≤◌, ◌<◌, ◌-◌, ◌+◌}
-use mathlib.Core.Path.{◌≡◌, refl, sym, ◌∙◌}
+use mathlib.Core.Path.{refl, sym, ◌∙◌}
 use native.Mathlib.Omega.{arith}
-use lib.ListN.{drop, take}
-use Rattle.model.specs.Range.{node_in_range, message_in_range}
-use Rattle.model.specs.State.{every}
 use Rattle.model.proofs.Lists.{every_hit, every_miss, every_end}
 use Rattle.machine.proofs.Laws.{nodes_long}
 use Rattle.machine.proofs.range.nodes_in_range.Goals as goal

@@ -1,16 +1,9 @@
 -- `nodes_in_range` meets its contract: the answer is that of the elements from k on.
-use mathlib.Core.Bool.{not}
-use mathlib.Core.Path.{ap}
-use borrow.Author.Rules.{rules}
-use borrow.Author.Tests.{not-true, not-false}
-use Prim.Native.Nat.{ℕ, ◌≤◌, ◌<◌, ◌-◌, ◌+◌}
-use mathlib.Core.Path.{◌≡◌, refl, sym, ◌∙◌}
-use native.Mathlib.Omega.{arith}
+use Prim.Native.Nat.{◌≤◌, ◌-◌, ◌+◌}
+use mathlib.Core.Path.{◌≡◌}
 use lib.ListN.{drop, take}
-use Rattle.model.specs.Range.{node_in_range, message_in_range}
+use Rattle.model.specs.Range.{node_in_range}
 use Rattle.model.specs.State.{every}
-use Rattle.model.proofs.Lists.{every_hit, every_miss, every_end}
-use Rattle.machine.proofs.Laws.{nodes_long}
 use Rattle.machine.proofs.range.nodes_in_range.Given as goal
 
 abbrev pub invariant-loop-k : goal.invariant-loop-k

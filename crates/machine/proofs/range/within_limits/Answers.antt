@@ -1,5 +1,4 @@
 -- `within_limits` meets its contract: what the callees ensure.
-use borrow.Author.Rules.{rules}
 use Rattle.machine.proofs.range.within_limits.Goals as goal
 
 pub returns : goal.returns

@@ -1,5 +1,4 @@
 -- `no_majority` meets its contract: only a finish asks for a majority.
-use borrow.Author.Rules.{rules}
 use Rattle.node_step.proofs.grounds.no_majority.Goals as goal
 
 pub returns-in-Finish : goal.returns-in-Finish

@@ -1,5 +1,4 @@
 -- `not_coordinator` meets its contract: only a check asks for a coordinator.
-use borrow.Author.Rules.{rules}
 use Rattle.node_step.proofs.grounds.not_coordinator.Goals as goal
 
 pub returns-in-Check : goal.returns-in-Check

@@ -1,5 +1,4 @@
 -- `number_answer` meets its contract: the first test that holds.
-use borrow.Author.Rules.{rules}
 use Rattle.model.specs.Pick.{pick}
 use Rattle.model.specs.Grounds.{first}
 use Rattle.node_step.proofs.grounds.number_answer.Goals as goal

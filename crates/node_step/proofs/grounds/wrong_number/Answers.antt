@@ -1,5 +1,4 @@
 -- `wrong_number` meets its contract: by the event, what the callee ensures of its numbers.
-use borrow.Author.Rules.{rules}
 use Rattle.node_step.proofs.grounds.wrong_number.Goals as goal
 
 pub returns-in-Crash : goal.returns-in-Crash

@@ -1,5 +1,4 @@
 -- `wrong_task` meets its contract: only a finish has a task.
-use borrow.Author.Rules.{rules}
 use Rattle.node_step.proofs.grounds.wrong_task.Goals as goal
 
 pub returns-in-Finish : goal.returns-in-Finish

@@ -1,5 +1,4 @@
 -- `calling` meets its contract: what `next_call` ensures.
-use borrow.Author.Rules.{rules}
 use Rattle.node_step.proofs.node.calling.Goals as goal
 
 pub returns : goal.returns

@@ -1,5 +1,4 @@
 -- `invited` meets its contract: what `owner_of` ensures.
-use borrow.Author.Rules.{rules}
 use Rattle.node_step.proofs.node.invited.Goals as goal
 
 pub returns : goal.returns

@@ -1,5 +1,4 @@
 -- `joined` meets its contract: what `insert` ensures.
-use borrow.Author.Rules.{rules}
 use Rattle.node_step.proofs.node.joined.Goals as goal
 
 pub returns : goal.returns

@@ -1,5 +1,4 @@
 -- `merged` meets its contract: what `group_of` ensures.
-use borrow.Author.Rules.{rules}
 use Rattle.node_step.proofs.node.merged.Goals as goal
 
 pub returns : goal.returns

@@ -1,5 +1,4 @@
 -- `answers` meets its contract: what the callees ensure.
-use borrow.Author.Rules.{rules}
 use Rattle.node_step.proofs.procedures.answers.Goals as goal
 
 pub returns : goal.returns

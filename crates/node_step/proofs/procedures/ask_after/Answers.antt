@@ -1,5 +1,4 @@
 -- `ask_after` meets its contract: by the test, what `ask_at` ensures.
-use borrow.Author.Rules.{rules}
 use borrow.Author.Tests.{eq-eqb, ne_eqb}
 use Rattle.model.specs.Pick.{pick}
 use Rattle.model.specs.Procedures.{ask_after}

@@ -1,5 +1,4 @@
 -- `ask_at` meets its contract: by the test, what the callees ensure.
-use borrow.Author.Rules.{rules}
 use borrow.Author.Tests.{le-leb, lt-leb}
 use Rattle.model.specs.Pick.{pick}
 use Rattle.model.specs.Procedures.{ask_at}

@@ -1,5 +1,4 @@
 -- `asked_all` meets its contract: by the two tests, what the callees ensure.
-use borrow.Author.Rules.{rules}
 use borrow.Author.Tests.{eq-eqb, ne_eqb, lt-ltb, le-ltb}
 use Rattle.model.specs.Pick.{pick}
 use Rattle.model.specs.Procedures.{asked_all}

@@ -1,5 +1,4 @@
 -- `call` meets its contract: what the callees ensure.
-use borrow.Author.Rules.{rules}
 use Rattle.node_step.proofs.procedures.call.Goals as goal
 
 pub returns : goal.returns

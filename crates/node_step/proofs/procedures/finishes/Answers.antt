@@ -1,5 +1,4 @@
 -- `finishes` meets its contract: what the callees ensure.
-use borrow.Author.Rules.{rules}
 use Rattle.model.specs.Procedures.{finishes}
 use Rattle.node_step.proofs.procedures.finishes.Goals as goal
 

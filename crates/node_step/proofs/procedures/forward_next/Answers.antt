@@ -1,5 +1,4 @@
 -- `forward_next` meets its contract: by the test, what the callees ensure.
-use borrow.Author.Rules.{rules}
 use borrow.Author.Tests.{eq-eqb, ne_eqb}
 use Rattle.model.specs.Pick.{pick}
 use Rattle.model.specs.Procedures.{forward_next}

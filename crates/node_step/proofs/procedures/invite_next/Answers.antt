@@ -1,5 +1,4 @@
 -- `invite_next` meets its contract: by the two tests, what the callees ensure.
-use borrow.Author.Rules.{rules}
 use borrow.Author.Tests.{eq-eqb, ne_eqb}
 use Rattle.model.specs.Pick.{pick}
 use Rattle.model.specs.Procedures.{invite_next}

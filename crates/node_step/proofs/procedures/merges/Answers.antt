@@ -1,5 +1,4 @@
 -- `merges` meets its contract: what the callees ensure.
-use borrow.Author.Rules.{rules}
 use Rattle.model.specs.Procedures.{merges}
 use Rattle.node_step.proofs.procedures.merges.Goals as goal
 

@@ -1,5 +1,4 @@
 -- `activity_in_range` meets its contract: by the activity, what the callees ensure.
-use borrow.Author.Rules.{rules}
 use Rattle.model.specs.Range.{activity_in_range}
 use Rattle.node_step.proofs.range.activity_in_range.Goals as goal
 

@@ -1,5 +1,4 @@
 -- `is_group` meets its contract: what `owner_of` ensures.
-use borrow.Author.Rules.{rules}
 use Rattle.node_step.proofs.range.is_group.Goals as goal
 
 pub returns : goal.returns

@@ -1,5 +1,4 @@
 -- `is_group_or_none` meets its contract: what `is_group` ensures.
-use borrow.Author.Rules.{rules}
 use Rattle.node_step.proofs.range.is_group_or_none.Goals as goal
 
 pub returns : goal.returns

@@ -1,5 +1,4 @@
 -- `is_led` meets its contract: what the callees ensure.
-use borrow.Author.Rules.{rules}
 use Rattle.node_step.proofs.range.is_led.Goals as goal
 
 pub returns : goal.returns

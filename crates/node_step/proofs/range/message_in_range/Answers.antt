@@ -1,5 +1,4 @@
 -- `message_in_range` meets its contract: what the callees ensure.
-use borrow.Author.Rules.{rules}
 use Rattle.model.specs.Range.{message_in_range}
 use Rattle.node_step.proofs.range.message_in_range.Goals as goal
 

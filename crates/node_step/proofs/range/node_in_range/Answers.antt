@@ -1,5 +1,4 @@
 -- `node_in_range` meets its contract: what the callees ensure.
-use borrow.Author.Rules.{rules}
 use Rattle.model.specs.Range.{node_in_range}
 use Rattle.node_step.proofs.range.node_in_range.Goals as goal
 

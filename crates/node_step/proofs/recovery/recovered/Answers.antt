@@ -1,5 +1,4 @@
 -- `recovered` meets its contract: the last of the eight records of the stopped node.
-use borrow.Author.Rules.{rules}
 use Rattle.node_step.proofs.recovery.recovered.Goals as goal
 
 pub recovery_records-records-requires : goal.recovery_records-records-requires

@@ -1,5 +1,4 @@
 -- `recovery_records` meets its contract: what each assignment ensures, from the last to the first.
-use borrow.Author.Rules.{rules}
 use native.Mathlib.Omega.{arith}
 use Rattle.node_step.proofs.recovery.recovery_records.Goals as goal
 

@@ -1,5 +1,4 @@
 -- `is_calling` meets its contract: by the message.
-use borrow.Author.Rules.{rules}
 use Rattle.node_step.proofs.step.is_calling.Goals as goal
 
 pub returns-in-Nothing : goal.returns-in-Nothing
