@@ -1,9 +1,6 @@
 -- `begin` meets its contract, by the first field.
-use Rattle.trace_list.proofs.Given.{stop_small, few_nodes, begun_failed, begun_nodes}
+use Rattle.trace_list.proofs.Given.{few_nodes, begun_failed, begun_nodes}
 use Rattle.trace_list.proofs.begin.Goals as goal
-
-pub refused-requires : goal.refused-requires
-refused-requires c = rw c.stop_number.ensures (stop_small c.in-Stopped.s)
 
 pub headed-requires : goal.headed-requires
 headed-requires c = few_nodes _ c.first_of.ensures c.in-Nodes.is

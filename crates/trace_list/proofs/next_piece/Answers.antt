@@ -1,12 +1,6 @@
 -- `next_piece` meets its contract, by what stands at the next field.
-use native.Mathlib.Omega.{arith}
-use Rattle.trace_list.proofs.Given.{stop_small, gave_end, gave_stop, gave_step}
+use Rattle.trace_list.proofs.Given.{gave_end, gave_stop, gave_step}
 use Rattle.trace_list.proofs.next_piece.Goals as goal
-
-pub stopped-requires : goal.stopped-requires
-stopped-requires c =
-    let h = c.requires in
-    (h.range, omega arith, rw c.stop_number.ensures (stop_small c.in-Stopped.s))
 
 pub returns-in-Done : goal.returns-in-Done
 returns-in-Done c = gave_end _ _ c.requires c.event_at.ensures _ _ c.in-Done.is c.ended.ensures.0 c.ended.ensures.1

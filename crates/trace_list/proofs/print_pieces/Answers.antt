@@ -6,9 +6,6 @@ use Rattle.trace_list.proofs.print_pieces.Goals as goal
 pub returns-then-first : goal.returns-then-first
 returns-then-first c = piece_last _ _ _ _ _ _ _ c.begin-first.ensures.pieces c.put_piece.ensures _ c.in-Next.is (after_last _ c.begin-first.result c.if-first.true)
 
-pub print_rest-requires : goal.print_rest-requires
-print_rest-requires c = c.begin-first.ensures.sound c.if-first.false
-
 pub returns-in-NoRoom : goal.returns-in-NoRoom
 returns-in-NoRoom c = piece_refused _ _ _ _ _ _ _ c.begin-first.ensures.pieces c.put_piece.ensures c.in-NoRoom.is
 

@@ -1,18 +1,8 @@
 -- `print_rest` meets its contract: what is printed so far, and then what the trace still gives, is the whole.
 use borrow.Author.Rules.{rules}
-use native.Mathlib.Omega.{arith}
-use mathlib.Core.Path.{refl, ◌∙◌}
+use mathlib.Core.Path.{◌∙◌}
 use Rattle.trace_list.proofs.Given.{after_last, after_other, piece_refused, piece_next, piece_last}
 use Rattle.trace_list.proofs.print_rest.Goals as goal
-
-pub loop-q-init : goal.loop-q-init
-loop-q-init c = (c.requires, refl, refl)
-
-pub next_piece-next-requires : goal.next_piece-next-requires
-next_piece-next-requires c = c.loop-q.invariant.0
-
-pub put_piece-requires : goal.put_piece-requires
-put_piece-requires c = c.next_piece-next.ensures.fits
 
 pub returns-in-NoRoom : goal.returns-in-NoRoom
 returns-in-NoRoom c =
@@ -23,13 +13,6 @@ pub returns-then-next : goal.returns-then-next
 returns-then-next c =
     let l = c.loop-q in
     piece_last _ _ _ _ _ _ _ c.next_piece-next.ensures.pieces c.put_piece.ensures _ c.in-Next.is (after_last _ c.next_piece-next.result c.if-next.true) ∙ l.invariant.2
-
-pub loop-q-smaller : goal.loop-q-smaller
-loop-q-smaller c =
-    let g = c.next_piece-next.ensures in
-    let f = g.further c.if-next.false in
-    let w = g.sound.within in
-    omega (arith, f, w)
 
 pub loop-q-preserved : goal.loop-q-preserved
 loop-q-preserved c =

@@ -1,12 +1,8 @@
 -- `same_numbers` meets its contract: what is left to compare decides.
-use borrow.Author.Rules.{rules}
 use native.Mathlib.Omega.{arith}
-use mathlib.Core.Path.{refl, sym, ◌∙◌}
+use mathlib.Core.Path.{sym, ◌∙◌}
 use Rattle.trace_list.proofs.Compared.{same_end, same_next, same_never}
 use Rattle.trace_list.proofs.records.same_numbers.Goals as goal
-
-pub loop-i-init : goal.loop-i-init
-loop-i-init c = (omega arith, search rules, search rules, refl)
 
 pub returns-then-xs-i : goal.returns-then-xs-i
 returns-then-xs-i c = let l = c.loop-i in sym (sym l.invariant.3 ∙ same_never _ _ (omega arith) l.i (omega arith) c.if-xs-i.true)

@@ -1,11 +1,6 @@
 -- `left_waiting` meets its contract: a message is out where the event takes one.
-use native.Mathlib.Omega.{arith}
-use mathlib.Core.Path.{sym, ◌∙◌}
 use Rattle.model.specs.Pick.{pick_true, pick_false}
 use Rattle.trace_list.proofs.steps.left_waiting.Goals as goal
-
-pub overflow_sub-result : goal.overflow_sub-result
-overflow_sub-result c = let z = c.requires (sym c.takes.ensures ∙ c.if-takes.true) in omega arith
 
 pub returns-then-takes : goal.returns-then-takes
 returns-then-takes c = rw (← c.takes.ensures, c.if-takes.true, pick_true)

@@ -16,19 +16,6 @@ message_for-requires c =
     let a = c.args in
     waiting_small a.t a.v a.u c.requires.1
 
-pub put_taken_out-q-requires : goal.put_taken_out-q-requires
-put_taken_out-q-requires c =
-    let e = c.put_changed-p.ensures in
-    let p = c.requires.0 in
-    omega (arith, e.0.long, e.1, p)
-
-pub put_added-requires : goal.put_added-requires
-put_added-requires c =
-    let e = c.put_changed-p.ensures in
-    let f = c.put_taken_out-q.ensures in
-    let p = c.requires.0 in
-    omega (arith, e.0.long, e.1, f.0.long, f.1, p)
-
 pub returns : goal.returns
 returns c =
     let a = c.args in
