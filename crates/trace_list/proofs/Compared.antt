@@ -8,26 +8,9 @@ use mathlib.Core.List.{List, [], ◌∷◌}
 use lib.ListN.{length, get_or, drop, drop_of_length-le}
 use lib.Seq.{drop-cons}
 use borrow.Author.Tests.{eq-eqb, ne_eqb}
-use Rattle.model.specs.declared.Activity.{Activity}
-use Rattle.model.specs.declared.Activity.TheVariants.{Idle, Asking, Waiting, Inviting, Collecting, Handing, Contacting, Forwarding, Accepting}
 use Rattle.model.specs.declared.Node.{Node}
 use Rattle.list_text.specs.Words.{same}
-use Rattle.trace_text.specs.Words.{activity_numbers, node_numbers, same_node}
-
--- an activity's numbers one by one
-five : (a : Activity) → get_or (activity_numbers a) 0 0 ∷ get_or (activity_numbers a) 1 0 ∷ get_or (activity_numbers a) 2 0 ∷ get_or (activity_numbers a) 3 0 ∷ get_or (activity_numbers a) 4 0 ∷ [] ≡ activity_numbers a
-five Idle = refl
-five (Asking i f) = refl
-five (Waiting t f) = refl
-five (Inviting f g i) = refl
-five Collecting = refl
-five (Handing r i) = refl
-five Contacting = refl
-five (Forwarding r i a k) = refl
-five (Accepting a k) = refl
-
-pub five_numbers : (a : Activity) (l : List ℕ) → l ≡ activity_numbers a → get_or l 0 0 ∷ get_or l 1 0 ∷ get_or l 2 0 ∷ get_or l 3 0 ∷ get_or l 4 0 ∷ [] ≡ activity_numbers a
-five_numbers a l e = rw e (five a)
+use Rattle.trace_text.specs.Words.{node_numbers, same_node}
 
 -- two lists that are as long as one another, from i on
 module _ (x y : List ℕ) (long : length x ≡ length y) (i : ℕ) where

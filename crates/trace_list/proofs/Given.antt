@@ -16,13 +16,10 @@ use Rattle.model.proofs.InRange.{stays_in_range}
 use Rattle.event_list.specs.declared.Stop.{Stop}
 use Rattle.event_list.specs.declared.Stop.TheVariants.{TooLong, CutShort, WrongTag, WrongLength, WrongCount}
 use Rattle.event_list.specs.declared.Next.{Next}
-use Rattle.event_list.specs.declared.Next.TheVariants as Next
 use Rattle.event_list.specs.declared.First.{First}
-use Rattle.event_list.specs.declared.First.TheVariants as First
 use Rattle.event_list.specs.Format.{stop_number, next_at, first_of}
 use Rattle.event_list.proofs.Reading.{rest_done, rest_stopped, rest_got, next_past, reading_failed, reading_begun, first_good}
 use Rattle.listing.specs.declared.Put.{Put}
-use Rattle.listing.specs.declared.Put.TheVariants as Put
 use Rattle.listing.specs.Lines.{cabinets_line, stopped_line, table_lines}
 use Rattle.listing.specs.Printing.{put_next, shown, printed, joined, Appended}
 use Rattle.listing.proofs.Appended.{appended, appended_twice}

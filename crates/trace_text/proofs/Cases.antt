@@ -19,7 +19,6 @@ use Rattle.model.specs.declared.Event.{Event}
 use Rattle.model.proofs.InRange.{run_in}
 use Rattle.model.proofs.Aside.{Room, by_between, room_after, room_below, start_room}
 use Rattle.event_list.specs.declared.First.{First}
-use Rattle.event_list.specs.declared.First.TheVariants as First
 use Rattle.event_list.specs.Format.{Ending, length_of, cut_short, checked, event_of, next_at, limits_of, nodes_of, first_of, read_from, rest, reading}
 use Rattle.event_list.specs.Cases.{nodes, stand_nodes, crash, recover, check, timeout, tick, expire, finish, deliver, lose}
 use Rattle.event_list.proofs.Reading.{reading_begun}

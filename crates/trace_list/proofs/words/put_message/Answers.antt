@@ -1,0 +1,18 @@
+-- `put_message` meets its contract: four pieces, the first of which is four.
+use native.Mathlib.Omega.{arith}
+use Rattle.listing.proofs.Appended.{appended_twice}
+use Rattle.listing.specs.Ascii.{bytes}
+use Rattle.listing.specs.Decimal.{decimal}
+use Rattle.trace_text.specs.Words.{message_words}
+use Rattle.trace_list.proofs.Put.{put_fourth}
+use Rattle.trace_list.proofs.words.put_message.Goals as goal
+
+pub returns : goal.returns
+unfolding message_words
+returns c =
+    let m = c.args.m in
+    let w = c.put_way-p.ensures in
+    let k = c.put_kind-q.ensures in
+    let d = c.put_carried-r.ensures in
+    let n = c.put_numbered.ensures in
+    (put_fourth (decimal m.sender) (bytes " -> ") (decimal m.receiver) (bytes " ") _ w.0 (appended_twice k.0 (appended_twice d.0 n.0)), omega arith)
