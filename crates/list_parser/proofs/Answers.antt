@@ -12,9 +12,7 @@ use Rattle.list_text.specs.Words.{past_skipped}
 use Rattle.list_text.specs.Script.{opening_at, behind_opening, max_text, Script, wrong_at, script, script_of, place_of, bad, list, outcome, list_of}
 use Rattle.list_text.specs.declared.Place.{Place}
 use Rattle.list_text.specs.declared.Expected.{Expected}
-use Rattle.list_text.specs.declared.Expected.TheVariants as Expected
 use Rattle.list_parser.specs.declared.Filling.{Filling}
-use Rattle.list_parser.specs.declared.Filling.TheVariants as Filling
 use Rattle.list_parser.specs.declared.Parsed.TheVariants as Parsed
 use Rattle.list_parser.specs.Made.{Made, Filled, wrong_fill, filled, filled_from, Fills}
 

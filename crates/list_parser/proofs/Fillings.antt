@@ -11,7 +11,6 @@ use Rattle.listing.specs.Printing.{Appended}
 use Rattle.short_lists_text.specs.Rows.{concat_map}
 use Rattle.list_text.specs.Script.{opening_field, event_field, list_bytes, part_at, Said, wrong, said, before, said_from, with_events}
 use Rattle.list_text.specs.declared.Expected.{Expected}
-use Rattle.list_text.specs.declared.Expected.TheVariants as Expected
 use Rattle.list_text.specs.declared.Part.TheVariants as Part
 use Rattle.list_text.proofs.Parts.{says_all}
 use Rattle.list_parser.specs.Made.{wrong_fill, filled, filled_by, filled_from}

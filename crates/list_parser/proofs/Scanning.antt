@@ -11,7 +11,6 @@ use borrow.Author.Tests.{not-false, leb-true}
 use Rattle.model.specs.Pick.{pick}
 use Rattle.list_text.specs.Words.{span, past, is_skipped, comment_behind, skipped, same, is_digit, append_digit, value_behind}
 use Rattle.list_text.specs.declared.Value.{Value}
-use Rattle.list_text.specs.declared.Value.TheVariants as Value
 
 -- what is left at an offset is the byte there, and what is left behind it
 pub left_at : (l : List ℕ) (i : ℕ) → i < length l → drop i l ≡ get_or l i 0 ∷ drop (i + 1) l

@@ -1,12 +1,10 @@
 -- What the parser promises: for any text what is answered, and what the lent buffer then holds.
-use Rattle.std.specs.Prelude.{ℕ, ◌+◌, ◌≤◌, ◌≡◌, List, ◌++◌, length, take, drop}
+use Rattle.std.specs.Prelude.{ℕ, ◌≤◌, ◌≡◌, List, ◌++◌, length, take, drop}
 use Rattle.short_lists_text.specs.Rows.{concat_map}
 use Rattle.list_text.specs.Script.{event_field, list_bytes, Said, wrong, said, Script, wrong_at, script, Outcome, bad, list, list_of}
 use Rattle.list_text.specs.declared.Expected.{Expected}
 use Rattle.list_parser.specs.declared.Filling.{Filling}
-use Rattle.list_parser.specs.declared.Filling.TheVariants as Filling
 use Rattle.list_parser.specs.declared.Parsed.{Parsed}
-use Rattle.list_parser.specs.declared.Parsed.TheVariants as Parsed
 
 -- ── the text as a whole ──
 

@@ -14,9 +14,7 @@ use Rattle.model.specs.declared.Limits.{Limits}
 use Rattle.model.specs.declared.Event.{Event}
 use Rattle.event_list.specs.declared.Stop.{Stop}
 use Rattle.event_list.specs.declared.Next.{Next}
-use Rattle.event_list.specs.declared.Next.TheVariants as Next
 use Rattle.event_list.specs.declared.First.{First}
-use Rattle.event_list.specs.declared.First.TheVariants as First
 use Rattle.event_list.specs.Format.{max_bytes, tag_at, length_at, contents_at, behind, first_tag, length_of, cut_short, checked, next_at, limits_of, nodes_of, first_of, stop_number, Ending, complete, stopped, Reading, onward, read_from, rest, Listed, failed, begun, listed, reading}
 use Rattle.event_list.proofs.Fields.{next_end}
 use Rattle.event_list.proofs.Reading.{rest_step, next_past, reading_begun, first_good, reads_all}

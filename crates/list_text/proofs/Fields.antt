@@ -14,9 +14,7 @@ use Rattle.model.specs.declared.Limits.{Limits}
 use Rattle.model.specs.declared.Event.{Event}
 use Rattle.model.specs.declared.Event.TheVariants.{Crash, Recover, Check, Timeout, Tick, Expire, Finish, Deliver, Lose}
 use Rattle.event_list.specs.declared.Next.{Next}
-use Rattle.event_list.specs.declared.Next.TheVariants as Next
 use Rattle.event_list.specs.declared.First.{First}
-use Rattle.event_list.specs.declared.First.TheVariants as First
 use Rattle.event_list.specs.Format.{max_bytes, two_bytes, tag_at, length_at, contents_at, behind, first_tag, limits_of, event_tag, length_of, cut_short, checked, event_of, next_at, nodes_of, first_of, complete, Reading, onward, read_from, rest, begun, listed, reading}
 use Rattle.event_list.proofs.Fields.{uncut, next_end}
 use Rattle.event_list.proofs.Reading.{rest_step}

@@ -8,9 +8,7 @@ use Rattle.model.specs.Pick.{by_test}
 use Rattle.model.proofs.InRange.{start_small}
 use Rattle.event_list.specs.declared.Stop.{Stop}
 use Rattle.event_list.specs.declared.Next.{Next}
-use Rattle.event_list.specs.declared.Next.TheVariants as Next
 use Rattle.event_list.specs.declared.First.{First}
-use Rattle.event_list.specs.declared.First.TheVariants as First
 use Rattle.event_list.specs.Format.{stop_number, tag_at, length_at, contents_at, event_of, checked, next_at, first_of, Ending, complete, stopped, onward, read_from, rest}
 use Rattle.event_list.proofs.Reading.{reading_failed, reading_begun, first_good, reads_all}
 use Rattle.listing.specs.Lines.{row, stopped_line}

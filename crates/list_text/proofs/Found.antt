@@ -24,11 +24,8 @@ use Rattle.list_text.specs.Words.{is_digit, is_blank, is_word_byte, is_skipped, 
 use Rattle.list_text.specs.Script.{event_named, second_most, event_of_two, numbers_at, event_at, event_from, separated_at, part_at}
 use Rattle.list_text.specs.Claims.{AllDigits, FitsBytes}
 use Rattle.list_text.specs.declared.Value.{Value}
-use Rattle.list_text.specs.declared.Value.TheVariants as Value
 use Rattle.list_text.specs.declared.Number.{Number}
-use Rattle.list_text.specs.declared.Number.TheVariants as Number
 use Rattle.list_text.specs.declared.Part.{Part}
-use Rattle.list_text.specs.declared.Part.TheVariants as Part
 use Rattle.list_text.proofs.Numbers.{numbers_read}
 
 -- ── offsets ──

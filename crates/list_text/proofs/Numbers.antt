@@ -12,7 +12,6 @@ use Rattle.short_lists_text.specs.Rows.{All}
 use Rattle.list_text.specs.Words.{is_digit, append_digit, value_behind, value_up_to}
 use Rattle.list_text.specs.Claims.{AllDigits, NumbersRead}
 use Rattle.list_text.specs.declared.Value.{Value}
-use Rattle.list_text.specs.declared.Value.TheVariants as Value
 
 -- More digits never make a number smaller.
 value_more : (v : ℕ) (w : List ℕ) → v ≤ value_from v w

@@ -11,11 +11,8 @@ use Rattle.list_text.specs.Words.{is_blank, is_word_byte, comment_behind, span, 
 use Rattle.list_text.specs.Script.{event_field, with_one, with_second, with_two, second_most, event_named, numbers_at, event_at, event_from, separated_at, part_at, Said, onward, said_in, said_from}
 use Rattle.list_text.specs.Claims.{SaysAll}
 use Rattle.list_text.specs.declared.Value.{Value}
-use Rattle.list_text.specs.declared.Value.TheVariants as Value
 use Rattle.list_text.specs.declared.Number.{Number}
-use Rattle.list_text.specs.declared.Number.TheVariants as Number
 use Rattle.list_text.specs.declared.Part.{Part}
-use Rattle.list_text.specs.declared.Part.TheVariants as Part
 use Rattle.list_text.proofs.Numbers.{numbers_read}
 
 -- ── stretches ──

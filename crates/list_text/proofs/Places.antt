@@ -12,13 +12,9 @@ use Rattle.list_text.specs.Words.{is_blank, is_word_byte, past, past_skipped, wo
 use Rattle.list_text.specs.Script.{event_field, opening_tag, opening_with, opening_at, second_most, event_named, with_one, with_second, with_two, numbers_at, event_at, event_from, separated_at, part_at, Said, wrong, said, before, onward, said_in, said_from, Script, wrong_at, script, with_events, behind_opening, max_text, script_of}
 use Rattle.list_text.specs.Claims.{PlaceWithin}
 use Rattle.list_text.specs.declared.Value.{Value}
-use Rattle.list_text.specs.declared.Value.TheVariants as Value
 use Rattle.list_text.specs.declared.Number.{Number}
-use Rattle.list_text.specs.declared.Number.TheVariants as Number
 use Rattle.list_text.specs.declared.Opening.{Opening}
-use Rattle.list_text.specs.declared.Opening.TheVariants as Opening
 use Rattle.list_text.specs.declared.Part.{Part}
-use Rattle.list_text.specs.declared.Part.TheVariants as Part
 use Rattle.list_text.proofs.Parts.{past_within, skipped_within}
 
 -- ── numbers ──

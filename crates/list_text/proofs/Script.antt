@@ -16,11 +16,8 @@ use Rattle.list_text.specs.Words.{is_blank, past, past_skipped, word_at, behind_
 use Rattle.list_text.specs.Script.{opening_field, event_field, list_bytes, opening_tag, opening_with, opening_at, event_named, second_most, event_of_two, with_one, with_second, with_two, numbers_at, event_at, event_from, separated_at, part_at, Said, wrong, said, before, onward, said_in, said_from, Script, wrong_at, script, with_events, behind_opening, script_of}
 use Rattle.list_text.specs.Claims.{FitsBytes, IsFirstTag}
 use Rattle.list_text.specs.declared.Number.{Number}
-use Rattle.list_text.specs.declared.Number.TheVariants as Number
 use Rattle.list_text.specs.declared.Opening.{Opening}
-use Rattle.list_text.specs.declared.Opening.TheVariants as Opening
 use Rattle.list_text.specs.declared.Part.{Part}
-use Rattle.list_text.specs.declared.Part.TheVariants as Part
 use Rattle.list_text.proofs.Parts.{number_further}
 use Rattle.list_text.proofs.Fits.{event_fits}
 

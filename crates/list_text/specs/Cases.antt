@@ -9,7 +9,6 @@ use Rattle.list_text.specs.Script.{Said, wrong, before, onward, wrong_at, max_te
 use Rattle.list_text.specs.declared.Part.TheVariants as Part
 use Rattle.list_text.specs.Message.{message_text}
 use Rattle.list_text.specs.declared.Expected.{Expected}
-use Rattle.list_text.specs.declared.Expected.TheVariants as Expected
 
 -- the text t is bad at this line and column
 abbrev pub bad_at : ℕ → ℕ → Expected → Outcome

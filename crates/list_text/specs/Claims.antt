@@ -1,5 +1,5 @@
 -- What is claimed of a list as text. The proofs are in proofs/.
-use Rattle.std.specs.Prelude.{ℕ, ◌+◌, ◌≤◌, ◌<◌, true, ◌≡◌, ◌⊎◌, List, ◌∷◌, ◌++◌, map, length, take}
+use Rattle.std.specs.Prelude.{ℕ, ◌≤◌, ◌<◌, true, ◌≡◌, ◌⊎◌, List, ◌∷◌, ◌++◌, map, length, take}
 use Rattle.model.specs.Limits.{tower}
 use Rattle.model.specs.State.{start}
 use Rattle.model.specs.declared.Limits.{Limits}
@@ -8,7 +8,6 @@ use Rattle.event_list.specs.Format.{max_bytes, limits_of, nodes_of, stop_number,
 use Rattle.event_list.specs.declared.Stop.{Stop}
 use Rattle.event_list.specs.declared.Stop.TheVariants.{WrongCount}
 use Rattle.event_list.specs.declared.First.{First}
-use Rattle.event_list.specs.declared.First.TheVariants as First
 use Rattle.listing.specs.Decimal.{value_of}
 use Rattle.listing.specs.Lines.{cabinets_line, stopped_line}
 use Rattle.listing.specs.Printing.{joined}

@@ -4,7 +4,6 @@ use Rattle.listing.specs.Ascii.{bytes}
 use Rattle.listing.specs.Decimal.{decimal}
 use Rattle.list_text.specs.declared.Place.{Place}
 use Rattle.list_text.specs.declared.Expected.{Expected}
-use Rattle.list_text.specs.declared.Expected.TheVariants as Expected
 
 -- "what was expected"
 unfoldable pub expected_text : Expected → List ℕ

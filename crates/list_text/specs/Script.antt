@@ -3,7 +3,6 @@
 -- empty lines and `#` to the end of a line are skipped." "Numbers out of 01's ranges (cabinet 17, task 5) are written as they are, as far as their bytes can hold them".
 use Rattle.std.specs.Prelude.{ℕ, zero, suc, ◌+◌, ◌-◌, ◌||◌, List, [], ◌∷◌, ◌++◌, length, get_or, take, eqb, leb, ltb}
 use Rattle.model.specs.Pick.{pick}
-use Rattle.model.specs.declared.TaskNo.{TaskNo}
 use Rattle.model.specs.declared.Event.{Event}
 use Rattle.model.specs.declared.Event.TheVariants.{Finish}
 use Rattle.event_list.specs.Format.{max_bytes, event_of}
@@ -12,14 +11,10 @@ use Rattle.short_lists_text.specs.Rows.{concat_map}
 use Rattle.short_lists_text.specs.Order.{tag, contents}
 use Rattle.list_text.specs.Words.{is_line_end, is_hash, is_comma, is_blank, past, past_skipped, word_at, behind_word, same, number_at}
 use Rattle.list_text.specs.declared.Expected.{Expected}
-use Rattle.list_text.specs.declared.Expected.TheVariants as Expected
 use Rattle.list_text.specs.declared.Number.{Number}
-use Rattle.list_text.specs.declared.Number.TheVariants as Number
 use Rattle.list_text.specs.declared.Opening.{Opening}
-use Rattle.list_text.specs.declared.Opening.TheVariants as Opening
 use Rattle.list_text.specs.declared.Place.{Place}
 use Rattle.list_text.specs.declared.Part.{Part}
-use Rattle.list_text.specs.declared.Part.TheVariants as Part
 
 -- ── the bytes of a list ──
 

@@ -3,9 +3,7 @@ use Rattle.std.specs.Prelude.{ℕ, ◌+◌, ◌-◌, ◌*◌, ◌<◌, Bool, tru
 use Rattle.model.specs.Pick.{pick}
 use Rattle.short_lists_text.specs.Rows.{All}
 use Rattle.list_text.specs.declared.Value.{Value}
-use Rattle.list_text.specs.declared.Value.TheVariants as Value
 use Rattle.list_text.specs.declared.Number.{Number}
-use Rattle.list_text.specs.declared.Number.TheVariants as Number
 
 -- ── bytes ──
 

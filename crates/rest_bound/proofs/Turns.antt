@@ -11,7 +11,7 @@ use borrow.Author.Tests.{not-false, eqb-true, eqb-false, eq-eqb}
 use Rattle.model.specs.Pick.{pick_true, pick_false, by_test}
 use Rattle.model.specs.Counts.{one}
 use Rattle.model.specs.Range.{PairRule, TwoPairs, LeftOut, message_in_range}
-use Rattle.model.specs.State.{State, goes, waits, waiting, how_many, every, in_range}
+use Rattle.model.specs.State.{State, goes, waits, how_many, every, in_range}
 use Rattle.model.specs.Step.{Result, refused, accepted, step, after, run_from, run_by}
 use Rattle.model.specs.Traffic.{of_accepted, tally, accepted_from}
 use Rattle.model.specs.Claims.{RunHolds}

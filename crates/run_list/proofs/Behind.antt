@@ -19,7 +19,6 @@ use Rattle.model.proofs.Fields.{in_range_size}
 use Rattle.model.proofs.InRange.{stays_in_range}
 use Rattle.machine.proofs.Runs.{run_nodes}
 use Rattle.event_list.specs.declared.First.{First}
-use Rattle.event_list.specs.declared.First.TheVariants as First
 use Rattle.event_list.specs.Format.{first_of, Reading, begun, listed, reading}
 use Rattle.event_list.proofs.Reading.{first_good}
 use Rattle.listing.specs.Lines.{cabinets_line, node_line, messages_line, node_lines, table_lines, total_lines}

@@ -19,10 +19,8 @@ use Rattle.model.proofs.InRange.{start_small, stays_in_range}
 use Rattle.event_list.specs.declared.Stop.{Stop}
 use Rattle.event_list.specs.declared.Stop.TheVariants.{TooLong, CutShort, WrongTag, WrongLength, WrongCount}
 use Rattle.event_list.specs.declared.First.{First}
-use Rattle.event_list.specs.declared.First.TheVariants as First
 use Rattle.event_list.specs.Format.{stop_number, first_of, Ending, complete, stopped, rest}
 use Rattle.event_list.proofs.Reading.{first_good, reads_all}
-use Rattle.listing.specs.declared.Put.TheVariants as Put
 use Rattle.listing.specs.Lines.{cabinets_line, refused_line, stopped_line, table_lines}
 use Rattle.listing.specs.Printing.{joined}
 use Rattle.listing.proofs.Lengths.{cabinets_long, refused_long, stopped_long, table_long, joined_append, joined_one}

@@ -20,13 +20,10 @@ use Rattle.packed.specs.Packed.{held}
 use Rattle.packed.specs.Seen.{seen}
 use Rattle.event_list.specs.declared.Stop.{Stop}
 use Rattle.event_list.specs.declared.Next.{Next}
-use Rattle.event_list.specs.declared.Next.TheVariants as Next
 use Rattle.event_list.specs.declared.First.{First}
-use Rattle.event_list.specs.declared.First.TheVariants as First
 use Rattle.event_list.specs.Format.{stop_number, next_at, first_of, rest}
 use Rattle.event_list.proofs.Reading.{rest_done, rest_stopped, rest_got, reading_failed, reading_begun, first_good}
 use Rattle.listing.specs.declared.Put.{Put}
-use Rattle.listing.specs.declared.Put.TheVariants as Put
 use Rattle.listing.specs.Lines.{cabinets_line, stopped_line, total_lines, table_lines}
 use Rattle.listing.specs.Printing.{put_number, shown, printed}
 use Rattle.listing.proofs.Printing.{then_next, then_refused}

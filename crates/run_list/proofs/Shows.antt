@@ -18,7 +18,6 @@ use Rattle.model.proofs.InRange.{start_small, stays_in_range}
 use Rattle.event_list.specs.declared.Stop.{Stop}
 use Rattle.event_list.specs.declared.Stop.TheVariants.{TooLong, CutShort, WrongTag, WrongLength, WrongCount}
 use Rattle.event_list.specs.declared.First.{First}
-use Rattle.event_list.specs.declared.First.TheVariants as First
 use Rattle.event_list.specs.Format.{stop_number, first_of, Ending, complete, stopped, Reading, failed, begun, reading, rest}
 use Rattle.event_list.proofs.Reading.{reading_failed, reading_begun, first_good, reads_all}
 use Rattle.listing.specs.Lines.{cabinets_line, refused_line, stopped_line, messages_line, node_lines, table_lines, total_lines}

@@ -6,14 +6,12 @@ use Rattle.model.specs.Step.{step, after, run_from}
 use Rattle.model.specs.Answers.{result_number}
 use Rattle.model.specs.declared.Event.{Event}
 use Rattle.event_list.specs.declared.First.{First}
-use Rattle.event_list.specs.declared.First.TheVariants as First
 use Rattle.event_list.specs.Format.{first_of, stop_number, Ending, complete, stopped, Reading, Listed, failed, begun, reading}
 use Rattle.listing.specs.Lines.{cabinets_line, refused_line, stopped_line, table_lines}
 use Rattle.listing.specs.Printing.{put_number, shown, printed, joined}
 use Rattle.listing.specs.declared.Put.{Put}
 use Rattle.listing.specs.declared.Put.TheVariants.{Next}
 use Rattle.run_list.specs.declared.Heading.{Heading}
-use Rattle.run_list.specs.declared.Heading.TheVariants as Heading
 
 -- "for each event refused `refused e r`": event e with the number r, which is 0 where it is accepted
 unfoldable pub note_lines : ℕ → ℕ → List (List ℕ)

@@ -9,12 +9,10 @@ use Rattle.model.specs.declared.Table.{Table}
 use Rattle.model.specs.declared.Event.{Event}
 use Rattle.event_list.specs.declared.Stop.{Stop}
 use Rattle.event_list.specs.declared.Next.{Next}
-use Rattle.event_list.specs.declared.Next.TheVariants as Next
 use Rattle.event_list.specs.declared.First.TheVariants as First
 use Rattle.event_list.specs.Format.{stop_number, next_at, first_of, rest}
 use Rattle.event_list.proofs.Reading.{rest_done, rest_stopped, rest_got, reading_begun, first_good}
 use Rattle.listing.specs.declared.Put.{Put}
-use Rattle.listing.specs.declared.Put.TheVariants as Put
 use Rattle.listing.specs.Lines.{stopped_line, table_lines}
 use Rattle.listing.specs.Printing.{shown, printed}
 use Rattle.listing.proofs.Printing.{then_next, then_refused}
@@ -23,7 +21,6 @@ use Rattle.run_list.specs.declared.Heading.TheVariants as Heading
 use Rattle.run_list.proofs.Laws.{left, left_done, left_stopped, headed_ended, headed_nodes}
 use Rattle.session_list.specs.Ran.{printed_behind, where_table, RanFrom, RunTable, RanAll}
 use Rattle.session_list.specs.declared.Left.{Left}
-use Rattle.session_list.specs.declared.Left.TheVariants as Left
 use Rattle.session_list.specs.declared.Ran.{Ran}
 
 -- ── at a field ──

@@ -11,7 +11,6 @@ use Rattle.model.specs.Pick.{pick}
 use Rattle.model.specs.Range.{is_node, is_other}
 use Rattle.model.specs.State.{State}
 use Rattle.model.specs.Step.{Result, refused, accepted, step, wrong_number, wrong_task}
-use Rattle.model.specs.declared.TaskNo.{TaskNo}
 use Rattle.model.specs.declared.Event.{Event}
 use Rattle.model.specs.declared.Event.TheVariants.{Crash, Recover, Check, Timeout, Tick, Expire, Finish, Deliver, Lose}
 use Rattle.model.proofs.Local.{both_left, both_right}

@@ -6,7 +6,7 @@ use mathlib.Core.Logic.{◌⊎◌, inl, inr}
 use mathlib.Core.List.{List, [], ◌∷◌, ◌++◌}
 use Rattle.model.specs.declared.Event.{Event}
 use Rattle.short_lists_text.specs.Order.{tag, contents, BytesBefore, Before, ListBefore}
-use Rattle.short_lists_text.specs.Claims.{Part, Begins, OrderIs}
+use Rattle.short_lists_text.specs.Claims.{OrderIs}
 use Rattle.short_lists_text.proofs.Order.{event_never}
 
 bytes_first : (p : List ℕ) (x y : ℕ) (r t : List ℕ) → x < y → BytesBefore (p ++ (x ∷ r)) (p ++ (y ∷ t))

@@ -8,7 +8,6 @@ use lib.ListN.{length, get_or, length-append}
 use Rattle.model.specs.Pick.{pick}
 use Rattle.model.specs.State.{State}
 use Rattle.model.specs.Step.{after}
-use Rattle.model.specs.declared.TaskNo.{TaskNo}
 use Rattle.model.specs.declared.Event.{Event}
 use Rattle.model.specs.declared.Event.TheVariants.{Crash, Recover, Check, Timeout, Tick, Expire, Finish, Deliver, Lose}
 use Rattle.listing.specs.Ascii.{bytes}

@@ -10,7 +10,6 @@ use borrow.Author.Tests.{not-true, not-false, eqb-true, eqb-false}
 use Rattle.model.specs.Pick.{pick, pick_true, pick_false}
 use Rattle.model.specs.Range.{is_node, is_other}
 use Rattle.model.specs.Step.{wrong_number}
-use Rattle.model.specs.declared.TaskNo.{TaskNo}
 use Rattle.model.specs.declared.Event.{Event}
 use Rattle.model.specs.declared.Event.TheVariants.{Crash, Recover, Check, Timeout, Tick, Expire, Finish, Deliver, Lose}
 use Rattle.model.proofs.Local.{both_left, both_right}

@@ -14,7 +14,7 @@ use Rattle.model.proofs.Judged.{accepted_is}
 use Rattle.short_lists_text.specs.Rows.{Among, All, Ascending}
 use Rattle.short_lists_text.specs.Order.{Before, ListBefore}
 use Rattle.short_lists_text.specs.Lists.{alphabet, continued, lists_from, is_accepted, AcceptedFrom, TaskFits, Legal}
-use Rattle.short_lists_text.specs.Claims.{AllLists, EveryList}
+use Rattle.short_lists_text.specs.Claims.{EveryList}
 use Rattle.short_lists_text.proofs.Rows.{all_of, all_map, map_by, all_rows, among_map, among_rows, ascending_map, ascending_rows, alone}
 use Rattle.short_lists_text.proofs.Order.{strict_order, alphabet_ascends}
 use Rattle.short_lists_text.proofs.Members.{among_alphabet, alphabet_fits}

@@ -1,5 +1,4 @@
 -- `listing::field_at` meets its contract: a byte and then a number are one piece.
-use borrow.Author.Rules.{rules}
 use mathlib.Core.Path.{◌∙◌}
 use lib.ListN.{length-set}
 use Rattle.listing.proofs.Making.{field_piece}

@@ -1,5 +1,4 @@
 -- `listing::node_at` meets its contract.
-use borrow.Author.Rules.{rules}
 use mathlib.Core.Path.{sym, ◌∙◌}
 use lib.ListN.{get_or-eq_default}
 use Rattle.model.specs.State.{starting_node}

@@ -1,5 +1,4 @@
 -- `listing::number_at` meets its contract: the part of the buffer comes back with the digits.
-use borrow.Author.Rules.{rules}
 use Prim.Native.Nat.{◌+◌, ◌-◌}
 use mathlib.Core.Path.{◌≡◌}
 use native.Mathlib.Omega.{arith}

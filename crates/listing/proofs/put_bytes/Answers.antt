@@ -1,5 +1,4 @@
 -- `listing::put_bytes` meets its contract: the free end of the buffer comes back with the bytes over its start.
-use borrow.Author.Rules.{rules}
 use mathlib.Core.Path.{refl}
 use Rattle.listing.proofs.Appended.{appended, free_piece}
 use Rattle.listing.proofs.put_bytes.Goals as goal

@@ -1,5 +1,4 @@
 -- `listing::put_cabinets` meets its contract.
-use borrow.Author.Rules.{rules}
 use Rattle.listing.specs.Lines.{row, cabinets_line}
 use Rattle.listing.proofs.put_cabinets.Goals as goal
 

@@ -1,5 +1,4 @@
 -- `listing::put_line` meets its contract: the line is refused, or is one piece.
-use borrow.Author.Rules.{rules}
 use native.Mathlib.Omega.{arith}
 use Rattle.listing.proofs.Printing.{line_refused, line_next}
 use Rattle.listing.proofs.Appended.{appended_written}

@@ -1,5 +1,4 @@
 -- `listing::put_messages` meets its contract.
-use borrow.Author.Rules.{rules}
 use Rattle.listing.specs.Lines.{row, messages_line}
 use Rattle.listing.proofs.put_messages.Goals as goal
 

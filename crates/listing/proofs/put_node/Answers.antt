@@ -1,5 +1,4 @@
 -- `listing::put_node` meets its contract.
-use borrow.Author.Rules.{rules}
 use mathlib.Core.Path.{◌∙◌}
 use Rattle.listing.specs.Lines.{node_line}
 use Rattle.listing.proofs.put_node.Goals as goal

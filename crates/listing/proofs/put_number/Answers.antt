@@ -1,5 +1,4 @@
 -- `listing::put_number` meets its contract: as many last digits as x has are its decimal.
-use borrow.Author.Rules.{rules}
 use mathlib.Core.Path.{◌∙◌}
 use native.Mathlib.Omega.{arith}
 use Rattle.listing.proofs.Making.{padded_decimal}

@@ -1,5 +1,4 @@
 -- `listing::put_refused` meets its contract.
-use borrow.Author.Rules.{rules}
 use Rattle.listing.specs.Lines.{row, refused_line}
 use Rattle.listing.proofs.put_refused.Goals as goal
 

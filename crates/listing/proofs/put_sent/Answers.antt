@@ -1,5 +1,4 @@
 -- `listing::put_sent` meets its contract.
-use borrow.Author.Rules.{rules}
 use Rattle.listing.specs.Lines.{row, total_line}
 use Rattle.listing.proofs.put_sent.Goals as goal
 

@@ -1,5 +1,4 @@
 -- `listing::put_stopped` meets its contract.
-use borrow.Author.Rules.{rules}
 use Rattle.listing.specs.Lines.{row, stopped_line}
 use Rattle.listing.proofs.put_stopped.Goals as goal
 

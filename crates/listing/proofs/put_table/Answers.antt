@@ -1,13 +1,9 @@
 -- `listing::put_table` meets its contract. The invariant: what is left, printed from p on, is the whole table printed from at on.
 use borrow.Author.Rules.{rules}
-use Prim.Native.Nat.{◌≤◌, ◌-◌}
-use mathlib.Core.Path.{◌≡◌, refl, sym, ◌∙◌}
+use mathlib.Core.Path.{refl, sym, ◌∙◌}
 use native.Mathlib.Omega.{arith}
-use lib.ListN.{length}
 use Rattle.model.specs.State.{view}
-use Rattle.listing.specs.Lines.{table_lines}
-use Rattle.listing.specs.Printing.{printed}
-use Rattle.listing.proofs.Table.{left, left_first, turn_next, turn_refused, end_next, end_refused}
+use Rattle.listing.proofs.Table.{left_first, turn_next, turn_refused, end_next, end_refused}
 use Rattle.listing.proofs.put_table.Goals as goal
 
 pub loop-i-init : goal.loop-i-init

@@ -1,5 +1,4 @@
 -- `listing::put_totals` meets its contract: each line is written behind the one before it, or refused.
-use borrow.Author.Rules.{rules}
 use mathlib.Core.Path.{sym, ◌∙◌}
 use Rattle.listing.specs.Lines.{total_lines}
 use Rattle.listing.proofs.Table.{total_next, total_refused}

@@ -1,5 +1,4 @@
 -- `listing::put_turns` meets its contract.
-use borrow.Author.Rules.{rules}
 use Rattle.listing.specs.Lines.{row, turns_line}
 use Rattle.listing.proofs.put_turns.Goals as goal
 

@@ -1,5 +1,4 @@
 -- `listing::put_two` meets its contract: what `write_two` does to the free end, read in the whole buffer.
-use borrow.Author.Rules.{rules}
 use native.Mathlib.Omega.{arith}
 use Rattle.listing.proofs.Printing.{line_refused, put_fits, put_next_lem, put_refused}
 use Rattle.listing.proofs.put_two.Goals as goal

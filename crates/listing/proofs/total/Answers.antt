@@ -1,10 +1,7 @@
 -- `listing::total` meets its contract. The invariant: s and the sum of what is left are the sum of all.
 use borrow.Author.Rules.{rules}
-use Prim.Native.Nat.{◌≤◌, ◌+◌, ◌*◌, ◌-◌}
-use mathlib.Core.Path.{◌≡◌, sym, ◌∙◌}
+use mathlib.Core.Path.{sym, ◌∙◌}
 use native.Mathlib.Omega.{arith}
-use lib.ListN.{drop}
-use Rattle.model.specs.Counts as counts
 use Rattle.listing.proofs.Totals.{total_turn, total_end}
 use Rattle.listing.proofs.total.Goals as goal
 

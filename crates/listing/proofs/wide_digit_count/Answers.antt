@@ -1,10 +1,6 @@
 -- `listing::wide_digit_count` meets its contract. The invariant: k and the digits of y are one more than the digits of x.
 use borrow.Author.Rules.{rules}
-use Prim.Native.Nat.{◌≤◌, ◌+◌}
-use mathlib.Core.Path.{◌≡◌}
 use native.Mathlib.Omega.{arith}
-use lib.ListN.{length}
-use Rattle.listing.specs.Decimal.{decimal}
 use Rattle.listing.proofs.Decimal.{decimal_one, decimal_more, decimal_long}
 use Rattle.listing.proofs.wide_digit_count.Goals as goal
 

@@ -1,12 +1,9 @@
 -- `listing::wide_digits_into` meets its contract, as `digits_into` does.
-use borrow.Author.Rules.{rules}
 use Prim.Native.Nat.{◌≤◌}
-use mathlib.Core.Path.{◌≡◌, refl, sym, ◌∙◌}
-use mathlib.Core.List.{◌++◌, append-nil}
-use native.Mathlib.Omega.{arith}
-use lib.ListN.{length, drop, length-set, drop_of_length-le}
+use mathlib.Core.Path.{◌≡◌}
+use mathlib.Core.List.{◌++◌}
+use lib.ListN.{length, drop}
 use Rattle.listing.specs.Parts.{padded}
-use Rattle.listing.proofs.Making.{digits_turn, digits_end}
 use Rattle.listing.proofs.wide_digits_into.Given as goal
 
 abbrev pub invariant-loop-p : goal.invariant-loop-p

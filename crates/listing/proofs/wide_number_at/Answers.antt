@@ -1,5 +1,4 @@
 -- `listing::wide_number_at` meets its contract, as `number_at` does.
-use borrow.Author.Rules.{rules}
 use Prim.Native.Nat.{◌+◌, ◌-◌}
 use mathlib.Core.Path.{◌≡◌}
 use native.Mathlib.Omega.{arith}

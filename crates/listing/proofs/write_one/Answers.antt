@@ -1,5 +1,4 @@
 -- `listing::write_one` meets its contract: the line is refused, or its pieces are written one after the other.
-use borrow.Author.Rules.{rules}
 use Prim.Native.Nat.{◌+◌}
 use mathlib.Core.Path.{◌≡◌, refl, ◌∙◌}
 use mathlib.Core.List.{◌++◌}

@@ -1,5 +1,4 @@
 -- `listing::write_seven` meets its contract: the line is refused, or its pieces are written one after the other.
-use borrow.Author.Rules.{rules}
 use native.Mathlib.Omega.{arith}
 use lib.ListN.{length-set}
 use Rattle.listing.proofs.Making.{seven_refused, seven_next}

@@ -1,5 +1,4 @@
 -- `run_list::note` meets its contract.
-use borrow.Author.Rules.{rules}
 use borrow.Author.Tests.{eq-eqb, ne_eqb}
 use mathlib.Core.Path.{◌∙◌}
 use Rattle.model.specs.Pick.{pick}

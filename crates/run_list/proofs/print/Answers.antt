@@ -1,5 +1,4 @@
 -- `run_list::print` meets its contract.
-use borrow.Author.Rules.{rules}
 use Rattle.listing.proofs.Printing.{printed_holds}
 use Rattle.run_list.proofs.print.Goals as goal
 

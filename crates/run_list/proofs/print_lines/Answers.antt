@@ -1,5 +1,4 @@
 -- `run_list::print_lines` meets its contract: by the heading, that alone, or the run behind it.
-use borrow.Author.Rules.{rules}
 use mathlib.Core.Path.{refl, sym, ◌∙◌, ap, ap₂}
 use Rattle.model.specs.State.{State, start}
 use Rattle.event_list.proofs.Reading.{first_good}

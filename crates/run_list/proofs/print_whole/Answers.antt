@@ -1,5 +1,4 @@
 -- `run_list::print_whole` meets its contract: the buffer is as long as any text.
-use borrow.Author.Rules.{rules}
 use native.Mathlib.Nat.{le_trans}
 use native.Mathlib.Omega.{arith}
 use Rattle.listing.proofs.Printing.{whole_next, never_refused}

@@ -1,5 +1,4 @@
 -- `run_list::put_heading` meets its contract: by the first field, a line alone, or a line and the run behind it.
-use borrow.Author.Rules.{rules}
 use mathlib.Core.Path.{◌≡◌, refl, sym, ◌∙◌}
 use mathlib.Core.Bool.{Bool}
 use mathlib.Core.List.{List, []}

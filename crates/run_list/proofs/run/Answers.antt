@@ -1,11 +1,9 @@
 -- `run_list::run` meets its contract. The invariant: the table, with its messages as words, is in range, and what is left, printed from p on, is all of it
 -- printed from the start.
 use borrow.Author.Rules.{rules}
-use Prim.Native.Nat.{◌≤◌, ◌-◌}
 use native.Mathlib.Omega.{arith}
-use mathlib.Core.Path.{◌≡◌, refl, sym, ◌∙◌, ap, subst}
+use mathlib.Core.Path.{refl, sym, ◌∙◌, ap, subst}
 use mathlib.Core.List.{[], ◌∷◌}
-use lib.ListN.{length}
 use Rattle.model.specs.State.{view}
 use Rattle.model.specs.Step.{run_from}
 use Rattle.model.proofs.Fields.{in_range_size}
@@ -13,11 +11,11 @@ use Rattle.model.specs.Range.{TwoPairs}
 use Rattle.model.proofs.Traffic.{SentWithin, start_within, run_within}
 use Rattle.machine.proofs.Laws.{sized}
 use Rattle.packed.specs.Seen.{seen}
-use Rattle.packed.proofs.Turns.{same_start, start_empty, Ready, few, counted, counts_low, rulable, refused_turn, has_room, within_below, accepted_turn, ready_again}
+use Rattle.packed.proofs.Turns.{same_start, start_empty, few, counted, counts_low, rulable, refused_turn, has_room, within_below, accepted_turn, ready_again}
 use Rattle.event_list.proofs.Reading.{next_past}
 use Rattle.listing.specs.Lines.{table_lines}
 use Rattle.listing.specs.Printing.{printed}
-use Rattle.run_list.proofs.Laws.{same_lines, left, left_done, left_stopped, left_quiet, turn_next, turn_refused}
+use Rattle.run_list.proofs.Laws.{same_lines, left_done, left_stopped, left_quiet, turn_next, turn_refused}
 use Rattle.run_list.proofs.run.Goals as goal
 
 pub loop-out-init : goal.loop-out-init

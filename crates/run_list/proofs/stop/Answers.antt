@@ -1,5 +1,4 @@
 -- `run_list::stop` meets its contract: a line, and the table behind it.
-use borrow.Author.Rules.{rules}
 use mathlib.Core.Path.{sym, ◌∙◌}
 use mathlib.Core.List.{[], ◌∷◌}
 use Rattle.model.specs.State.{view}

@@ -1,0 +1,15 @@
+-- `list_parser::events::second_most` meets its contract, by the test.
+use mathlib.Core.Path.{refl}
+use native.Mathlib.Omega.{arith}
+use borrow.Author.Tests.{eq-eqb, ne_eqb}
+use Rattle.model.specs.Pick.{pick}
+use Rattle.list_text.specs.Script.{second_most}
+use Rattle.list_parser.proofs.events.second_most.Goals as goal
+
+pub returns-then-tag-eq22 : goal.returns-then-tag-eq22
+unfolding second_most pick
+returns-then-tag-eq22 c = (rw (eq-eqb _ _ c.if-tag-eq22.true) refl, omega arith)
+
+pub returns : goal.returns
+unfolding second_most pick
+returns c = (rw (ne_eqb _ _ c.if-tag-eq22.false) refl, omega arith)

@@ -1,8 +1,0 @@
--- `list_parser::words::is_word_byte` meets its contract, by what is_blank says.
-use mathlib.Core.Path.{refl}
-use borrow.Author.Rules.{rules}
-use Rattle.list_parser.proofs.words.is_word_byte.Statement.{statement}
-use Rattle.list_parser.proofs.words.is_word_byte.Tie as tie
-
-pub is_word_byte_spec : {M : Type 1} → statement M
-is_word_byte_spec = tie.close (tie.spec (λ c κs. search rules) (λ c. rw c.is-blank.ensures refl))
