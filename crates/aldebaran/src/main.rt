@@ -24,16 +24,16 @@ fn text_space() -> [u8; TEXT_SPACE]
 }
 
 // The text of the input, to standard output.
-fn print(input: &[u8]) {
+fn print(rt: &HostRuntime, input: &[u8]) {
     let mut out = text_space();
     let count = list_tree::put_text(input, &mut out);
-    standard_io::write_all(&out[..count]);
+    standard_io::write_all(rt, &out[..count]);
 }
 
-fn main() {
+fn main(rt: HostRuntime) {
     let mut input = input_space();
-    match standard_io::read_all(&mut input) {
+    match standard_io::read_all(&rt, &mut input) {
         Input::Failed => {}
-        Input::Read(count) => print(&input[..count]),
+        Input::Read(count) => print(&rt, &input[..count]),
     }
 }
