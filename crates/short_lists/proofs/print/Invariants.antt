@@ -3,8 +3,8 @@ use Rattle.std.proofs.Common.{length}
 use Rattle.list_search.specs.Search.{Sound, text_left}
 use Rattle.short_lists.proofs.print.Given as goal
 
-abbrev pub invariant-loop : goal.invariant-loop
-invariant-loop l = Sound l.s
+abbrev pub invariant-loop-out : goal.invariant-loop-out
+invariant-loop-out l = Sound l.s
 
-abbrev pub decreases-loop : goal.decreases-loop
-decreases-loop l = length (text_left l.s)
+abbrev pub decreases-loop-out : goal.decreases-loop-out
+decreases-loop-out l = length (text_left l.s)

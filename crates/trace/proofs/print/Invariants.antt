@@ -3,8 +3,8 @@ use Rattle.std.proofs.Common.{length, ◌-◌}
 use Rattle.trace_list.specs.Pieces.{SoundTrace}
 use Rattle.trace.proofs.print.Given as goal
 
-abbrev pub invariant-loop : goal.invariant-loop
-invariant-loop l = SoundTrace l.list l.t
+abbrev pub invariant-loop-out : goal.invariant-loop-out
+invariant-loop-out l = SoundTrace l.list l.t
 
-abbrev pub decreases-loop : goal.decreases-loop
-decreases-loop l = length l.list - l.t.at
+abbrev pub decreases-loop-out : goal.decreases-loop-out
+decreases-loop-out l = length l.list - l.t.at
