@@ -20,7 +20,7 @@ pub fn nevraspu(arguments: &[&str]) -> Command {
 /// A proved program.
 pub fn program(name: &str) -> Command {
     let path = root().join("target/bin").join(name);
-    assert!(path.is_file(), "target/bin/{name} is missing: build it by `rt check {name}`");
+    assert!(path.is_file(), "target/bin/{name} is missing: build it by `tools/programs {name}`");
     Command::new(path)
 }
 

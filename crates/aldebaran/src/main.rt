@@ -1,5 +1,5 @@
 // The program of T-12: reads its input, two bytes n and L, from standard input, and writes the text of the transition system of all accepted lists of up to L events to standard output, or
-// `stopped 0 22`. Where the input can't be read nothing is printed. `standard_io` says on standard error why, and also where the text can't be written: there is no exit status to give.
+// `stopped 0 22`. Where the input can't be read nothing is printed. `standard_io` says on standard error why, and also where the text can't be written: the exit status is 0 in any case.
 // No promise can say what a program reads and writes. To be seen in this file: all that was read, and no more, goes to `put_text`, and its text is written, all of it, once.
 #![tactic(auto)]
 
@@ -24,16 +24,16 @@ fn text_space() -> [u8; TEXT_SPACE]
 }
 
 // The text of the input, to standard output.
-fn print(input: &[u8]) {
+fn print(rt: &HostRuntime, input: &[u8]) {
     let mut out = text_space();
     let count = list_tree::put_text(input, &mut out);
-    standard_io::write_all(&out[..count]);
+    standard_io::write_all(rt, &out[..count]);
 }
 
-fn main() {
+fn main(rt: HostRuntime) {
     let mut input = input_space();
-    match standard_io::read_all(&mut input) {
+    match standard_io::read_all(&rt, &mut input) {
         Input::Failed => {}
-        Input::Read(count) => print(&input[..count]),
+        Input::Read(count) => print(&rt, &input[..count]),
     }
 }

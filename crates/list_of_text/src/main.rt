@@ -30,27 +30,27 @@ fn message_space() -> [u8; MESSAGE_LIMIT]
 }
 
 // Where the text is bad and what was expected there, to standard error.
-fn tell(place: Place, x: Expected) {
+fn tell(rt: &HostRuntime, place: Place, x: Expected) {
     let mut message = message_space();
     let n = list_parser::put_message(&mut message, place, x);
-    standard_io::tell(&message[..n]);
+    standard_io::tell(rt, &message[..n]);
 }
 
 // The list of the text, to standard output.
-fn write(text: &[u8]) {
+fn write(rt: &HostRuntime, text: &[u8]) {
     let mut list = list_space();
     match list_parser::list_of_text(text, &mut list) {
-        Parsed::Bad(place, x) => tell(place, x),
+        Parsed::Bad(place, x) => tell(rt, place, x),
         Parsed::List(n) => {
-            standard_io::write_all(&list[..n]);
+            standard_io::write_all(rt, &list[..n]);
         }
     }
 }
 
-fn main() {
+fn main(rt: HostRuntime) {
     let mut text = text_space();
-    match standard_io::read_all(&mut text) {
+    match standard_io::read_all(&rt, &mut text) {
         Input::Failed => {}
-        Input::Read(n) => write(&text[..n]),
+        Input::Read(n) => write(&rt, &text[..n]),
     }
 }

@@ -25,13 +25,13 @@ fn piece_space() -> [u8; PIECE]
 }
 
 // The text of the input, to standard output.
-fn print(input: &[u8]) {
+fn print(rt: &HostRuntime, input: &[u8]) {
     let mut out = piece_space();
     let mut s = list_search::begin(input);
     loop {
         let p = list_search::next_lines(s, &mut out);
         let n = p.written;
-        if !standard_io::write_all(&out[..n]) {
+        if !standard_io::write_all(rt, &out[..n]) {
             return;
         }
         if p.done {
@@ -41,10 +41,10 @@ fn print(input: &[u8]) {
     }
 }
 
-fn main() {
+fn main(rt: HostRuntime) {
     let mut input = input_space();
-    match standard_io::read_all(&mut input) {
+    match standard_io::read_all(&rt, &mut input) {
         Input::Failed => {}
-        Input::Read(n) => print(&input[..n]),
+        Input::Read(n) => print(&rt, &input[..n]),
     }
 }

@@ -1,6 +1,5 @@
 -- What reading promises of the number of bytes read.
-use Rattle.std.specs.Prelude.{List, ℕ, ◌≤◌}
-use Rattle.io.specs.Counts.{IsPrefixLen}
+use Rattle.std.specs.Prelude.{List, ℕ, ◌≤◌, ◌≡◌, length, take}
 use Rattle.standard_io.specs.declared.Input.{Input}
 use Rattle.standard_io.specs.declared.Input.TheVariants.{Read, Failed}
 
@@ -11,5 +10,5 @@ Within Failed k = Unit {0}
 
 -- it counts bytes of the buffer, as taking that part of it asks
 abbrev pub Counted : Input → List ℕ → Type 0
-Counted (Read n) buf = IsPrefixLen n buf
+Counted (Read n) buf = (n ≤ length buf) × (n ≡ length (take n buf))
 Counted Failed buf = Unit {0}

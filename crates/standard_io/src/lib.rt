@@ -2,11 +2,14 @@
 // says why; a program's own message goes there as well. No contract can say which bytes are read or written.
 #![tactic(auto)]
 
-ghost use Rattle.std.specs.Prelude.{◌≡◌, ◌≤◌, ◌-◌, length};
-ghost use Rattle.standard_io.specs.Input.{Within, Counted};
+ghost use Rattle.std.specs.Prelude.{◌≡◌, ◌<◌, length, take, IfOk, OnOk};
+ghost use Rattle.std.specs.Io.{ReadsAtMost};
+ghost use Rattle.std.specs.Io.KnownBytes.{Consumes, Appends, IsAtEnd};
+ghost use Rattle.standard_io.specs.Input.{Counted};
 ghost use Rattle.standard_io.specs.declared.Input.TheVariants as Input;
 
-use libc::{STDERR_FILENO, STDIN_FILENO, STDOUT_FILENO};
+use std::io;
+use std::io::{Read, Write};
 
 // What reading gave: so many bytes, or nothing that can be used.
 #[derive(Clone, Copy)]
@@ -25,56 +28,50 @@ pub fn list_space() -> [u8; LIST_SPACE]
     [0; LIST_SPACE]
 }
 
-// One read, into the part of buf from at on.
-fn read_from(buf: &mut [u8], at: usize) -> Input
-    requires { at ≤ length buf.old }
-    ensures { Within result (length buf.old - at) }
+// Reads to the end, or until buf is full, and returns how many bytes now stand at its start. A read of nothing is the end.
+fn read_whole<R: Read>(from: &mut R, buf: &mut [u8]) -> io::Result<usize>
+    ensures counted { ReadsAtMost result buf.new }
+    ensures bytes { IfOk result (λ n. Consumes (R.remaining from.old) (R.remaining from.new) (take n buf.new)) }
+    ensures end { IfOk result (λ n. n < length buf.new → IsAtEnd (R.remaining from.new)) }
 {
-    let got = libc::read(STDIN_FILENO, &mut buf[at..]);
-    if got < 0 {
-        return Input::Failed;
+    let mut at: usize = 0;
+    while at < buf.len() {
+        let n = from.read(&mut buf[at..])?;
+        if n == 0 {
+            return Ok(at);
+        }
+        at += n;
     }
-    Input::Read(io::count(got, &buf[at..]))
-}
-
-fn read_failed() -> Input
-    ensures { result ≡ Input.Failed }
-{
-    os::fail(b"standard input");
-    Input::Failed
+    Ok(at)
 }
 
 // Reads standard input to its end, or until buf is full: whether there is more is then not known. A read of nothing is the end, so on a terminal it is given once.
 // Where a read fails, standard error is told why, and what was read before counts for nothing.
-pub fn read_all(buf: &mut [u8]) -> Input
+pub fn read_all<R: io::Input + Eprint>(rt: &R, buf: &mut [u8]) -> Input
     ensures { Counted result buf.new }
 {
-    let mut at: usize = 0;
-    while at < buf.len() {
-        match read_from(buf, at) {
-            Input::Failed => return read_failed(),
-            Input::Read(n) => {
-                if n == 0 {
-                    return Input::Read(at);
-                }
-                at += n;
-            }
+    match read_whole(&mut rt.reader(), buf) {
+        Ok(n) => Input::Read(n),
+        Err(e) => {
+            let _ = eprintln!(rt; "standard input: {e}");
+            Input::Failed
         }
     }
-    Input::Read(at)
 }
 
 // Writes all of text to standard output and answers whether all was written, so that a program that writes in pieces can stop at the first failure.
 // Where that fails, standard error is told why; some of text may have been written. No contract can say what was written, so none says what the answer means.
-pub fn write_all(text: &[u8]) -> bool {
-    if io::write_all(STDOUT_FILENO, text) {
-        return true;
+pub fn write_all<R: Print + Eprint>(rt: &R, text: &[u8]) -> bool {
+    match io::writer(rt).write_all(text) {
+        Ok(()) => true,
+        Err(e) => {
+            let _ = eprintln!(rt; "standard output: {e}");
+            false
+        }
     }
-    os::fail(b"standard output");
-    false
 }
 
 // Writes all of message to standard error. Where that fails there is nowhere left to tell it.
-pub fn tell(message: &[u8]) {
-    io::write_all(STDERR_FILENO, message);
+pub fn tell(rt: &HostRuntime, message: &[u8]) {
+    let _ = io::writer(&rt.stderr()).write_all(message);
 }

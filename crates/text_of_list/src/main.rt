@@ -14,16 +14,16 @@ fn text_space() -> [u8; LIST_TEXT_LIMIT]
 }
 
 // The text of the list, to standard output.
-fn print(list: &[u8]) {
+fn print(rt: &HostRuntime, list: &[u8]) {
     let mut text = text_space();
     let n = list_printer::print_whole(list, &mut text);
-    standard_io::write_all(&text[..n]);
+    standard_io::write_all(rt, &text[..n]);
 }
 
-fn main() {
+fn main(rt: HostRuntime) {
     let mut list = standard_io::list_space();
-    match standard_io::read_all(&mut list) {
+    match standard_io::read_all(&rt, &mut list) {
         Input::Failed => {}
-        Input::Read(n) => print(&list[..n]),
+        Input::Read(n) => print(&rt, &list[..n]),
     }
 }

@@ -16,18 +16,18 @@ fn piece_space() -> [u8; PIECE]
 }
 
 // The first n bytes of a piece, to standard output.
-fn write_piece(piece: &[u8; PIECE], n: usize) -> bool
+fn write_piece(rt: &HostRuntime, piece: &[u8; PIECE], n: usize) -> bool
     requires { n ≤ 1024 }
 {
     let all: &[u8] = piece;
-    standard_io::write_all(&all[..n])
+    standard_io::write_all(rt, &all[..n])
 }
 
 // The trace of the list, to standard output.
-fn print(list: &[u8]) {
+fn print(rt: &HostRuntime, list: &[u8]) {
     let mut out = piece_space();
     let first = trace_list::begin(list, &mut out);
-    if !write_piece(&out, first.written) {
+    if !write_piece(rt, &out, first.written) {
         return;
     }
     if first.done {
@@ -36,7 +36,7 @@ fn print(list: &[u8]) {
     let mut t = first.trace;
     loop {
         let p = trace_list::next_piece(list, t, &mut out);
-        if !write_piece(&out, p.written) {
+        if !write_piece(rt, &out, p.written) {
             return;
         }
         if p.done {
@@ -46,10 +46,10 @@ fn print(list: &[u8]) {
     }
 }
 
-fn main() {
+fn main(rt: HostRuntime) {
     let mut list = standard_io::list_space();
-    match standard_io::read_all(&mut list) {
+    match standard_io::read_all(&rt, &mut list) {
         Input::Failed => {}
-        Input::Read(n) => print(&list[..n]),
+        Input::Read(n) => print(&rt, &list[..n]),
     }
 }
