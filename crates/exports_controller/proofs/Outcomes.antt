@@ -1,9 +1,9 @@
 -- What owning an outcome tells of it; how many bytes it has, and what is read back from them.
 use Prim.Native.Nat.{ℕ, ◌/◌, ◌%◌, ◌≤◌}
 use native.Mathlib.Omega.{arith}
-use mathlib.Core.Path.{◌≡◌, sym, ◌∙◌}
+use mathlib.Core.Path.{◌≡◌}
 use mathlib.Core.List.{List, ◌++◌, append_assoc}
-use lib.ListN.{length, get_or, take, drop, replicate, length-append, length-drop, length-map}
+use lib.ListN.{length, get_or, take, drop, replicate, length-append, length-drop}
 use lib.Seq.{take-append_seam}
 use mir.Val.{Val}
 use denote.Laws.{Is}
@@ -24,7 +24,7 @@ use Rattle.exports_controller.specs.Boundary.{outcome_size}
 -- ── what owning an outcome, or a packet, tells of it ──
 
 pub packet_long : (p : Packet) {vs : List Val} → Is (row packet.the_type) p vs → length p.bytes ≡ most_bytes
-packet_long p g = sym (length-map p.bytes _) ∙ g.1.1.0.1.0.1
+packet_long p g = g.1.1.0.1.0.1
 
 pub outcome_fits : (q : ControllerOutcome) {vs : List Val} → Is (row outcome.the_type) q vs → NodeFits q.node × (length q.packet.bytes ≡ most_bytes)
 outcome_fits q g = (node_fits q.node g.1.1.1.0, packet_long q.packet g.1.1.1.1.0)

@@ -5,7 +5,6 @@ use Rattle.number_bytes.specs.Bytes.{bytes, buffer_in}
 use Rattle.table_bytes.specs.Bytes.{node_of, node_bytes}
 use Rattle.event_list.specs.declared.Stop.TheVariants.{CutShort}
 use Rattle.event_list.specs.declared.Next.{Next}
-use Rattle.event_list.specs.declared.Next.TheVariants as Next
 use Rattle.message_fields.specs.declared.Packet.{Packet}
 use Rattle.controller.specs.declared.ControllerOutcome.{ControllerOutcome}
 use Rattle.exports_controller.specs.declared.FieldRead.{FieldRead}

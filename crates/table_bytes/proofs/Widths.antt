@@ -7,7 +7,8 @@ use lib.ListN.{length}
 use mir.Val.{Val}
 use denote.Laws.{Is}
 use denote.Array.{Array}
-use denote.Struct.Field.{u32-field}
+use denote.Builtin.{u32}
+use denote.RattleType.{RattleType}
 use denote.Struct.Declared as struct
 use denote.Enum.Declared as enum
 use Rattle.model.specs.declared.Activity.{Activity}
@@ -77,15 +78,18 @@ map_identity : {A : Type 0} (xs : List A) → map (λ x. x) xs ≡ xs
 map_identity [] = refl
 map_identity {A} (x ∷ xs) = ap (λ (r : List A). x ∷ r) (map_identity xs)
 
--- records owned as an array
-pub records_fit : (k : ℕ) (xs : List Node) {vs : List Val} → Is (Array (struct.row node.the_type) k) xs vs → (length xs ≡ k) × Each NodeFits xs
-records_fit k xs {vs} g =
-    array_fits (struct.row node.the_type) (λ c. c) NodeFits (λ c us f. node_fits c {vs = us} f) k xs {vs = vs}
-    (subst (λ (l : List Node). Is (Array (struct.row node.the_type) k) l vs) (sym (map_identity xs)) g)
+-- an array owned: its length, and what owning an element tells of each
+owned_array : (R : RattleType) (P : R.Denot → Type 0) → ((x : R.Denot) (vs : List Val) → Is R x vs → P x) → (k : ℕ) (xs : List R.Denot) {vs : List Val} → Is (Array R k) xs vs → (length xs ≡ k) × Each P xs
+owned_array R P fits k xs {vs} g = array_fits R (λ x. x) P fits k xs {vs = vs} (subst (λ (l : List R.Denot). Is (Array R k) l vs) (sym (map_identity xs)) g)
 
--- counts owned as a field of a struct
-counts_fit : (xs : List ℕ) {vs : List Val} → Is (Array u32-field.row 256) (map u32-field.into xs) vs → (length xs ≡ 256) × Each CountFits xs
-counts_fit xs {vs} g = array_fits u32-field.row u32-field.into CountFits (λ x us f. f.1) 256 xs {vs = vs} g
+pub records_fit : (k : ℕ) (xs : List Node) {vs : List Val} → Is (Array (struct.row node.the_type) k) xs vs → (length xs ≡ k) × Each NodeFits xs
+records_fit k xs {vs} g = owned_array (struct.row node.the_type) NodeFits (λ c us f. node_fits c {vs = us} f) k xs {vs = vs} g
+
+messages_fit : (xs : List Message) {vs : List Val} → Is (Array (struct.row message.the_type) 64) xs vs → (length xs ≡ 64) × Each MessageFits xs
+messages_fit xs {vs} g = owned_array (struct.row message.the_type) MessageFits (λ m us f. message_fits m {vs = us} f) 64 xs {vs = vs} g
+
+counts_fit : (xs : List ℕ) {vs : List Val} → Is (Array u32 256) xs vs → (length xs ≡ 256) × Each CountFits xs
+counts_fit xs {vs} g = owned_array u32 CountFits (λ x us f. f.1) 256 xs {vs = vs} g
 
 pub table_fits : (t : Table) {vs : List Val} → Is (struct.row table.the_type) t vs → Fits t
 table_fits t g =
@@ -96,8 +100,8 @@ table_fits t g =
     record {
       n = k.0.1;
       limits = (m.0.1, m.1.0.1);
-      nodes = array_fits (node.the_field).row (node.the_field).into NodeFits (λ c vs g. node_fits c {vs = vs} g) 16 t.nodes f.1.0;
-      messages = array_fits (message.the_field).row (message.the_field).into MessageFits (λ m vs g. message_fits m {vs = vs} g) 64 t.messages f.1.1.0;
+      nodes = records_fit 16 t.nodes f.1.0;
+      messages = messages_fit t.messages f.1.1.0;
       waiting = h.0.1;
       sent = counts_fit t.sent h.1.0;
       delivered = counts_fit t.delivered h.1.1.0;
