@@ -207,6 +207,7 @@ calls_end l from (c ∷ cs) a (inr h) =
     let y = long l from c.before c.buffer c.answer a.0 in
     let z = calls_end l (from + c.answer) cs a.1 h in
     let w = length-append (take c.answer c.buffer) (got_by cs) in omega arith
+calls_end l from [] a x'' = elim x'' [ ]
 
 next_offset : (l : List ℕ) (from : ℕ) (b o : List ℕ) (r : ℕ) → ShortListsExported l from b o r → from < 2 ^ 64 → from + r < 2 ^ 64
 next_offset l from b o r w h =

@@ -1,0 +1,11 @@
+-- `nevraspu_rest` meets its contract: the answer of `print`, as a number.
+use native.Mathlib.Omega.{arith}
+use borrow.Author.Rules.{rules}
+use Rattle.listing.proofs.Printing.{lines_exported}
+use Rattle.exports_text.proofs.Room.{rest_exported}
+use Rattle.exports_text.proofs.nevraspu_rest.Goals as goal
+
+pub returns : goal.returns
+returns c =
+    let p = c.print in
+    rest_exported _ _ _ _ (lines_exported _ _ _ p.result (omega arith) p.ensures _ c.put_length.ensures)
