@@ -1,34 +1,10 @@
 -- `list_parser::list_of_text` meets its contract: what was filled in of the text is what it comes to.
-use mathlib.Core.Path.{◌≡◌, sym}
-use native.Mathlib.Omega.{arith}
-use borrow.Author.Rules.{rules}
-use lib.ListN.{length}
 use lib.Seq.{length-take-le}
 use Rattle.list_parser.proofs.Answers.{as_told, too_long, wrong_in, bytes_in, made_bad, made_list}
 use Rattle.list_parser.proofs.list_of_text.Goals as goal
 
 pub returns-then-t-gt-TEXT_LIMIT : goal.returns-then-t-gt-TEXT_LIMIT
 returns-then-t-gt-TEXT_LIMIT c = let a = c.args in made_bad a.t.now a.out.now _ _ (rw c.place_of.ensures (too_long a.t.now c.if-t-gt-TEXT_LIMIT.true))
-
-pub place_of-requires-in-Wrong : goal.place_of-requires-in-Wrong
-place_of-requires-in-Wrong c =
-    let w = (as_told c.put_list.ensures c.in-Wrong.is).within in
-    let h = c.if-t-gt-TEXT_LIMIT.false in
-    (omega arith, omega arith)
-
-pub slice_bounds-list-end : goal.slice_bounds-list-end
-slice_bounds-list-end c = (as_told c.put_list.ensures c.in-Bytes.is).within
-
-pub slice_bounds-put_bytes-end-in-Bytes : goal.slice_bounds-put_bytes-end-in-Bytes
-slice_bounds-put_bytes-end-in-Bytes c =
-    let f = as_told c.put_list.ensures c.in-Bytes.is in
-    sym (length-take-le _ _ f.within)
-
-pub put_bytes-requires : goal.put_bytes-requires
-put_bytes-requires c =
-    let f = as_told c.put_list.ensures c.in-Bytes.is in
-    let n : length c.args.out.now ≡ 65536 = search rules in
-    omega (arith, f.within, f.long, length-take-le c.in-Bytes.k c.put_list.new.out f.within)
 
 pub returns-in-Wrong : goal.returns-in-Wrong
 returns-in-Wrong c =

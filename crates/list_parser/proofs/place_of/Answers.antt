@@ -1,13 +1,10 @@
 -- `list_parser::place_of` meets its contract. The invariant: what is left before the offset leads from the line and column so far to those of the offset.
-use mathlib.Core.Path.{refl, sym, ◌∙◌}
+use mathlib.Core.Path.{sym, ◌∙◌}
 use native.Mathlib.Omega.{arith}
 use borrow.Author.Tests.{eq-eqb, ne_eqb}
 use Rattle.list_parser.proofs.Places.{place_line, place_column, place_end}
 use Rattle.list_parser.proofs.place_of.Goals as goal
 use Rattle.list_parser.proofs.place_of.Goals.{then-t-i-eq10, else-t-i-eq10}
-
-pub loop-i-init : goal.loop-i-init
-loop-i-init c = (omega arith, c.requires.0, c.requires.1, omega arith, omega arith, refl)
 
 pub loop-i-preserved : goal.loop-i-preserved
 loop-i-preserved c =

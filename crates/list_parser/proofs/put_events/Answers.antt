@@ -1,6 +1,6 @@
 -- `list_parser::put_events` meets its contract. The invariant: the bytes so far with what is said from p on come to what the first field comes to with what is said from the start.
 use Prim.Native.Nat.{◌-◌, ◌≤◌, ◌<◌}
-use mathlib.Core.Path.{◌≡◌, refl, sym, ◌∙◌, subst}
+use mathlib.Core.Path.{◌≡◌, sym, ◌∙◌, subst}
 use native.Mathlib.Omega.{arith}
 use lib.ListN.{length, take}
 use Rattle.list_text.specs.Script.{event_field}
@@ -8,9 +8,6 @@ use Rattle.list_text.proofs.Parts.{says_all}
 use Rattle.list_text.proofs.Places.{PartWithin, part_within}
 use Rattle.list_parser.proofs.Fillings.{filled_end, filled_wrong, filled_full, filled_on}
 use Rattle.list_parser.proofs.put_events.Goals as goal
-
-pub loop-q-init : goal.loop-q-init
-loop-q-init c = let h = c.requires in (h.0, omega arith, omega arith, h.1, refl)
 
 pub returns-in-End : goal.returns-in-End
 returns-in-End c =
@@ -42,9 +39,6 @@ returns-then-k-field_size c =
       long = c.loop-q.invariant.3;
       within = (says_all.further a.t.now c.loop-q.p _ _ e).1;
     }
-
-pub put_event-k-requires : goal.put_event-k-requires
-put_event-k-requires c = let f = c.field_size.ensures in omega arith
 
 pub loop-q-smaller : goal.loop-q-smaller
 loop-q-smaller c =

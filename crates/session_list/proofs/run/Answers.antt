@@ -2,15 +2,12 @@
 -- that is left is that of the whole run.
 use borrow.Author.Rules.{rules}
 use native.Mathlib.Omega.{arith}
-use mathlib.Core.Path.{refl, sym, ◌∙◌}
+use mathlib.Core.Path.{sym, ◌∙◌}
 use Rattle.model.specs.State.{view}
 use Rattle.event_list.proofs.Reading.{next_past}
 use Rattle.run_list.proofs.Laws.{turn_next, turn_refused}
 use Rattle.session_list.proofs.Laws.{events_got, ends_done, ends_stopped, stop_refused, ends_refused}
 use Rattle.session_list.proofs.run.Goals as goal
-
-pub loop-s-init : goal.loop-s-init
-loop-s-init c = (omega arith, c.requires.0, refl, λ f. refl, refl)
 
 -- the list's end
 pub returns-in-Done : goal.returns-in-Done

@@ -1,7 +1,6 @@
 -- `list_parser::events::two_at` meets its contract: a number that was found is at most 255, and ends within the text.
-use mathlib.Core.Path.{sym, ◌∙◌, ap}
+use mathlib.Core.Path.{sym, ◌∙◌}
 use native.Mathlib.Omega.{arith}
-use Rattle.list_text.specs.Script.{with_two}
 use Rattle.list_text.proofs.Parts.{number_further}
 use Rattle.list_parser.proofs.events.two_at.Goals as goal
 
@@ -14,10 +13,3 @@ pub second_at-requires : goal.second_at-requires
 second_at-requires c =
     let f = number_further _ _ _ _ _ (sym c.number_at.ensures ∙ c.in-Found.is) in
     omega arith
-
-pub returns-in-NoNumber : goal.returns-in-NoNumber
-returns-in-NoNumber c = ap (with_two _ _) (sym c.in-NoNumber.is ∙ c.number_at.ensures)
-
-pub returns-in-Found : goal.returns-in-Found
-returns-in-Found c =
-    rw c.second_at.ensures (ap (with_two _ _) (sym c.in-Found.is ∙ c.number_at.ensures))

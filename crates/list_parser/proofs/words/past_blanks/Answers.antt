@@ -1,18 +1,14 @@
 -- `list_parser::words::past_blanks` meets its contract. The invariant: what is sought from i on is what is sought.
 use mathlib.Core.Bool.{not}
 use mathlib.Core.Path.{ap}
-use mathlib.Core.Path.{◌≡◌, refl, sym, ◌∙◌}
+use mathlib.Core.Path.{◌≡◌, sym, ◌∙◌}
 use native.Mathlib.Omega.{arith}
-use borrow.Author.Rules.{rules}
 use mathlib.Core.Bool.{true, false}
 use borrow.Author.Tests.{not-true, not-false}
 use lib.ListN.{get_or}
 use Rattle.list_text.specs.Words.{is_blank}
 use Rattle.list_parser.proofs.Scanning.{past_on, past_here, past_end}
 use Rattle.list_parser.proofs.words.past_blanks.Goals as goal
-
-pub loop-i-init : goal.loop-i-init
-loop-i-init c = (search rules, search rules, refl)
 
 pub returns-then-not-is_blank : goal.returns-then-not-is_blank
 returns-then-not-is_blank c =

@@ -1,16 +1,12 @@
 -- `list_parser::words::same_word` meets its contract. The invariant: what is left of both words is the same where they are.
-use mathlib.Core.Path.{refl, sym, ◌∙◌}
+use mathlib.Core.Path.{sym, ◌∙◌}
 use native.Mathlib.Omega.{arith}
-use borrow.Author.Rules.{rules}
 use borrow.Author.Tests.{eq-eqb, ne_eqb}
 use Rattle.list_parser.proofs.Scanning.{other_long, same_on, same_not, same_end}
 use Rattle.list_parser.proofs.words.same_word.Goals as goal
 
 pub returns-then-w-name : goal.returns-then-w-name
 returns-then-w-name c = other_long _ _ c.if-w-name.true
-
-pub loop-i-init : goal.loop-i-init
-loop-i-init c = (omega arith, search rules, refl)
 
 pub returns-then-w-i : goal.returns-then-w-i
 returns-then-w-i c =

@@ -6,7 +6,7 @@ use borrow.Author.Tests.{eq-eqb, ne_eqb, lt-ltb, le-ltb}
 use lib.ListN.{get_or}
 use Rattle.model.specs.Pick.{pick}
 use Rattle.list_text.specs.Words.{is_digit, value_up_to}
-use Rattle.list_parser.proofs.Scanning.{value_on, value_other, value_over, value_end, digit_between}
+use Rattle.list_parser.proofs.Scanning.{value_on, value_other, value_over, value_end}
 use Rattle.list_parser.proofs.words.value_up_to.Goals as goal
 
 pub returns-then-w-eq0 : goal.returns-then-w-eq0
@@ -22,21 +22,6 @@ returns-then-not-is_digit c =
     let a = c.args in
     let d : not (is_digit (get_or a.w.now c.loop-i.i 0)) ≡ true = ap not (sym c.is_digit.ensures) ∙ (ap not c.if-not-is_digit.true) in
     sym (value_other a.most c.loop-i.v a.w.now c.loop-i.i (omega arith) d) ∙ c.loop-i.invariant.3
-
-pub overflow_sub-v : goal.overflow_sub-v
-overflow_sub-v c =
-    let d = digit_between (get_or c.args.w.now c.loop-i.i 0) (ap not (sym c.is_digit.ensures) ∙ (ap not c.if-not-is_digit.false)) in
-    omega arith
-
-pub overflow_cast-v : goal.overflow_cast-v
-overflow_cast-v c =
-    let d = digit_between (get_or c.args.w.now c.loop-i.i 0) (ap not (sym c.is_digit.ensures) ∙ (ap not c.if-not-is_digit.false)) in
-    omega arith
-
-pub overflow_add-v : goal.overflow_add-v
-overflow_add-v c =
-    let d = digit_between (get_or c.args.w.now c.loop-i.i 0) (ap not (sym c.is_digit.ensures) ∙ (ap not c.if-not-is_digit.false)) in
-    omega arith
 
 pub returns-then-most-v : goal.returns-then-most-v
 returns-then-most-v c =
