@@ -2,10 +2,10 @@
 // says why; a program's own message goes there as well. No contract can say which bytes are read or written.
 #![tactic(auto)]
 
-ghost use Rattle.std.specs.Prelude.{◌≡◌, ◌<◌, length, take, IfOk, OnOk};
+ghost use Rattle.std.specs.Prelude.{◌≡◌, ◌<◌, length, take, IfOk};
 ghost use Rattle.std.specs.Io.{ReadsAtMost};
-ghost use Rattle.std.specs.Io.KnownBytes.{Consumes, Appends, IsAtEnd};
-ghost use Rattle.standard_io.specs.Input.{Counted};
+ghost use Rattle.std.specs.Io.KnownBytes.{Consumes, IsAtEnd};
+ghost use Rattle.standard_io.specs.Input.{Within, Counted};
 ghost use Rattle.standard_io.specs.declared.Input.TheVariants as Input;
 
 use std::io;
@@ -45,17 +45,22 @@ fn read_whole<R: Read>(from: &mut R, buf: &mut [u8]) -> io::Result<usize>
     Ok(at)
 }
 
+fn read_failed<R: Eprint>(rt: &R, e: io::Error) -> Input
+    ensures { result ≡ Input.Failed }
+{
+    let _ = eprintln!(rt; "standard input: {e}");
+    Input::Failed
+}
+
 // Reads standard input to its end, or until buf is full: whether there is more is then not known. A read of nothing is the end, so on a terminal it is given once.
 // Where a read fails, standard error is told why, and what was read before counts for nothing.
 pub fn read_all<R: io::Input + Eprint>(rt: &R, buf: &mut [u8]) -> Input
-    ensures { Counted result buf.new }
+    ensures counted { Counted result buf.new }
+    ensures within { Within result (length buf.old) }
 {
     match read_whole(&mut rt.reader(), buf) {
         Ok(n) => Input::Read(n),
-        Err(e) => {
-            let _ = eprintln!(rt; "standard input: {e}");
-            Input::Failed
-        }
+        Err(e) => read_failed(rt, e),
     }
 }
 
