@@ -17,7 +17,7 @@ use Rattle.short_lists_text.proofs.Rows.{all_of, all_by, all_weaken, all_append,
 use Rattle.short_lists_text.proofs.Order.{strict_order}
 use Rattle.short_lists_text.proofs.Whole.{all_lists}
 use Rattle.aldebaran_text.specs.System.{states}
-use Rattle.aldebaran_text.specs.Claims.{StateBefore, AllStates, EveryState}
+use Rattle.aldebaran_text.specs.Claims.{StateBefore, EveryState}
 use Rattle.aldebaran_text.proofs.Numbers.{number_at_lem}
 
 -- ── only accepted lists ──

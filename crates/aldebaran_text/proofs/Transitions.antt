@@ -20,7 +20,7 @@ use Rattle.short_lists_text.specs.Lists.{is_accepted, AcceptedFrom, TaskFits, Le
 use Rattle.short_lists_text.proofs.Rows.{all_append}
 use Rattle.short_lists_text.proofs.Legal.{accepts_at}
 use Rattle.aldebaran_text.specs.System.{states, number_in, Transition, without_last, last_of, transition_into, transitions}
-use Rattle.aldebaran_text.specs.Claims.{StateBefore, list_of, transition_at, IsTransition, HasTransition, AllTransitions, EveryTransition}
+use Rattle.aldebaran_text.specs.Claims.{StateBefore, list_of, transition_at, IsTransition, HasTransition, EveryTransition}
 use Rattle.aldebaran_text.proofs.Numbers.{at_place, ascending_at, number_of, numbered_long, numbered_at}
 use Rattle.aldebaran_text.proofs.States.{never_itself, all_states}
 

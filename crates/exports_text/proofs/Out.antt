@@ -16,7 +16,6 @@ use Rattle.list_text.specs.declared.Place.{Place}
 use Rattle.list_text.proofs.Claims.{text_reads}
 use Rattle.list_parser.specs.Made.{parsed_of, held_by, Made}
 use Rattle.list_parser.specs.declared.Parsed.{Parsed}
-use Rattle.list_parser.specs.declared.Parsed.TheVariants as Parsed
 use Rattle.list_tree.specs.Printed.{SystemPrinted}
 use Rattle.list_tree.proofs.Whole.{within}
 use Rattle.aldebaran_text.specs.Text.{text_of as system_text}

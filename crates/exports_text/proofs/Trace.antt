@@ -19,7 +19,6 @@ use Rattle.model.specs.declared.Event.TheVariants.{Crash, Recover, Check, Timeou
 use Rattle.model.proofs.InRange.{start_small, stays_in_range}
 use Rattle.model.proofs.Judged.{accepted_is}
 use Rattle.event_list.specs.declared.First.{First}
-use Rattle.event_list.specs.declared.First.TheVariants as First
 use Rattle.event_list.specs.Format.{stop_number, first_of, Ending, complete, stopped, rest}
 use Rattle.event_list.proofs.Reading.{reading_failed, reading_begun, first_good, reads_all}
 use Rattle.listing.specs.Ascii.{bytes}

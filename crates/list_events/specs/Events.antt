@@ -1,7 +1,6 @@
 -- The alphabet by its places, as code finds an event: for the n of T-01, without walking a list.
 use Rattle.std.specs.Prelude.{ℕ, ◌+◌, ◌-◌, ◌*◌, ◌/◌, ◌%◌, ◌≤◌, ◌<◌, ◌≡◌, eqb, ltb, length, get_or, List}
 use Rattle.model.specs.Pick.{pick}
-use Rattle.model.specs.declared.TaskNo.{TaskNo}
 use Rattle.model.specs.declared.Event.{Event}
 use Rattle.model.specs.declared.Event.TheVariants.{Crash, Recover, Check, Timeout, Tick, Expire, Finish, Deliver, Lose}
 use Rattle.short_lists_text.specs.Lists.{only_task, alphabet}

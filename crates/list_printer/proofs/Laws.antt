@@ -9,13 +9,10 @@ use Rattle.model.specs.declared.Limits.{Limits}
 use Rattle.model.specs.declared.Event.{Event}
 use Rattle.event_list.specs.declared.Stop.{Stop}
 use Rattle.event_list.specs.declared.Next.{Next}
-use Rattle.event_list.specs.declared.Next.TheVariants as Next
 use Rattle.event_list.specs.declared.First.{First}
-use Rattle.event_list.specs.declared.First.TheVariants as First
 use Rattle.event_list.specs.Format.{stop_number, tag_at, next_at, first_of, rest}
 use Rattle.event_list.proofs.Reading.{rest_done, rest_stopped, rest_got, reading_failed, reading_begun}
 use Rattle.listing.specs.declared.Put.{Put}
-use Rattle.listing.specs.declared.Put.TheVariants as Put
 use Rattle.listing.specs.Lines.{stopped_line}
 use Rattle.listing.specs.Printing.{shown, printed, Appended}
 use Rattle.listing.proofs.Printing.{then_next, then_refused}

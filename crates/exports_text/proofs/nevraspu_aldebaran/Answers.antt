@@ -1,6 +1,5 @@
 -- `nevraspu_aldebaran` meets its contract: what `put_text` wrote is the text, written out.
 use native.Mathlib.Omega.{arith}
-use borrow.Author.Rules.{rules}
 use mathlib.Core.Path.{sym}
 use lib.Seq.{length-take-le}
 use Rattle.list_tree.proofs.Whole.{within}

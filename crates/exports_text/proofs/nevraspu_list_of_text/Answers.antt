@@ -1,6 +1,5 @@
 -- `nevraspu_list_of_text` meets its contract: what the parser answers, written out.
 use native.Mathlib.Omega.{arith}
-use borrow.Author.Rules.{rules}
 use mathlib.Core.Path.{sym}
 use lib.Seq.{length-take-le}
 use Rattle.exports_text.proofs.Out.{is_list, list_exported, message_exported}

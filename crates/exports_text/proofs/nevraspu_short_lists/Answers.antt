@@ -1,14 +1,10 @@
 -- `nevraspu_short_lists` meets its contract. The invariant: so much of the window stands in the buffer, and the rest of it is in what the search still gives. It ends, as each piece leaves
 -- less of the text.
-use borrow.Author.Rules.{rules}
 use native.Mathlib.Omega.{arith}
 use mathlib.Core.Path.{sym, ◌∙◌}
-use lib.ListN.{length}
 use lib.Seq.{length-take-le}
-use Rattle.short_lists_text.specs.Text.{text_of as short_lists_text}
-use Rattle.list_search.specs.Search.{Sound, text_left}
 use Rattle.list_search.proofs.Ends.{less_left}
-use Rattle.exports_text.proofs.Window.{Filled, filled_begun, piece_full, piece_last, piece_next}
+use Rattle.exports_text.proofs.Window.{filled_begun, piece_full, piece_last, piece_next}
 use Rattle.exports_text.proofs.nevraspu_short_lists.Goals as goal
 
 pub loop-piece-init : goal.loop-piece-init

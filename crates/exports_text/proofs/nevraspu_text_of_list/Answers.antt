@@ -1,6 +1,5 @@
 -- `nevraspu_text_of_list` meets its contract: the answer of `print`, as a number.
 use native.Mathlib.Omega.{arith}
-use borrow.Author.Rules.{rules}
 use Rattle.listing.proofs.Printing.{lines_exported}
 use Rattle.exports_text.proofs.nevraspu_text_of_list.Goals as goal
 

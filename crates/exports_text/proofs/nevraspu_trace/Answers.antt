@@ -1,6 +1,5 @@
 -- `nevraspu_trace` meets its contract: the answer of `print`, as a number.
 use native.Mathlib.Omega.{arith}
-use borrow.Author.Rules.{rules}
 use Rattle.listing.proofs.Printing.{lines_exported}
 use Rattle.exports_text.proofs.nevraspu_trace.Goals as goal
 

@@ -1,6 +1,5 @@
 -- `put_some` meets its contract: all of the bytes, or as many as have room.
 use native.Mathlib.Omega.{arith}
-use borrow.Author.Rules.{rules}
 use mathlib.Core.Path.{sym}
 use lib.ListN.{length-take}
 use lib.Seq.{length-take-le}

@@ -1,5 +1,4 @@
 -- `put_window` meets its contract: none of the bytes are behind the first skip, or those that are.
-use borrow.Author.Rules.{rules}
 use Prim.Native.Nat.{◌-◌}
 use lib.ListN.{length}
 use Rattle.exports_text.proofs.Window.{none_put, part_put}

@@ -1,7 +1,6 @@
 -- `write_message` meets its contract: what `put_message` wrote is the message.
 use Prim.Native.Nat.{ℕ, ◌≤◌}
 use native.Mathlib.Omega.{arith}
-use borrow.Author.Rules.{rules}
 use mathlib.Core.Path.{sym}
 use lib.Seq.{length-take-le}
 use Rattle.exports_text.proofs.Out.{message_is, message_out}

@@ -1,6 +1,5 @@
 -- `write_out` meets its contract.
 use native.Mathlib.Omega.{arith}
-use borrow.Author.Rules.{rules}
 use Rattle.exports_text.proofs.Out.{no_room_lem, with_room}
 use Rattle.exports_text.proofs.write_out.Goals as goal
 

@@ -1,5 +1,4 @@
 -- `list_events::fits` meets its contract.
-use borrow.Author.Rules.{rules}
 use borrow.Author.Tests.{eq-eqb, ne_eqb}
 use Rattle.short_lists_text.specs.Text.{fits_to}
 use Rattle.list_events.proofs.fits.Goals as goal

@@ -1,5 +1,4 @@
 -- `list_printer::print` meets its contract: its lines, printed from the start.
-use borrow.Author.Rules.{rules}
 use Rattle.listing.proofs.Printing.{printed_holds}
 use Rattle.list_printer.proofs.print.Goals as goal
 

@@ -1,5 +1,4 @@
 -- `list_printer::print_lines` meets its contract: by the first field, a line alone, or a line and the events behind it.
-use borrow.Author.Rules.{rules}
 use native.Mathlib.Omega.{arith}
 use mathlib.Core.Path.{sym, ◌∙◌}
 use Rattle.event_list.proofs.Reading.{first_good}

@@ -1,5 +1,4 @@
 -- `list_printer::print_whole` meets its contract: the list has bytes alone, and the buffer is as long as the text of any such list.
-use borrow.Author.Rules.{rules}
 use native.Mathlib.Nat.{le_trans}
 use native.Mathlib.Omega.{arith}
 use Rattle.listing.proofs.Printing.{whole_next, never_refused}

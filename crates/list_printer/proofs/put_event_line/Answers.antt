@@ -1,5 +1,4 @@
 -- `list_printer::put_event_line` meets its contract: the local array holds the event's text, the line's end behind it, and room for both.
-use borrow.Author.Rules.{rules}
 use native.Mathlib.Omega.{arith}
 use mathlib.Core.Path.{sym, ◌∙◌}
 use lib.ListN.{length-set}

@@ -1,12 +1,10 @@
 -- `list_printer::put_events` meets its contract. The invariant: what is left, printed from p on, is all of it printed from the start.
 use borrow.Author.Rules.{rules}
-use Prim.Native.Nat.{◌≤◌, ◌-◌}
 use native.Mathlib.Omega.{arith}
-use mathlib.Core.Path.{◌≡◌, refl, sym, ◌∙◌}
-use lib.ListN.{length}
+use mathlib.Core.Path.{refl, sym, ◌∙◌}
 use Rattle.event_list.proofs.Reading.{next_past}
 use Rattle.listing.specs.Printing.{printed}
-use Rattle.list_printer.proofs.Laws.{left, left_done, left_stopped, turn_next, turn_refused}
+use Rattle.list_printer.proofs.Laws.{left_done, left_stopped, turn_next, turn_refused}
 use Rattle.list_printer.proofs.put_events.Goals as goal
 
 pub loop-s-init : goal.loop-s-init

@@ -1,5 +1,4 @@
 -- `list_printer::put_opening` meets its contract: by the tag.
-use borrow.Author.Rules.{rules}
 use borrow.Author.Tests.{eq-eqb, ne_eqb}
 use mathlib.Core.Path.{◌∙◌}
 use Rattle.model.specs.Pick.{pick}

@@ -1,5 +1,4 @@
 -- `list_printer::put_stand` meets its contract: a word and a number.
-use borrow.Author.Rules.{rules}
 use Rattle.listing.specs.Lines.{row}
 use Rattle.list_text.specs.Text.{stand_line}
 use Rattle.list_printer.proofs.put_stand.Goals as goal

@@ -5,13 +5,11 @@ use borrow.Author.Rules.{rules}
 use borrow.Author.Tests.{not-true, not-false}
 use native.Mathlib.Omega.{arith}
 use mathlib.Core.Logic.{inr}
-use mathlib.Core.Path.{◌≡◌, refl, sym, ◌∙◌}
+use mathlib.Core.Path.{refl, sym, ◌∙◌}
 use Rattle.model.specs.Limits.{tower}
 use Rattle.model.specs.declared.Event.TheVariants.{Crash}
 use Rattle.packed.proofs.Turns.{few, rulable}
-use Rattle.list_events.specs.Events.{size_of, Holds}
-use Rattle.list_search.specs.Search.{text_left}
-use Rattle.list_search.proofs.Loop.{Kept, turns_of, ready, top_place, loop_starts, gave_last, short_line, ends, down, down_less, turned_down, turned_less, room_for, count_one, listed, listed_less, listed_more, raised, raised_less}
+use Rattle.list_search.proofs.Loop.{ready, top_place, loop_starts, gave_last, short_line, ends, down, down_less, turned_down, turned_less, room_for, count_one, listed, listed_less, listed_more, raised, raised_less}
 use Rattle.list_search.proofs.lines_on.Goals as goal
 
 pub offset_bounds-levels-height : goal.offset_bounds-levels-height

@@ -1,17 +1,8 @@
 -- `list_search::lines_on` meets its contract. The invariant, `Kept`: what was written, and then what the stack still gives, is the text that the search gave at first.
-use mathlib.Core.Bool.{not}
-use mathlib.Core.Path.{ap}
-use borrow.Author.Rules.{rules}
-use borrow.Author.Tests.{not-true, not-false}
-use native.Mathlib.Omega.{arith}
-use mathlib.Core.Logic.{inr}
-use mathlib.Core.Path.{◌≡◌, refl, sym, ◌∙◌}
-use Rattle.model.specs.Limits.{tower}
-use Rattle.model.specs.declared.Event.TheVariants.{Crash}
-use Rattle.packed.proofs.Turns.{few, rulable}
+use mathlib.Core.Path.{◌≡◌}
 use Rattle.list_events.specs.Events.{size_of, Holds}
 use Rattle.list_search.specs.Search.{text_left}
-use Rattle.list_search.proofs.Loop.{Kept, turns_of, ready, top_place, loop_starts, gave_last, short_line, ends, down, down_less, turned_down, turned_less, room_for, count_one, listed, listed_less, listed_more, raised, raised_less}
+use Rattle.list_search.proofs.Loop.{Kept, turns_of}
 use Rattle.list_search.proofs.lines_on.Given as goal
 
 abbrev pub invariant-loop-tried : goal.invariant-loop-tried

@@ -1,5 +1,4 @@
 -- `list_search::lowest` meets its contract: no message waits, so the words do not matter.
-use borrow.Author.Rules.{rules}
 use mathlib.Core.Path.{refl, ap}
 use lib.ListN.{length}
 use Rattle.model.specs.declared.Table.{Table}

@@ -1,5 +1,4 @@
 -- `list_search::next_lines` meets its contract: by what the search is for.
-use borrow.Author.Rules.{rules}
 use native.Mathlib.Omega.{arith}
 use Rattle.list_search.proofs.Ends.{not_refused}
 use Rattle.list_search.proofs.next_lines.Goals as goal

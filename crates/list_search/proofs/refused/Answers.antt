@@ -1,5 +1,4 @@
 -- `list_search::refused` meets its contract: its line is the whole text.
-use borrow.Author.Rules.{rules}
 use native.Mathlib.Omega.{arith}
 use mathlib.Core.Logic.{inl}
 use Rattle.list_search.proofs.Ends.{refused_text, refused_line_lem, gave_whole}

@@ -1,5 +1,4 @@
 -- `list_search::rule_in_tower` meets its contract: what `rule` ensures, with the tower's limit.
-use borrow.Author.Rules.{rules}
 use Rattle.list_search.proofs.rule_in_tower.Goals as goal
 
 pub returns : goal.returns

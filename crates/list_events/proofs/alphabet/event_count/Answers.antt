@@ -1,6 +1,5 @@
 -- As many as the alphabet has.
 use Prim.Native.Nat.{◌+◌, ◌*◌}
-use borrow.Author.Rules.{rules}
 use native.Mathlib.Omega.{arith}
 use mathlib.Core.Path.{sym, ◌∙◌, ap}
 use Rattle.list_events.proofs.Places.{by_place}

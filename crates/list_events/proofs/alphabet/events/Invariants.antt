@@ -1,11 +1,9 @@
 -- `list_events::alphabet::events` meets its contract. The invariant: the events before i stand in their places.
-use borrow.Author.Rules.{rules}
-use Prim.Native.Nat.{◌+◌, ◌-◌, ◌≤◌, ◌<◌}
-use native.Mathlib.Omega.{arith}
-use mathlib.Core.Path.{◌≡◌, ◌∙◌}
-use lib.ListN.{length, length-set}
+use Prim.Native.Nat.{◌-◌, ◌≤◌}
+use mathlib.Core.Path.{◌≡◌}
+use lib.ListN.{length}
 use Rattle.list_events.specs.Events.{size_of}
-use Rattle.list_events.proofs.Places.{Filled, one_filled}
+use Rattle.list_events.proofs.Places.{Filled}
 use Rattle.list_events.proofs.alphabet.events.Given as goal
 
 abbrev pub invariant-loop-i : goal.invariant-loop-i

@@ -1,5 +1,4 @@
 -- `list_events::text::put_event` meets its contract: the name and the numbers of each event, which are 16 bytes at most.
-use borrow.Author.Rules.{rules}
 use native.Mathlib.Omega.{arith}
 use Rattle.short_lists_text.specs.Text.{name_of, event_text}
 use Rattle.short_lists_text.proofs.Spaced.{one_short, two_short, task_short}

@@ -1,5 +1,4 @@
 -- `list_events::text::put_one` meets its contract: a name and a number are two pieces.
-use borrow.Author.Rules.{rules}
 use native.Mathlib.Omega.{arith}
 use Rattle.listing.proofs.Appended.{appended_twice}
 use Rattle.short_lists_text.proofs.Spaced.{spaced_one, one_long}

@@ -1,5 +1,4 @@
 -- `list_events::text::put_two` meets its contract: a number more is a piece more.
-use borrow.Author.Rules.{rules}
 use native.Mathlib.Omega.{arith}
 use mathlib.Core.List.{[], ◌∷◌, append_assoc}
 use lib.ListN.{length-append}

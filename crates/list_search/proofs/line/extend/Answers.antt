@@ -1,5 +1,4 @@
 -- `list_search::line::extend` meets its contract: two pieces.
-use borrow.Author.Rules.{rules}
 use native.Mathlib.Omega.{arith}
 use Rattle.listing.proofs.Appended.{appended_twice}
 use Rattle.list_search.proofs.line.extend.Goals as goal

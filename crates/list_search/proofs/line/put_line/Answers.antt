@@ -1,5 +1,4 @@
 -- `list_search::line::put_line` meets its contract: three pieces.
-use borrow.Author.Rules.{rules}
 use native.Mathlib.Omega.{arith}
 use mathlib.Core.Path.{sym}
 use lib.Seq.{length-take-le}

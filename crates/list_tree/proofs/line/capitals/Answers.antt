@@ -1,10 +1,7 @@
 -- `list_tree::line::capitals` meets its contract. The invariant: the bytes before i are capital, and the others as they were.
-use borrow.Author.Rules.{rules}
-use Prim.Native.Nat.{◌-◌, ◌≤◌}
 use native.Mathlib.Omega.{arith}
-use mathlib.Core.Path.{◌≡◌, refl}
-use mathlib.Core.List.{◌++◌, map}
-use lib.ListN.{length, take, drop, length-set}
+use mathlib.Core.Path.{refl}
+use lib.ListN.{length-set}
 use Rattle.aldebaran_text.specs.Text.{capital}
 use Rattle.list_tree.proofs.Capitals.{changed_turn, changed_end}
 use Rattle.list_tree.proofs.line.capitals.Goals as goal

@@ -1,12 +1,9 @@
 -- `list_tree::line::capitals` meets its contract. The invariant: the bytes before i are capital, and the others as they were.
-use borrow.Author.Rules.{rules}
 use Prim.Native.Nat.{◌-◌, ◌≤◌}
-use native.Mathlib.Omega.{arith}
-use mathlib.Core.Path.{◌≡◌, refl}
+use mathlib.Core.Path.{◌≡◌}
 use mathlib.Core.List.{◌++◌, map}
-use lib.ListN.{length, take, drop, length-set}
+use lib.ListN.{length, take, drop}
 use Rattle.aldebaran_text.specs.Text.{capital}
-use Rattle.list_tree.proofs.Capitals.{changed_turn, changed_end}
 use Rattle.list_tree.proofs.line.capitals.Given as goal
 
 abbrev pub invariant-loop-i : goal.invariant-loop-i

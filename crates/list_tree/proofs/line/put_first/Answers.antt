@@ -1,5 +1,4 @@
 -- `list_tree::line::put_first` meets its contract: three pieces.
-use borrow.Author.Rules.{rules}
 use native.Mathlib.Omega.{arith}
 use Rattle.listing.proofs.Appended.{appended_twice}
 use Rattle.aldebaran_text.specs.Text.{first_line}

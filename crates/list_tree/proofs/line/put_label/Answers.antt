@@ -1,5 +1,4 @@
 -- `list_tree::line::put_label` meets its contract: the event's text, changed.
-use borrow.Author.Rules.{rules}
 use native.Mathlib.Omega.{arith}
 use Rattle.short_lists_text.specs.Text.{event_text}
 use Rattle.aldebaran_text.specs.Text.{capital}

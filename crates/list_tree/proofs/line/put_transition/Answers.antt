@@ -1,5 +1,4 @@
 -- `list_tree::line::put_transition` meets its contract: three pieces.
-use borrow.Author.Rules.{rules}
 use native.Mathlib.Omega.{arith}
 use mathlib.Core.List.{◌++◌, append_assoc}
 use Rattle.listing.specs.Ascii.{bytes}

@@ -1,16 +1,10 @@
 -- `list_tree::line::put_transitions` meets its contract. The invariant: the lines of the first k transitions are written, each of 45 bytes at most.
-use borrow.Author.Rules.{rules}
 use Prim.Native.Nat.{◌+◌, ◌-◌, ◌*◌, ◌≤◌}
-use native.Mathlib.Omega.{arith}
-use mathlib.Core.Path.{◌≡◌}
 use mathlib.Core.List.{map}
 use lib.ListN.{take}
 use Rattle.listing.specs.Printing.{joined, Appended}
-use Rattle.listing.proofs.Appended.{appended_twice}
-use Rattle.aldebaran_text.specs.System.{numbered}
 use Rattle.aldebaran_text.specs.Text.{transition_line}
 use Rattle.list_tree.specs.Tree.{transitions_by}
-use Rattle.list_tree.proofs.Texts.{none_appended, line_more}
 use Rattle.list_tree.proofs.line.put_transitions.Given as goal
 
 abbrev pub invariant-loop-k : goal.invariant-loop-k

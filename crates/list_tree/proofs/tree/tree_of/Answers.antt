@@ -1,12 +1,10 @@
 -- `list_tree::tree::tree_of` meets its contract. The invariant: the tree has the lists of up to k events.
-use borrow.Author.Rules.{rules}
-use Prim.Native.Nat.{◌-◌, ◌≤◌}
 use native.Mathlib.Omega.{arith}
 use mathlib.Core.Path.{◌≡◌, ◌∙◌, ap}
 use Rattle.model.specs.Limits.{tower}
 use Rattle.model.specs.State.{start}
 use Rattle.aldebaran_text.specs.System.{states}
-use Rattle.list_tree.proofs.Complete.{Complete, root_complete, level_within, level_fits, level_complete}
+use Rattle.list_tree.proofs.Complete.{root_complete, level_within, level_fits, level_complete}
 use Rattle.list_tree.proofs.tree.tree_of.Goals as goal
 
 pub root-t-requires : goal.root-t-requires

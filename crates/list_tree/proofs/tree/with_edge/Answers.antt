@@ -1,5 +1,4 @@
 -- `list_tree::tree::with_edge` meets its contract.
-use borrow.Author.Rules.{rules}
 use native.Mathlib.Omega.{arith}
 use Rattle.list_tree.proofs.Trees.{extends_edge}
 use Rattle.list_tree.proofs.tree.with_edge.Goals as goal

@@ -1,5 +1,5 @@
 -- `list_tree::tree::with_level` meets its contract. The invariant: what comes next to the lists of the states before a stands behind the states of before.
-use Prim.Native.Nat.{◌+◌, ◌-◌, ◌≤◌}
+use Prim.Native.Nat.{◌-◌, ◌≤◌}
 use native.Mathlib.Omega.{arith}
 use mathlib.Core.Path.{◌≡◌, sym, subst}
 use mathlib.Core.List.{[], ◌++◌}

@@ -1,16 +1,10 @@
 -- `list_tree::tree::with_level` meets its contract. The invariant: what comes next to the lists of the states before a stands behind the states of before.
-use Prim.Native.Nat.{◌+◌, ◌-◌, ◌≤◌}
-use native.Mathlib.Omega.{arith}
-use mathlib.Core.Path.{◌≡◌, sym, subst}
-use mathlib.Core.List.{[], ◌++◌}
-use lib.ListN.{length, take, drop, get_or, length-drop}
-use lib.Seq.{length-take-le}
+use Prim.Native.Nat.{◌-◌, ◌≤◌}
+use lib.ListN.{take, drop}
 use Rattle.model.specs.Limits.{tower}
 use Rattle.model.specs.State.{start}
 use Rattle.short_lists_text.specs.Rows.{concat_map}
 use Rattle.list_tree.specs.Tree.{lists_in, next_of, Extends}
-use Rattle.list_tree.proofs.Trees.{lists_long}
-use Rattle.list_tree.proofs.Turns.{no_turn, all_turns, still_in, level_room, level_on}
 use Rattle.list_tree.proofs.tree.with_level.Given as goal
 
 abbrev pub invariant-loop-a : goal.invariant-loop-a

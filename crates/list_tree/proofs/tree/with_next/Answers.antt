@@ -1,13 +1,11 @@
 -- `list_tree::tree::with_next` meets its contract. The invariant: what comes of the events before i stands behind the states of before.
-use borrow.Author.Rules.{rules}
-use Prim.Native.Nat.{◌-◌, ◌≤◌, ◌<◌}
+use Prim.Native.Nat.{◌≤◌, ◌<◌}
 use native.Mathlib.Omega.{arith}
 use mathlib.Core.Path.{sym, subst}
 use mathlib.Core.List.{[], ◌++◌}
-use lib.ListN.{length, take, get_or}
+use lib.ListN.{length, get_or}
 use Rattle.model.specs.State.{view}
 use Rattle.model.specs.declared.Event.TheVariants.{Crash}
-use Rattle.short_lists_text.specs.Rows.{concat_map}
 use Rattle.short_lists_text.specs.Lists.{alphabet}
 use Rattle.list_events.specs.Events.{size_of}
 use Rattle.list_tree.specs.Tree.{lists_in, Extends}

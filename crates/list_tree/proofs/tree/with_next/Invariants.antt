@@ -1,17 +1,11 @@
 -- `list_tree::tree::with_next` meets its contract. The invariant: what comes of the events before i stands behind the states of before.
-use borrow.Author.Rules.{rules}
-use Prim.Native.Nat.{◌-◌, ◌≤◌, ◌<◌}
-use native.Mathlib.Omega.{arith}
-use mathlib.Core.Path.{sym, subst}
-use mathlib.Core.List.{[], ◌++◌}
-use lib.ListN.{length, take, get_or}
+use Prim.Native.Nat.{◌-◌, ◌≤◌}
+use lib.ListN.{take}
 use Rattle.model.specs.State.{view}
-use Rattle.model.specs.declared.Event.TheVariants.{Crash}
 use Rattle.short_lists_text.specs.Rows.{concat_map}
 use Rattle.short_lists_text.specs.Lists.{alphabet}
-use Rattle.list_events.specs.Events.{size_of}
-use Rattle.list_tree.specs.Tree.{lists_in, Extends}
-use Rattle.list_tree.proofs.Turns.{no_turn, all_turns, next_by, by_event, still_state, event_room, event_on}
+use Rattle.list_tree.specs.Tree.{Extends}
+use Rattle.list_tree.proofs.Turns.{by_event}
 use Rattle.list_tree.proofs.tree.with_next.Given as goal
 
 abbrev pub invariant-loop-i : goal.invariant-loop-i
