@@ -9,9 +9,8 @@ use Rattle.bully_model.specs.declared.Event.{Event}
 use Rattle.bully_model.specs.declared.Outcome.{Outcome}
 use Rattle.bully_machine.specs.declared.Start.{Start}
 use Rattle.bully_machine.specs.Stepped.{Stepped, Begun}
-use Rattle.bully_machine.specs.Folded as Folded
 use Rattle.bully_machine.specs.Folded.{Folded}
-use Rattle.bully_machine.specs.Claims.{Reached, CodeAgrees}
+use Rattle.bully_machine.specs.Claims.{CodeAgrees}
 use Rattle.bully_machine.proofs.Runs.{code_runs, code_agrees_from_down}
 use Rattle.client.specs.Agreed.{Agreed}
 

@@ -25,11 +25,9 @@ use Rattle.traffic.proofs.Laws.{rows_same}
 use Rattle.machine.specs.declared.Start.{Start}
 use Rattle.machine.specs.Stepped.{Stepped, Begun}
 use Rattle.machine.specs.Folded.{Folded}
-use Rattle.machine.specs.Folded as Folded
 use Rattle.machine.specs.Claims.{Reached}
 use Rattle.machine.proofs.Runs.{start_node, code_runs, code_fixes}
 use Rattle.session.specs.Applied.{Applied}
-use Rattle.session.specs.Applied as Applied
 use Rattle.session.proofs.Sessions.{session_runs, session_fixed}
 use Rattle.client.specs.Fixed.{Fixed, Twice}
 
