@@ -109,8 +109,11 @@ pub trait Library {
     /// pieces up to the first that does not fit are there: the first line, the lines of each event, the rest. All else
     /// in out stays as it was.
     fn trace(&self, list: &[u8], out: &mut [u8]) -> Option<usize>;
+}
 
-    /// The text of a list and of the turns behind it until no message waits (T-13), as `print` gives its text.
+/// The library's functions for the texts of T-13, T-12 and T-01.
+pub trait Texts {
+    /// The text of a list and of the turns behind it until no message waits (T-13), as `Library::print` gives its text.
     fn rest(&self, list: &[u8], out: &mut [u8]) -> Option<usize>;
 
     /// T-12's text of an input stands at the start of out, and its length is given; None when it does not fit, and then
@@ -124,6 +127,13 @@ pub trait Library {
 
 /// The proved library, by the crate `nevraspu`.
 pub struct Proved;
+
+impl Proved {
+    /// It is always linked: without it the crate `nevraspu` is not built.
+    pub fn linked() -> Result<Proved, String> {
+        Ok(Proved)
+    }
+}
 
 impl Library for Proved {
     fn print(&self, list: &[u8], out: &mut [u8]) -> Option<usize> {
@@ -176,7 +186,9 @@ impl Library for Proved {
     fn trace(&self, list: &[u8], out: &mut [u8]) -> Option<usize> {
         calls::trace(list, out)
     }
+}
 
+impl Texts for Proved {
     fn rest(&self, list: &[u8], out: &mut [u8]) -> Option<usize> {
         calls::rest(list, out)
     }
@@ -244,7 +256,9 @@ impl Library for Own {
     fn trace(&self, list: &[u8], out: &mut [u8]) -> Option<usize> {
         trace(list).write(out)
     }
+}
 
+impl Texts for Own {
     fn rest(&self, list: &[u8], out: &mut [u8]) -> Option<usize> {
         write_fitting(&rest(list), out)
     }

@@ -8,7 +8,7 @@ use crate::ending::told;
 use crate::list::{Stop, MAX_LIST};
 use crate::machine::{MAX_NODES, STAND, TOWER};
 use crate::numbers::Numbers;
-use crate::proved::{Library, Proved};
+use crate::proved::{Own, Proved, Texts};
 use crate::rest::lists::any_list;
 use crate::rest::reading::{read, Seen};
 use crate::rest::text::rest;
@@ -40,12 +40,20 @@ pub fn checked(name: &str) -> Result<(u64, u64), String> {
     let program = whole_path(program)?;
     let lists = read_named_lists(directories)?;
     let prints = |list: &[u8]| printed(&program, &Input::whole(list.to_vec()));
-    Ok(told(check(|| Proved, prints, &lists)))
+    Ok(told(check_both(|| Proved, prints, &lists)))
+}
+
+/// Compares what is printed for each named list and for random ones, as `check_both` does with the peer's own function.
+pub fn check(
+    lists: &[(String, Vec<u8>)],
+    prints: impl Fn(&[u8]) -> Result<Vec<u8>, String> + Sync,
+) -> (u64, Result<(), String>) {
+    check_both(|| Own, prints, lists)
 }
 
 /// Compares what a library, which each list has for itself, and a program give for each named list and for random ones.
 /// Gives how many lists passed; the error is the first difference, or a corner that was met too seldom.
-pub fn check<L: Library>(
+pub fn check_both<L: Texts>(
     library: impl Fn() -> L + Sync,
     prints: impl Fn(&[u8]) -> Result<Vec<u8>, String> + Sync,
     lists: &[(String, Vec<u8>)],
@@ -140,7 +148,7 @@ const ENOUGH: usize = 2;
 
 /// A list by the library, into a buffer that is long enough and mostly into one that is not. Gives what was met.
 fn by_library(
-    library: &impl Library,
+    library: &impl Texts,
     list: &[u8],
     own: &[u8],
     numbers: &mut Numbers,

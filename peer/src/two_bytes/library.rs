@@ -5,7 +5,7 @@
 use crate::compare::Lent;
 use crate::corners::Source;
 use crate::numbers::Numbers;
-use crate::proved::Library;
+use crate::proved::Texts;
 use crate::tally::Where::{self, Both, Tables};
 use crate::tally::{Book, Tally, TIMES};
 use crate::two_bytes::compare::{difference, input_words};
@@ -91,7 +91,7 @@ fn tally(request: &Request) -> Tally<Met> {
 
 /// Compares a library, which each stretch of calls has for itself. Gives how many calls passed; the error is the first
 /// difference, or a corner that was met too seldom.
-pub fn compare<L: Library>(
+pub fn compare<L: Texts>(
     request: &'static Request,
     library: impl Fn() -> L + Sync,
 ) -> (u64, Result<(), String>) {
@@ -136,7 +136,7 @@ struct Stretch<L> {
     calls: Vec<Call>,
 }
 
-impl<L: Library> Stretch<L> {
+impl<L: Texts> Stretch<L> {
     /// An input that is not refused.
     fn right(&mut self, input: &[u8]) -> Result<(), String> {
         let text = self.request.text(input);

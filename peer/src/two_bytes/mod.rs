@@ -8,7 +8,7 @@ pub mod library;
 pub mod process;
 pub mod program;
 
-use crate::proved::Library;
+use crate::proved::Texts;
 use crate::{aldebaran, aldebaran_reading, short};
 use std::io::Result;
 
@@ -40,8 +40,8 @@ pub struct Request {
 /// A library's function for the text of an input: all of it or nothing, or as much as there is room for from a byte on.
 #[derive(Clone, Copy, Debug)]
 pub enum Function {
-    Whole(fn(&dyn Library, &[u8], &mut [u8]) -> Option<usize>),
-    Window(fn(&dyn Library, &[u8], u64, &mut [u8]) -> usize),
+    Whole(fn(&dyn Texts, &[u8], &mut [u8]) -> Option<usize>),
+    Window(fn(&dyn Texts, &[u8], u64, &mut [u8]) -> usize),
 }
 
 pub type Reading = fn(u8, u8, &[u8]) -> std::result::Result<(), String>;

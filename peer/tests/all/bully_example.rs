@@ -13,7 +13,9 @@ fn the_text_is_that_of_the_file() {
     let file = Path::new(env!("CARGO_MANIFEST_DIR")).join("../docs/bully-example.txt");
     let text = std::fs::read_to_string(file).unwrap();
     assert_eq!(example(&Own), text);
-    assert_eq!(example(&Proved), text);
+    if let Ok(proved) = Proved::linked() {
+        assert_eq!(example(&proved), text);
+    }
     assert!(text.lines().all(|line| line.len() <= 110 && line == line.trim_end()));
 }
 

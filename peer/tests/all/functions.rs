@@ -8,7 +8,6 @@ type Step<'a> = Box<dyn Fn(&[u8], &[u8], &mut [u8]) -> u8 + 'a>;
 type Fold<'a> = Box<dyn Fn(&[u8]) -> u32 + 'a>;
 type Recovery<'a> = Box<dyn Fn(&[u8], u8, &mut [u8]) -> u8 + 'a>;
 type Turn<'a> = Box<dyn Fn(&[u8], u8, u8, &mut [u8]) -> u8 + 'a>;
-type ShortLists<'a> = Box<dyn Fn(&[u8], u64, &mut [u8]) -> usize + 'a>;
 type ListOfText<'a> = Box<dyn Fn(&[u8], &mut [u8]) -> Option<Result<usize, usize>> + 'a>;
 type Controller<'a> = Box<dyn Fn(u8, u8, &[u8], &[u8], &mut [u8]) -> u8 + 'a>;
 
@@ -25,9 +24,6 @@ pub struct Functions<'a> {
     pub text_of_list: Print<'a>,
     pub list_of_text: ListOfText<'a>,
     pub trace: Print<'a>,
-    pub rest: Print<'a>,
-    pub aldebaran: Print<'a>,
-    pub short_lists: ShortLists<'a>,
 }
 
 impl Default for Functions<'_> {
@@ -48,9 +44,6 @@ impl Default for Functions<'_> {
             text_of_list: Box::new(|list, out| Own.text_of_list(list, out)),
             list_of_text: Box::new(|text, out| Own.list_of_text(text, out)),
             trace: Box::new(|list, out| Own.trace(list, out)),
-            rest: Box::new(|list, out| Own.rest(list, out)),
-            aldebaran: Box::new(|input, out| Own.aldebaran(input, out)),
-            short_lists: Box::new(|input, from, out| Own.short_lists(input, from, out)),
         }
     }
 }
@@ -95,14 +88,5 @@ impl Library for Functions<'_> {
     }
     fn trace(&self, list: &[u8], out: &mut [u8]) -> Option<usize> {
         (self.trace)(list, out)
-    }
-    fn rest(&self, list: &[u8], out: &mut [u8]) -> Option<usize> {
-        (self.rest)(list, out)
-    }
-    fn aldebaran(&self, input: &[u8], out: &mut [u8]) -> Option<usize> {
-        (self.aldebaran)(input, out)
-    }
-    fn short_lists(&self, input: &[u8], from: u64, out: &mut [u8]) -> usize {
-        (self.short_lists)(input, from, out)
     }
 }

@@ -1,6 +1,6 @@
 //! T-08 of document 02, "A practice stand": document 01's named cases on the stand, the first field, the grounds
 //! that read the limits, the bytes of a table, the random tables of the fuzzer, and libraries that are wrong on
-//! purpose. The boundary is that of this program's own machine, and of the proved library.
+//! purpose. The boundary is that of this program's own machine, and of the proved library where it is linked.
 
 use crate::functions;
 use crate::printing;
@@ -516,7 +516,7 @@ fn own_machine() {
 
 #[test]
 fn proved_library() {
-    boundary(&Proved);
+    Proved::linked().iter().for_each(boundary);
 }
 
 /// No event changes the limits, and runs on both hold demand 3; on the stand 12 messages wait often.

@@ -1,6 +1,7 @@
 //! T-04 of document 02, "Recovery as the paper prints it": the eight records by hand, the refusals and their
 //! order, the recoveries inside other events, the bytes at the boundary, and libraries that are wrong on
-//! purpose. The boundary is that of this program's own machine, and of the proved library.
+//! purpose. The boundary is that of this program's own machine, and of the proved library where it is
+//! linked.
 
 use crate::functions;
 use crate::other_forms;
@@ -408,7 +409,7 @@ fn own_machine() {
 
 #[test]
 fn proved_library() {
-    boundary(&Proved);
+    Proved::linked().iter().for_each(boundary);
 }
 
 /// A library whose records are made by something else.

@@ -5,7 +5,7 @@ use crate::finds::{found_in, found_soon};
 use crate::functions::Functions;
 use peer::fuzz_loop::Fuzzer;
 use peer::machine::*;
-use peer::proved::{step_by, write_fitting, write_whole, Library, Own};
+use peer::proved::{step_by, Own};
 use peer::rest::check::check;
 use peer::rest::compare::Potential;
 use peer::rest::fuzzing::Fuzz;
@@ -224,7 +224,7 @@ fn wrong_programs_are_found() {
         },
     ];
     for (k, wrong) in wrong.into_iter().enumerate() {
-        let (_, found) = check(|| Own, |list| Ok(rest_by(advance, wrong, list)), &[]);
+        let (_, found) = check(&[], |list| Ok(rest_by(advance, wrong, list)));
         assert!(found.is_err(), "{k}");
     }
     type Text = fn(&[u8]) -> Vec<u8>;
@@ -242,54 +242,12 @@ fn wrong_programs_are_found() {
         |list| rest(&list[..list.len().min(65_535)]),
     ];
     for (k, wrong) in texts.into_iter().enumerate() {
-        let (_, found) = check(|| Own, |list| Ok(wrong(list)), &[]);
+        let (_, found) = check(&[], |list| Ok(wrong(list)));
         assert!(found.is_err(), "{k}");
     }
     let named = ("a list".to_string(), vec![0x01, 0, 1, 1]);
-    let (passed, found) = check(|| Own, |_| Err("it can't be run".to_string()), &[named]);
+    let (passed, found) = check(&[named], |_| Err("it can't be run".to_string()));
     assert_eq!((passed, found), (0, Err("a list: it can't be run".to_string())));
-}
-
-/// Libraries whose function is wrong in the text or in what is left in the buffer.
-#[test]
-fn wrong_functions_are_found() {
-    type Rest = fn(&[u8], &mut [u8]) -> Option<usize>;
-    let wrong: [Rest; 8] = [
-        |list, out| {
-            let turns = |table: &mut Table| match table.n {
-                1 => 0,
-                _ => turns(table, (2, 1), |t, _| !t.messages.is_empty()),
-            };
-            write_fitting(&rest_by(advance, turns, list), out)
-        },
-        |list, out| write_fitting(&peer::print::run_list(list), out),
-        |list, out| write_fitting(&rest(&list[..list.len().min(65_536)]), out),
-        |list, out| {
-            write_fitting(&rest(if list.is_empty() { &[1] } else { list }), out)?.checked_sub(1)
-        },
-        // A byte behind it.
-        |list, out| {
-            let length = Own.rest(list, out);
-            out.get_mut(length?).into_iter().for_each(|byte| *byte = 0);
-            length
-        },
-        // All or nothing, as much as fits, and one byte more asked for.
-        |list, out| write_whole(&rest(list), out),
-        |list, out| {
-            let text = rest(list);
-            out.iter_mut().zip(&text).for_each(|(place, byte)| *place = *byte);
-            (text.len() <= out.len()).then_some(text.len())
-        },
-        |list, out| {
-            let length = out.len().checked_sub(1)?;
-            Own.rest(list, &mut out[..length])
-        },
-    ];
-    for (k, wrong) in wrong.into_iter().enumerate() {
-        let library = || Functions { rest: Box::new(wrong), ..Functions::default() };
-        let words = check(library, |list| Ok(rest(list)), &[]).1.unwrap_err();
-        assert!(words.contains(": the library "), "{k}: {words}");
-    }
 }
 
 /// check-rest as a process: 0 for the peer's own program, 1 for another, 2 where there is none.

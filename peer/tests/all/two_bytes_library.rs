@@ -1,12 +1,12 @@
 //! Libraries whose functions for T-01 and T-12 are wrong on purpose: the comparison finds each.
 
-use crate::functions::Functions;
-use peer::proved::{write_whole, Library, Own};
+use crate::text_functions::TextFunctions;
+use peer::proved::{write_whole, Own, Texts};
 use peer::two_bytes::library::compare;
 use peer::two_bytes::{Request, ALDEBARAN, SHORT_LISTS};
 
 /// What is found of a library, which must be something.
-fn found(request: &'static Request, library: impl Fn() -> Functions<'static> + Sync) -> String {
+fn found(request: &'static Request, library: impl Fn() -> TextFunctions<'static> + Sync) -> String {
     compare(request, library).1.unwrap_err()
 }
 
@@ -56,7 +56,7 @@ fn wrong_functions_of_t12_are_found() {
         |input, out| Own.aldebaran(input, out).or(Some(ALDEBARAN.text(input).len())),
     ];
     for (k, wrong) in wrong.into_iter().enumerate() {
-        let library = || Functions { aldebaran: Box::new(wrong), ..Functions::default() };
+        let library = || TextFunctions { aldebaran: Box::new(wrong), ..TextFunctions::default() };
         let words = found(&ALDEBARAN, library);
         assert!(words.starts_with("the library: input of "), "{k}: {words}");
     }
@@ -117,7 +117,7 @@ fn wrong_functions_of_t01_are_found() {
         },
     ];
     for (k, wrong) in wrong.into_iter().enumerate() {
-        let library = || Functions { short_lists: Box::new(wrong), ..Functions::default() };
+        let library = || TextFunctions { short_lists: Box::new(wrong), ..TextFunctions::default() };
         let words = found(&SHORT_LISTS, library);
         assert!(words.starts_with("the library: input of "), "{k}: {words}");
     }
@@ -140,7 +140,7 @@ fn wrong_long_texts_are_found() {
         },
     ];
     for (wrong, input) in wrong.into_iter().zip(["[03 06]", "[02 07]"]) {
-        let library = || Functions { short_lists: Box::new(wrong), ..Functions::default() };
+        let library = || TextFunctions { short_lists: Box::new(wrong), ..TextFunctions::default() };
         let words = found(&SHORT_LISTS, library);
         assert!(words.contains(input), "{words}");
     }
