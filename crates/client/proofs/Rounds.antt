@@ -1,6 +1,5 @@
 -- A turn more behind a schedule, and a whole round.
-use Prim.Native.Nat.{ℕ, zero, suc, ◌+◌, ◌-◌, ◌*◌, ◌≤◌, ◌<◌}
-use native.Mathlib.Nat.{mul-le-mul_right}
+use Prim.Native.Nat.{ℕ, zero, suc, ◌+◌, ◌*◌, ◌≤◌}
 use native.Mathlib.Omega.{arith}
 use mathlib.Core.Path.{◌≡◌, refl, ◌∙◌, ap, subst}
 use mathlib.Core.List.{List, [], ◌∷◌, ◌++◌}
@@ -49,9 +48,3 @@ rounded t p u q d =
   where
     enough : (0 + 1) * round_size t.n ≤ turns (replicate (round_size t.n) turn)
     enough = omega (arith, turns_all (round_size t.n))
-
--- the pairs of up to 255 nodes fit 16 bits
-pub few_pairs : (n : ℕ) → n ≤ 255 → n * (n - 1) < 65536
-few_pairs n h =
-    let a = mul-le-mul_right {m = n} {n = 255} (n - 1) h in
-    omega (arith, a)

@@ -1,6 +1,6 @@
 -- `answered` meets its contract: a refusal writes nothing, and the bytes of the cleared table are read back.
 use native.Mathlib.Omega.{arith}
-use mathlib.Core.Path.{refl, sym, ◌∙◌, ap}
+use mathlib.Core.Path.{◌∙◌, ap}
 use lib.Seq.{length-take-le}
 use Rattle.model.specs.State.{view}
 use Rattle.machine.proofs.Laws.{sized}
@@ -9,17 +9,6 @@ use Rattle.table_bytes.specs.Bytes.{size}
 use Rattle.exports.specs.Boundary.{state_bytes}
 use Rattle.exports.proofs.Clearing.{view_table}
 use Rattle.exports.proofs.answered.Goals as goal
-
-pub returns-then-r-ne0 : goal.returns-then-r-ne0
-returns-then-r-ne0 c = record {
-  number = c.answer_number-r.ensures;
-  kept = λ _. refl;
-  whole = λ z. absurd (c.if-r-ne0.true z);
-  back = λ z. absurd (c.if-r-ne0.true z);
-}
-
-pub slice_bounds-encode-end-2 : goal.slice_bounds-encode-end-2
-slice_bounds-encode-end-2 c = sym (length-take-le size c.args.out.now c.requires)
 
 pub returns : goal.returns
 returns c =

@@ -6,9 +6,6 @@ use Rattle.event_list.proofs.Reading.{next_past}
 use Rattle.exports.proofs.Counting.{left_done, left_stopped, left_got, plus_one}
 use Rattle.exports.proofs.fold_from.Goals as goal
 
-pub loop-event-init : goal.loop-event-init
-loop-event-init c = (omega arith, c.requires.0, omega arith)
-
 pub returns-in-Done : goal.returns-in-Done
 returns-in-Done c =
     let l = c.loop-event in

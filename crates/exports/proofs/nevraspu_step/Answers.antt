@@ -11,9 +11,6 @@ returns-then-out-lt-SIZE c = short _ _ _ c.if-out-lt-SIZE.true
 pub returns-then-not-in_range : goal.returns-then-not-in_range
 returns-then-not-in_range c = away _ _ _ c.if-out-lt-SIZE.false (rw c.decode-t.ensures at (sym c.in_range.ensures ∙ c.if-not-in_range.true))
 
-pub advance-o-requires : goal.advance-o-requires
-advance-o-requires c = sym c.in_range.ensures ∙ c.if-not-in_range.false
-
 pub returns-in-Done : goal.returns-in-Done
 returns-in-Done c =
     no_event _ _ _ c.if-out-lt-SIZE.false (rw c.decode-t.ensures at (sym c.in_range.ensures ∙ c.if-not-in_range.false)) _ c.event_at.ensures 3 (rw c.in-Done.is) (λ z. omega arith)

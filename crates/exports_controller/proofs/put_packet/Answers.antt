@@ -1,16 +1,13 @@
 -- The length first; then the invariant: what is left of the bytes, written behind the first i, is the whole.
 use borrow.Author.Rules.{rules}
 use Prim.Native.Nat.{◌+◌}
-use mathlib.Core.Path.{refl, sym, ◌∙◌}
+use mathlib.Core.Path.{sym, ◌∙◌}
 use native.Mathlib.Omega.{arith}
 use Rattle.number_bytes.specs.Bytes.{bytes}
 use Rattle.number_bytes.proofs.Numbers.{length_bytes, then}
 use Rattle.number_bytes.proofs.Records.{bytes_turn, bytes_end}
 use Rattle.exports_controller.proofs.Outcomes.{packet_long}
 use Rattle.exports_controller.proofs.put_packet.Goals as goal
-
-pub loop-i-init : goal.loop-i-init
-loop-i-init c = (search rules, refl, refl)
 
 pub loop-i-preserved : goal.loop-i-preserved
 loop-i-preserved c =

@@ -1,6 +1,6 @@
 -- The invariant: what is left, written behind the first i records, is the whole.
 use borrow.Author.Rules.{rules}
-use mathlib.Core.Path.{refl, sym, ◌∙◌}
+use mathlib.Core.Path.{sym, ◌∙◌}
 use native.Mathlib.Omega.{arith}
 use Rattle.table_bytes.specs.Bytes.{node_bytes}
 use Rattle.number_bytes.proofs.Records.{all_turn, all_end}
@@ -8,9 +8,6 @@ use Rattle.table_bytes.proofs.Records.{node_long}
 use Rattle.table_bytes.proofs.Widths.{records_fit}
 use Rattle.table_bytes.proofs.RoundTrip.{records_stored}
 use Rattle.table_bytes.proofs.encode_records.Goals as goal
-
-pub loop-i-init : goal.loop-i-init
-loop-i-init c = (search rules, refl, refl)
 
 pub loop-i-preserved : goal.loop-i-preserved
 loop-i-preserved c =

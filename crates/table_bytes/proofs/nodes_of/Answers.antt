@@ -5,7 +5,7 @@ use native.Mathlib.Omega.{arith}
 use lib.ListN.{length-set}
 use Rattle.number_bytes.specs.Bytes.{many}
 use Rattle.table_bytes.specs.Bytes.{node_of}
-use Rattle.number_bytes.proofs.Records.{many_turn, many_end}
+use Rattle.number_bytes.proofs.Records.{many_turn}
 use Rattle.table_bytes.proofs.nodes_of.Goals as goal
 
 pub loop-i-init : goal.loop-i-init
@@ -16,8 +16,3 @@ pub loop-i-preserved : goal.loop-i-preserved
 loop-i-preserved c =
     let v = c.loop-i.invariant in
     (omega arith, simp length-set v.1, many_turn node_of 29 _ c.loop-i.all c.loop-i.i v.2 (omega arith) _ (c.node_of-node.ensures ∙ ap node_of c.from.ensures))
-
-pub returns : goal.returns
-returns c =
-    let l = c.loop-i in
-    many_end node_of 29 _ l.all l.i l.invariant.2 16 l.invariant.1 l.invariant.0 c.loop-i-test.false

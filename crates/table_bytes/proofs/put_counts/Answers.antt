@@ -1,18 +1,12 @@
 -- The invariant: what is left, written behind the first i counts, is the whole.
 use borrow.Author.Rules.{rules}
-use Prim.Native.Nat.{◌+◌}
-use mathlib.Core.Path.{◌≡◌, refl, sym, ◌∙◌}
+use mathlib.Core.Path.{◌≡◌, sym, ◌∙◌}
 use native.Mathlib.Omega.{arith}
 use lib.ListN.{length}
 use Rattle.number_bytes.specs.Bytes.{bytes}
 use Rattle.number_bytes.proofs.Numbers.{length_bytes}
 use Rattle.number_bytes.proofs.Records.{all_turn, all_end}
 use Rattle.table_bytes.proofs.put_counts.Goals as goal
-
-pub loop-i-init : goal.loop-i-init
-loop-i-init c =
-    let e : c.args.at + 0 ≡ c.args.at = omega arith in
-    (search rules, refl, rw e)
 
 pub loop-i-preserved : goal.loop-i-preserved
 loop-i-preserved c =

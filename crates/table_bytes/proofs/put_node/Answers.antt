@@ -1,19 +1,9 @@
 -- Each field is written where the one before it ends.
 use mathlib.Core.Path.{refl}
-use native.Mathlib.Omega.{arith}
 use Rattle.number_bytes.specs.Bytes.{bytes}
 use Rattle.table_bytes.specs.Bytes.{node_bytes, parts_bytes}
 use Rattle.number_bytes.proofs.Numbers.{then}
 use Rattle.table_bytes.proofs.put_node.Goals as goal
-
--- The bound of `at` lies too far back to be found.
-pub overflow_add-at-7 : goal.overflow_add-at-7
-overflow_add-at-7 c =
-    omega (arith, c.requires)
-
-pub put_parts-requires : goal.put_parts-requires
-put_parts-requires c =
-    omega (arith, c.requires)
 
 pub returns : goal.returns
 unfolding bytes node_bytes parts_bytes

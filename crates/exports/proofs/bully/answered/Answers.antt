@@ -1,17 +1,9 @@
 -- `answered` meets its contract: a refusal writes nothing, and the bytes of the cleared table are read back.
-use mathlib.Core.Path.{refl, ◌∙◌, ap}
+use mathlib.Core.Path.{◌∙◌, ap}
 use Rattle.bully_model.specs.State.{view}
 use Rattle.bully_machine.proofs.Laws.{sized}
 use Rattle.exports.proofs.BullyStepping.{view_table}
 use Rattle.exports.proofs.bully.answered.Goals as goal
-
-pub returns-then-r-ne0 : goal.returns-then-r-ne0
-returns-then-r-ne0 c = record {
-  number = c.answer_number-r.ensures;
-  kept = λ _. refl;
-  whole = λ z. absurd (c.if-r-ne0.true z);
-  back = λ z. absurd (c.if-r-ne0.true z);
-}
 
 pub returns : goal.returns
 returns c =

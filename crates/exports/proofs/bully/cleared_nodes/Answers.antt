@@ -1,14 +1,10 @@
 -- `cleared_nodes` meets its contract. The invariant: filled from i on, it is the array of the table filled from where the loop began.
-use mathlib.Core.Path.{refl, sym, ◌∙◌}
+use mathlib.Core.Path.{sym, ◌∙◌}
 use lib.ListN.{length-set}
 use Rattle.bully_model.specs.State.{starting_node}
 use Rattle.bully_machine.proofs.Laws.{sized}
 use Rattle.exports.proofs.Clearing.{filled_turn, filled_end, first_filled}
 use Rattle.exports.proofs.bully.cleared_nodes.Goals as goal
-
-pub loop-i-init : goal.loop-i-init
-loop-i-init c =
-    (sized c.args.t c.well_formed.0, refl)
 
 pub loop-i-preserved : goal.loop-i-preserved
 loop-i-preserved c =
