@@ -105,6 +105,7 @@ extern "C" {
 #define NEVRASPU_SCRIPT_MOST 1048576  /* the longest text that nevraspu_list_of_text takes */
 #define NEVRASPU_BAD_TEXT_MOST 128    /* no line that tells of a bad text has more */
 #define NEVRASPU_PRINT_MOST 279149    /* no text of nevraspu_print has more */
+#define NEVRASPU_TEXT_MOST 279149     /* the same, under its first name */
 #define NEVRASPU_LIST_TEXT_MOST 278540 /* no text of nevraspu_text_of_list has more */
 #define NEVRASPU_TRACE_MOST 16778240  /* no text of nevraspu_trace has more */
 #define NEVRASPU_REST_MOST 279163     /* no text of nevraspu_rest has more */

@@ -28,7 +28,7 @@ highest_fits s h n = highest_in 16 s (omega arith) (lt_within 16 s h) (omega ari
 
 -- ── a table's array: its first n records ──
 
--- how long it is: `c.good.0` of a parameter and `c.CALL.ok` of a call's result are the relation
+-- how long it is: `c.well_formed` has the relation, of each parameter
 pub sized : (t : Table) {vs : List Val} → Is (row T.the_type) t vs → length t.nodes ≡ 16
 sized t g = g.1.1.1.0.1.0.1
 

@@ -5,7 +5,7 @@ use Rattle.bully_model.specs.State as bully
 use Rattle.bully_model.specs.Answers as bully_answers
 use Rattle.bully_model.specs.declared.Answer as bully_answer
 use Rattle.bully_model.specs.declared.Table as bully_table
-use Rattle.bully_bytes.specs.Bytes as bully_bytes_lem
+use Rattle.bully_bytes.specs.Bytes as bully_bytes
 use Rattle.model.specs.Answers.{answer_number}
 use Rattle.model.specs.declared.Answer.{Answer}
 use Rattle.model.specs.declared.Table.{Table}
@@ -24,5 +24,5 @@ pub record Answered (a : Answer) (t : Table) (b o : List ℕ) (r : ℕ) : Type 0
 pub record BullyAnswered (a : bully_answer.Answer) (t : bully_table.Table) (b o : List ℕ) (r : ℕ) : Type 0 where
   pub number : r ≡ bully_answers.answer_number a
   pub kept : (r ≡ 0 → ⊥) → o ≡ b
-  pub whole : r ≡ 0 → bully_bytes_lem.size ≤ length b → o ≡ bully_boundary.state_bytes (bully.view t) ++ drop bully_bytes_lem.size b
-  pub back : r ≡ 0 → bully_bytes_lem.size ≤ length b → bully_boundary.state_of o ≡ bully.view t
+  pub whole : r ≡ 0 → bully_bytes.size ≤ length b → o ≡ bully_boundary.state_bytes (bully.view t) ++ drop bully_bytes.size b
+  pub back : r ≡ 0 → bully_bytes.size ≤ length b → bully_boundary.state_of o ≡ bully.view t

@@ -34,7 +34,7 @@ use Rattle.model.proofs.Lists.{first_take, first_length, first_set, first_replic
 use Rattle.machine.specs.Stepped.{starting_table}
 use Rattle.machine.specs.Parts.{place, without, Left, within_limits}
 
--- What owning a table tells of its arrays: their lengths. `c.good.0` of a parameter and `c.CALL.ok` of a call's result are the relation. This is the one
+-- What owning a table tells of its arrays: their lengths. `c.well_formed` has the relation, of each parameter. This is the one
 -- place that knows the order of the table's fields.
 pub record Sized (t : Table) : Type 0 where
   pub nodes : length t.nodes ≡ 16

@@ -1,5 +1,5 @@
 // A program's standard input and output: all of the one read into a lent buffer, and bytes written to the other. Where that fails, a line on standard error
-// says why; a program's own message goes there as well. No contract can say which bytes are read or written.
+// says why; a program's own message goes there as well. No contract can say which bytes standard input gives, or which reach standard output.
 #![tactic(auto)]
 
 ghost use Rattle.std.specs.Prelude.{◌≡◌, ◌<◌, length, take, IfOk};

@@ -167,7 +167,7 @@ bounds-t-m-then-is_accepted-3 c =
     let e = c.in-Got.event in
     omega (arith, c.moved_place-m.ensures.1, (counted _ _ _ _ _ _ _ _ h e).2)
 
--- what `search` needs stands too far back for it, here and in add-e-2
+-- what `search` needs stands too far back for it
 pub overflow_add-e : goal.overflow_add-e
 overflow_add-e c =
     let l = c.loop-out in
