@@ -1,16 +1,11 @@
 -- How long a record is, and where a table ends.
-use mathlib.Core.Path.{◌≡◌, refl}
+use mathlib.Core.Path.{◌≡◌}
 use lib.ListN.{length, length-append}
-use Rattle.number_bytes.specs.Bytes.{bytes}
 use Rattle.number_bytes.proofs.Numbers.{length_bytes}
 use Rattle.number_bytes.proofs.Records.{all_long}
-use Rattle.bully_model.specs.declared.Node.{Node}
 use Rattle.bully_model.specs.declared.Table.{Table}
-use Rattle.bully_bytes.specs.Bytes.{parts_bytes, node_bytes, size, encoded}
-
-pub node_long : (c : Node) → length (node_bytes c) ≡ 12
-unfolding bytes parts_bytes node_bytes
-node_long c = refl
+pub use Rattle.bully_bytes.specs.Sizes.{node_long}
+use Rattle.bully_bytes.specs.Bytes.{node_bytes, size, encoded}
 
 pub encoded_size : (t : Table) → length t.nodes ≡ 16 → length (encoded t) ≡ size
 unfolding encoded

@@ -1,6 +1,6 @@
 -- What is claimed of the byte form, and of reading a field. The proofs are in proofs/RoundTrip, proofs/Cases and proofs/Reading. Every table of the code fits, so `encode` promises
 -- the same without `Fits`.
-use Rattle.std.specs.Prelude.{ℕ, ◌*◌, ◌+◌, ◌≤◌, true, false, ◌≡◌, List, [], ◌∷◌, ◌++◌, length, replicate}
+use Rattle.std.specs.Prelude.{Ok, Err, ℕ, ◌*◌, ◌+◌, ◌≤◌, true, false, ◌≡◌, List, [], ◌∷◌, ◌++◌, length, replicate}
 use Rattle.number_bytes.specs.Bytes.{written}
 use Rattle.event_list.specs.Format.{stop_number, cut_short}
 use Rattle.event_list.specs.declared.Stop.{Stop}
@@ -10,7 +10,6 @@ use Rattle.bully_model.specs.State.{starting_node}
 use Rattle.bully_model.specs.declared.Place.TheVariants.{Idle, Asking, Halting, Announcing, Point, Handing, Checking, Contacting}
 use Rattle.bully_model.specs.declared.Event.TheVariants.{Crash, Recover, Check, Timeout, GoOn, Finish}
 use Rattle.bully_model.specs.declared.Table.{Table}
-use Rattle.bully_bytes.specs.declared.FieldRead.TheVariants.{Stopped, Got}
 use Rattle.bully_bytes.specs.Bytes.{parts_of, node_of, decoded, parts_bytes, node_bytes, size, encoded, Fits}
 use Rattle.bully_bytes.specs.Field.{event_in}
 
@@ -48,40 +47,40 @@ pub record RecordCases : Type 0 where
 -- i: any byte, also one that is no number of a node
 pub record FieldRules : Type 0 where
   -- each event with its field: tag, length, contents
-  pub crash : (i : ℕ) → event_in (0x10 ∷ 0 ∷ 1 ∷ i ∷ []) ≡ Got (Crash i)
-  pub recover : (i : ℕ) → event_in (0x11 ∷ 0 ∷ 1 ∷ i ∷ []) ≡ Got (Recover i)
-  pub check : (i : ℕ) → event_in (0x12 ∷ 0 ∷ 1 ∷ i ∷ []) ≡ Got (Check i)
-  pub timeout : (i : ℕ) → event_in (0x13 ∷ 0 ∷ 1 ∷ i ∷ []) ≡ Got (Timeout i)
-  pub go_on : (i : ℕ) → event_in (0x19 ∷ 0 ∷ 1 ∷ i ∷ []) ≡ Got (GoOn i)
-  pub finish : (i high low : ℕ) → event_in (0x16 ∷ 0 ∷ 3 ∷ i ∷ high ∷ low ∷ []) ≡ Got (Finish i (record { number = high * 256 + low }))
+  pub crash : (i : ℕ) → event_in (0x10 ∷ 0 ∷ 1 ∷ i ∷ []) ≡ Ok (Crash i)
+  pub recover : (i : ℕ) → event_in (0x11 ∷ 0 ∷ 1 ∷ i ∷ []) ≡ Ok (Recover i)
+  pub check : (i : ℕ) → event_in (0x12 ∷ 0 ∷ 1 ∷ i ∷ []) ≡ Ok (Check i)
+  pub timeout : (i : ℕ) → event_in (0x13 ∷ 0 ∷ 1 ∷ i ∷ []) ≡ Ok (Timeout i)
+  pub go_on : (i : ℕ) → event_in (0x19 ∷ 0 ∷ 1 ∷ i ∷ []) ≡ Ok (GoOn i)
+  pub finish : (i high low : ℕ) → event_in (0x16 ∷ 0 ∷ 3 ∷ i ∷ high ∷ low ∷ []) ≡ Ok (Finish i (record { number = high * 256 + low }))
   -- what is no event has one of three grounds, 3, 4 or 5
-  pub grounds : (f : List ℕ) (s : Stop) → event_in f ≡ Stopped s → (3 ≤ stop_number s) × (stop_number s ≤ 5)
+  pub grounds : (f : List ℕ) (s : Stop) → event_in f ≡ Err s → (3 ≤ stop_number s) × (stop_number s ≤ 5)
   -- no bytes are no field, 3
-  pub empty : event_in [] ≡ Stopped CutShort
+  pub empty : event_in [] ≡ Err CutShort
   -- the other machine's tick, expire, deliver and lose are no events of this one, 4
-  pub tick : (i : ℕ) → event_in (0x14 ∷ 0 ∷ 1 ∷ i ∷ []) ≡ Stopped WrongTag
-  pub expire : (i : ℕ) → event_in (0x15 ∷ 0 ∷ 1 ∷ i ∷ []) ≡ Stopped WrongTag
-  pub deliver : (a b : ℕ) → event_in (0x17 ∷ 0 ∷ 2 ∷ a ∷ b ∷ []) ≡ Stopped WrongTag
-  pub lose : (a b : ℕ) → event_in (0x18 ∷ 0 ∷ 2 ∷ a ∷ b ∷ []) ≡ Stopped WrongTag
+  pub tick : (i : ℕ) → event_in (0x14 ∷ 0 ∷ 1 ∷ i ∷ []) ≡ Err WrongTag
+  pub expire : (i : ℕ) → event_in (0x15 ∷ 0 ∷ 1 ∷ i ∷ []) ≡ Err WrongTag
+  pub deliver : (a b : ℕ) → event_in (0x17 ∷ 0 ∷ 2 ∷ a ∷ b ∷ []) ≡ Err WrongTag
+  pub lose : (a b : ℕ) → event_in (0x18 ∷ 0 ∷ 2 ∷ a ∷ b ∷ []) ≡ Err WrongTag
   -- nor are 0x01, which begins a list, and the tags beside this machine's own
-  pub first_tag : (n : ℕ) → event_in (0x01 ∷ 0 ∷ 1 ∷ n ∷ []) ≡ Stopped WrongTag
-  pub tag_below : (i : ℕ) → event_in (0x0f ∷ 0 ∷ 1 ∷ i ∷ []) ≡ Stopped WrongTag
-  pub tag_above : (i : ℕ) → event_in (0x1a ∷ 0 ∷ 1 ∷ i ∷ []) ≡ Stopped WrongTag
+  pub first_tag : (n : ℕ) → event_in (0x01 ∷ 0 ∷ 1 ∷ n ∷ []) ≡ Err WrongTag
+  pub tag_below : (i : ℕ) → event_in (0x0f ∷ 0 ∷ 1 ∷ i ∷ []) ≡ Err WrongTag
+  pub tag_above : (i : ℕ) → event_in (0x1a ∷ 0 ∷ 1 ∷ i ∷ []) ≡ Err WrongTag
   -- a length that is wrong for the tag, 5: go on without a number, and with two; each other event with one byte more, and finish without its task
-  pub go_on_empty : event_in (0x19 ∷ 0 ∷ 0 ∷ []) ≡ Stopped WrongLength
-  pub go_on_long : (i j : ℕ) → event_in (0x19 ∷ 0 ∷ 2 ∷ i ∷ j ∷ []) ≡ Stopped WrongLength
-  pub crash_long : (i j : ℕ) → event_in (0x10 ∷ 0 ∷ 2 ∷ i ∷ j ∷ []) ≡ Stopped WrongLength
-  pub recover_long : (i j : ℕ) → event_in (0x11 ∷ 0 ∷ 2 ∷ i ∷ j ∷ []) ≡ Stopped WrongLength
-  pub check_long : (i j : ℕ) → event_in (0x12 ∷ 0 ∷ 2 ∷ i ∷ j ∷ []) ≡ Stopped WrongLength
-  pub timeout_long : (i j : ℕ) → event_in (0x13 ∷ 0 ∷ 2 ∷ i ∷ j ∷ []) ≡ Stopped WrongLength
-  pub finish_long : (i j k l : ℕ) → event_in (0x16 ∷ 0 ∷ 4 ∷ i ∷ j ∷ k ∷ l ∷ []) ≡ Stopped WrongLength
-  pub finish_short : (i : ℕ) → event_in (0x16 ∷ 0 ∷ 1 ∷ i ∷ []) ≡ Stopped WrongLength
+  pub go_on_empty : event_in (0x19 ∷ 0 ∷ 0 ∷ []) ≡ Err WrongLength
+  pub go_on_long : (i j : ℕ) → event_in (0x19 ∷ 0 ∷ 2 ∷ i ∷ j ∷ []) ≡ Err WrongLength
+  pub crash_long : (i j : ℕ) → event_in (0x10 ∷ 0 ∷ 2 ∷ i ∷ j ∷ []) ≡ Err WrongLength
+  pub recover_long : (i j : ℕ) → event_in (0x11 ∷ 0 ∷ 2 ∷ i ∷ j ∷ []) ≡ Err WrongLength
+  pub check_long : (i j : ℕ) → event_in (0x12 ∷ 0 ∷ 2 ∷ i ∷ j ∷ []) ≡ Err WrongLength
+  pub timeout_long : (i j : ℕ) → event_in (0x13 ∷ 0 ∷ 2 ∷ i ∷ j ∷ []) ≡ Err WrongLength
+  pub finish_long : (i j k l : ℕ) → event_in (0x16 ∷ 0 ∷ 4 ∷ i ∷ j ∷ k ∷ l ∷ []) ≡ Err WrongLength
+  pub finish_short : (i : ℕ) → event_in (0x16 ∷ 0 ∷ 1 ∷ i ∷ []) ≡ Err WrongLength
   -- cut short, 3: only 1 or 2 bytes, or fewer contents than the length says
-  pub one_byte : (t : ℕ) → event_in (t ∷ []) ≡ Stopped CutShort
-  pub two_bytes : (t l : ℕ) → event_in (t ∷ l ∷ []) ≡ Stopped CutShort
-  pub no_contents : (t : ℕ) → event_in (t ∷ 0 ∷ 1 ∷ []) ≡ Stopped CutShort
+  pub one_byte : (t : ℕ) → event_in (t ∷ []) ≡ Err CutShort
+  pub two_bytes : (t l : ℕ) → event_in (t ∷ l ∷ []) ≡ Err CutShort
+  pub no_contents : (t : ℕ) → event_in (t ∷ 0 ∷ 1 ∷ []) ≡ Err CutShort
   -- 3 before 4 and 5, and 4 before 5
-  pub cut_first : event_in (0x14 ∷ 0 ∷ 2 ∷ 1 ∷ []) ≡ Stopped CutShort
-  pub tag_first : event_in (0x14 ∷ 0 ∷ 0 ∷ []) ≡ Stopped WrongTag
+  pub cut_first : event_in (0x14 ∷ 0 ∷ 2 ∷ 1 ∷ []) ≡ Err CutShort
+  pub tag_first : event_in (0x14 ∷ 0 ∷ 0 ∷ []) ≡ Err WrongTag
   -- bytes behind a field that is there whole are not looked at
   pub first_alone : (f g : List ℕ) → cut_short f 0 ≡ false → event_in (f ++ g) ≡ event_in f

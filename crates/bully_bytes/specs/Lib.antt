@@ -3,3 +3,4 @@ pub mod Bytes
 pub mod Field
 pub mod Parts
 pub mod Claims
+pub mod Sizes

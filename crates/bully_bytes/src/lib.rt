@@ -9,28 +9,26 @@
 // What is read and written is in specs/Bytes, what a field says in specs/Field.
 #![tactic(auto)]
 
-ghost use Rattle.std.specs.Prelude.{◌≡◌, ◌+◌, ◌≤◌};
-ghost use Rattle.number_bytes.specs.Bytes.{many, all, written};
+ghost use Rattle.std.specs.Prelude.{◌≡◌, ◌^◌, ◌≤◌};
+ghost use Rattle.number_bytes.specs.Bytes.{written};
 ghost use Rattle.bully_bytes.specs.Bytes as spec;
 ghost use Rattle.bully_bytes.specs.Field.{event_in};
-ghost use Rattle.bully_bytes.specs.Parts.{sized, decoded_field};
+ghost use Rattle.bully_bytes.specs.Parts.{decoded_field};
+ghost use Rattle.bully_bytes.specs.Sizes.{node_long};
 
 use bully_model::{Event, Node, Place, Table};
-use event_list::{Field, Stop, field_at, task_of};
+use event_list::{Stop, field_at, sized, task_of};
 use model::TaskNo;
-use number_bytes::{byte, from, one, put_one, put_two, status_number, status_of, two, yes_number};
+use number_bytes::{
+    Form, byte, from, one, put_many, put_one, put_two, read_many, status_number, status_of, two,
+    yes_number,
+};
 
 // How long a table's bytes are.
 pub const SIZE: usize = 193;
 
-// What a field says: why it is no event of this machine, or its event.
-#[derive(Clone, Copy)]
-pub enum FieldRead {
-    Stopped(Stop),
-    Got(Event),
-}
-
 // A place with room for each thing that one of them holds.
+// kept: `tag` is a byte of 01's form, and the bytes read may hold any.
 #[derive(Clone, Copy)]
 struct PlaceParts {
     tag: u8,
@@ -41,40 +39,30 @@ struct PlaceParts {
 fn parts_with(tag: u8, node: u8, still: u16) -> PlaceParts
     ensures { result ≡ spec.parts tag node still }
 {
-    PlaceParts {
-        tag: tag,
-        node: node,
-        still: still,
-    }
+    PlaceParts { tag, node, still }
 }
 
 // ── reading ──
 
+#[tactic(auto, unfolding(crate::specs::Bytes::place_of, model::specs::Pick::pick))]
 fn place_of(p: PlaceParts) -> Place
     ensures { result ≡ spec.place_of p }
 {
-    let node = p.node;
-    let still = p.still;
-    let k = p.tag % 8;
-    match k {
+    let PlaceParts { tag, node, still } = p;
+    match tag % 8 {
         0 => Place::Idle,
         1 => Place::Asking(node),
         2 => Place::Halting(node),
-        3 => Place::Announcing {
-            still: still,
-            now: node,
-        },
+        3 => Place::Announcing { still, now: node },
         4 => Place::Point,
-        5 => Place::Handing {
-            still: still,
-            now: node,
-        },
+        5 => Place::Handing { still, now: node },
         6 => Place::Checking(node),
         7..=255 => Place::Contacting,
     }
 }
 
 // The node whose record starts s.
+#[tactic(auto, unfolding(crate::specs::Bytes::node_of))]
 fn node_of(s: &[u8]) -> Node
     ensures { result ≡ spec.node_of s.now }
 {
@@ -90,29 +78,14 @@ fn node_of(s: &[u8]) -> Node
     }
 }
 
-// The nodes whose records start s.
-fn nodes_of(s: &[u8]) -> [Node; 16]
-    ensures { result ≡ many spec.node_of 12 16 s.now }
-{
-    let first = node_of(s);
-    let mut all = [first; 16];
-    let mut i: usize = 0;
-    while i < 16 {
-        let node = node_of(from(s, i * 12));
-        all[i] = node;
-        i += 1;
-    }
-    all
-}
-
 // The table of any bytes. What a list is too short for is 0; what comes after 193 bytes is not looked at.
+#[tactic(auto, unfolding(crate::specs::Bytes::decoded))]
 pub fn decode(bytes: &[u8]) -> Table
     ensures { result ≡ spec.decoded bytes.now }
 {
-    let nodes = nodes_of(from(bytes, 1));
     Table {
         n: one(bytes, 0),
-        nodes: nodes,
+        nodes: read_many::<NodeForm, _, _>(from(bytes, 1)),
     }
 }
 
@@ -134,7 +107,7 @@ fn parts_of(a: Place) -> PlaceParts
 }
 
 fn put_parts(out: &mut [u8], at: usize, p: PlaceParts)
-    requires { at + 4 ≤ spec.size }
+    requires { at ≤ 2 ^ 33 }
     ensures { out.new ≡ written out.old at (spec.parts_bytes p) }
 {
     put_one(out, at, p.tag);
@@ -143,33 +116,39 @@ fn put_parts(out: &mut [u8], at: usize, p: PlaceParts)
 }
 
 fn put_node(out: &mut [u8], at: usize, node: Node)
-    requires { at + 12 ≤ spec.size }
+    requires { at ≤ 2 ^ 32 }
     ensures { out.new ≡ written out.old at (spec.node_bytes node) }
 {
-    let status = node.status;
-    let task = node.task;
-    let place = node.place;
-    let runs = yes_number(node.runs);
-    let tag = status_number(status);
-    let parts = parts_of(place);
-    put_one(out, at, runs);
-    put_one(out, at + 1, tag);
+    put_one(out, at, yes_number(node.runs));
+    put_one(out, at + 1, status_number(node.status));
     put_one(out, at + 2, node.coordinator);
-    put_two(out, at + 3, task.number);
+    put_two(out, at + 3, node.task.number);
     put_one(out, at + 5, node.halter);
     put_two(out, at + 6, node.up);
-    put_parts(out, at + 8, parts)
+    put_parts(out, at + 8, parts_of(node.place))
 }
 
-fn put_nodes(out: &mut [u8], t: Table)
-    ensures { out.new ≡ written out.old 1 (all spec.node_bytes t.nodes) }
-{
-    let mut i: usize = 0;
-    while i < 16 {
-        let node = t.nodes[i];
-        put_node(out, 1 + i * 12, node);
-        i += 1;
+// The form of nodes.
+struct NodeForm;
+
+impl Form<Node> for NodeForm {
+    ghost SIZE = { 12 };
+
+    ghost of_bytes = { spec.node_of };
+
+    ghost bytes = { spec.node_bytes };
+
+    const SIZE: usize = 12;
+
+    fn read(s: &[u8]) -> Node {
+        node_of(s)
     }
+
+    fn put(out: &mut [u8], at: usize, x: Node) {
+        put_node(out, at, x)
+    }
+
+    ghost long = { node_long };
 }
 
 // The bytes of t over the start of out, and what is behind them stays; where out is shorter, as many as it has room for.
@@ -177,32 +156,23 @@ pub fn encode(t: Table, out: &mut [u8])
     ensures { spec.Stored t out.old out.new }
 {
     put_one(out, 0, t.n);
-    put_nodes(out, t)
+    put_many::<NodeForm, _>(out, 1, &t.nodes)
 }
 
 // ── the event of a field ──
 
-// The event, where its contents are as long as its tag wants.
-fn sized_event(size: usize, wanted: usize, event: Event) -> FieldRead
-    ensures { result ≡ sized size wanted event }
-{
-    if size != wanted {
-        return FieldRead::Stopped(Stop::WrongLength);
-    }
-    FieldRead::Got(event)
-}
-
 // The event of a tag and its field's contents.
-fn decode_field(tag: u8, contents: &[u8]) -> FieldRead
+#[tactic(auto, unfolding(crate::specs::Parts::decoded_field, crate::specs::Field::event_of, crate::specs::Field::length_of, model::specs::Pick::pick))]
+fn decode_field(tag: u8, contents: &[u8]) -> Result<Event, Stop>
     ensures { result ≡ decoded_field tag contents.now }
 {
     let size = contents.len();
     match tag {
-        0x10 => sized_event(size, 1, Event::Crash(byte(contents, 0))),
-        0x11 => sized_event(size, 1, Event::Recover(byte(contents, 0))),
-        0x12 => sized_event(size, 1, Event::Check(byte(contents, 0))),
-        0x13 => sized_event(size, 1, Event::Timeout(byte(contents, 0))),
-        0x16 => sized_event(
+        0x10 => sized(size, 1, Event::Crash(byte(contents, 0))),
+        0x11 => sized(size, 1, Event::Recover(byte(contents, 0))),
+        0x12 => sized(size, 1, Event::Check(byte(contents, 0))),
+        0x13 => sized(size, 1, Event::Timeout(byte(contents, 0))),
+        0x16 => sized(
             size,
             3,
             Event::Finish(
@@ -210,18 +180,17 @@ fn decode_field(tag: u8, contents: &[u8]) -> FieldRead
                 task_of(byte(contents, 1), byte(contents, 2)),
             ),
         ),
-        0x19 => sized_event(size, 1, Event::GoOn(byte(contents, 0))),
-        0..=0x0f | 0x14..=0x15 | 0x17..=0x18 | 0x1a..=255 => FieldRead::Stopped(Stop::WrongTag),
+        0x19 => sized(size, 1, Event::GoOn(byte(contents, 0))),
+        0..=0x0f | 0x14..=0x15 | 0x17..=0x18 | 0x1a..=255 => Err(Stop::WrongTag),
     }
 }
 
-// The event of the field at the start of these bytes; what comes behind it is not looked at. No bytes at all are a field cut short.
-pub fn event_in(field: &[u8]) -> FieldRead
+// The event of the field at the start of these bytes, or why it is none of this machine; what comes behind it is not looked at. No bytes at all are a field cut short.
+pub fn event_in(field: &[u8]) -> Result<Event, Stop>
     ensures { result ≡ event_in field.now }
 {
-    match field_at(field, 0) {
-        Field::End => FieldRead::Stopped(Stop::CutShort),
-        Field::Short => FieldRead::Stopped(Stop::CutShort),
-        Field::Whole { tag, start, end } => decode_field(tag, &field[start..end]),
+    match field_at(field, 0)? {
+        None => Err(Stop::CutShort),
+        Some(found) => decode_field(found.tag, &field[found.start..found.end]),
     }
 }

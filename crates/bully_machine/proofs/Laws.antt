@@ -1,5 +1,5 @@
--- Laws for the code over a table: what a table's array is, the record of a node and one stored, and the bounds of a set's highest node.
-use Prim.Native.Nat.{ℕ, zero, suc, ◌-◌, ◌≤◌, ◌<◌}
+-- Laws for the code over a table: what a table's array is, the record of a node, and one stored.
+use Prim.Native.Nat.{ℕ, zero, suc, ◌-◌, ◌≤◌}
 use native.Mathlib.Omega.{arith}
 use mathlib.Core.Path.{◌≡◌, refl, sym, ap}
 use mathlib.Core.List.{List}
@@ -7,33 +7,22 @@ use lib.ListN.{length, get_or, take, set}
 use lib.Seq.{get_or-take}
 use mir.Val.{Val}
 use denote.Laws.{Is}
-use denote.Array.{Array}
 use denote.Struct.Declared.{row}
 use borrow.Author.Tests.{le-leb, eq-eqb}
-use Rattle.node_set.specs.NodeSet.{highest}
-use Rattle.node_set.proofs.Laws.{lt_within, highest_in}
 use Rattle.model.specs.State.{every, first_of}
 use Rattle.model.proofs.Lists.{first_take, first_length, first_set, first_replicate}
 use Rattle.bully_model.specs.Range.{node_in_range}
 use Rattle.bully_model.specs.State.{State, starting_node, start, node_at, stored, in_range, view}
 use Rattle.bully_model.specs.declared.Node.{Node}
 use Rattle.bully_model.specs.declared.Table.{Table}
-use Rattle.bully_model.specs.contracts.Node as node
 use Rattle.bully_model.specs.contracts.Table as T
 use Rattle.bully_machine.specs.Stepped.{starting_table}
-
--- the highest node of a set that is not empty can be taken out of it
-pub highest_fits : (s : ℕ) → s < 65536 → (s ≡ 0 → ⊥) → (1 ≤ highest s) × (highest s ≤ 16)
-highest_fits s h n = highest_in 16 s (omega arith) (lt_within 16 s h) (omega arith)
 
 -- ── a table's array: its first n records ──
 
 -- how long it is: `c.well_formed` has the relation, of each parameter
 pub sized : (t : Table) {vs : List Val} → Is (row T.the_type) t vs → length t.nodes ≡ 16
 sized t g = g.1.1.1.0.1.0.1
-
-pub nodes_long : (cs : List Node) {vs : List Val} → Is (Array (row node.the_type) 16) cs vs → length cs ≡ 16
-nodes_long cs g = g.1.0.1
 
 -- 0 is nobody's number
 pub nobody : (t : Table) (i : ℕ) → i ≡ 0 → starting_node ≡ node_at (view t) i

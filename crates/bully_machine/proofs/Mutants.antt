@@ -12,6 +12,7 @@ use Rattle.model.specs.Node.{is_reorganization}
 use Rattle.bully_model.specs.Procedures.{halt_from, halting_step, ask_from, election, recovery, crashed}
 use Rattle.bully_model.specs.Calls.{halt, ready, callee, called, answered, timed_out}
 use Rattle.bully_model.specs.State.{State, starting_node, node_at, stored, view}
+use Rattle.bully_model.specs.Answers.{Accepted}
 use Rattle.bully_model.specs.Step.{effect, accepted, step}
 use Rattle.bully_model.proofs.Judged.{Clear, accepted_is}
 use Rattle.bully_model.proofs.Fields.{Placed, in_range_size, in_range_node}
@@ -25,7 +26,6 @@ use Rattle.bully_model.specs.declared.Table.{Table}
 use Rattle.bully_model.specs.declared.Event.{Event}
 use Rattle.bully_model.specs.declared.Event.TheVariants.{Crash, Recover, GoOn}
 use Rattle.bully_model.specs.declared.Outcome.{Outcome}
-use Rattle.bully_model.specs.declared.Answer.TheVariants.{Accepted}
 use Rattle.bully_machine.specs.Stepped.{Stepped}
 use Rattle.bully_machine.specs.Mutants.{NoWrongReading}
 use Rattle.bully_machine.proofs.Steps.{call_answered, call_timed_out}

@@ -11,15 +11,15 @@ use Rattle.model.specs.Node.{is_normal, is_active}
 use Rattle.bully_model.specs.State.{State, node_at, in_range, view}
 use Rattle.bully_model.specs.Step.{Result, refused, accepted, step, kept, run_from, run}
 use Rattle.bully_model.specs.Claims.{Agreement}
-use Rattle.bully_model.specs.Answers.{answer_number, result_number}
+use Rattle.bully_model.specs.Answers.{Accepted, Answer, answer_number, result_number}
 use Rattle.bully_model.proofs.Refusals.{refuses_by_ground}
 use Rattle.bully_model.proofs.InRange.{stays_in_range}
 use Rattle.bully_model.proofs.Whole.{agrees_from_down}
 use Rattle.bully_model.specs.declared.Table.{Table}
 use Rattle.bully_model.specs.declared.Event.{Event}
 use Rattle.bully_model.specs.declared.Outcome.{Outcome}
-use Rattle.bully_model.specs.declared.Answer.{Answer}
-use Rattle.bully_model.specs.declared.Answer.TheVariants.{Accepted, NotInRange, WrongNumber, WrongTask, WrongRunning, WrongPlace}
+use Rattle.std.specs.Prelude.{Ok, Err}
+use Rattle.bully_model.specs.declared.Refusal.TheVariants.{NotInRange, WrongNumber, WrongTask, WrongRunning, WrongPlace}
 use Rattle.bully_machine.specs.Stepped.{Stepped}
 use Rattle.bully_machine.specs.Folded.{Folded, none, more}
 use Rattle.bully_machine.specs.Claims.{AcceptedAlike, SteppedAlike, Reached, CodeRuns, CodeAgrees, CodeAgreesFromDown}
@@ -29,21 +29,21 @@ use Rattle.bully_machine.specs.Claims.{AcceptedAlike, SteppedAlike, Reached, Cod
 -- an answer is known by its number
 answer_of : ℕ → Answer
 answer_of r =
-    pick (eqb r 1) NotInRange
-    (pick (eqb r 7) WrongNumber
-    (pick (eqb r 8) WrongTask
-    (pick (eqb r 9) WrongRunning
-    (pick (eqb r 10) WrongPlace
-    Accepted))))
+    pick (eqb r 1) (Err NotInRange)
+    (pick (eqb r 7) (Err WrongNumber)
+    (pick (eqb r 8) (Err WrongTask)
+    (pick (eqb r 9) (Err WrongRunning)
+    (pick (eqb r 10) (Err WrongPlace)
+    (Ok tt)))))
 
 answer_back : (a : Answer) → answer_of (answer_number a) ≡ a
 unfolding answer_of pick
-answer_back Accepted = refl
-answer_back NotInRange = refl
-answer_back WrongNumber = refl
-answer_back WrongTask = refl
-answer_back WrongRunning = refl
-answer_back WrongPlace = refl
+answer_back (Ok u) = refl
+answer_back (Err NotInRange) = refl
+answer_back (Err WrongNumber) = refl
+answer_back (Err WrongTask) = refl
+answer_back (Err WrongRunning) = refl
+answer_back (Err WrongPlace) = refl
 
 answer_known : (a b : Answer) → answer_number a ≡ answer_number b → a ≡ b
 answer_known a b e = sym (answer_back a) ∙ ap answer_of e ∙ answer_back b

@@ -1,7 +1,7 @@
 -- The model's step by the parts that the code computes: the grounds in two groups, what passing them gives, and the call.
 use Prim.Native.Nat.{ℕ, ◌≤◌}
 use native.Mathlib.Omega.{arith}
-use mathlib.Core.Bool.{true, false, true≢false}
+use mathlib.Core.Bool.{true, false}
 use mathlib.Core.Path.{◌≡◌, refl, sym, ◌∙◌, ap}
 use mathlib.Core.List.{◌++◌}
 use lib.Dec.{leb}
@@ -22,10 +22,11 @@ use Rattle.bully_model.specs.declared.Place.TheVariants.{Idle, Asking, Halting, 
 use Rattle.bully_model.specs.declared.Node.{Node}
 use Rattle.bully_model.specs.declared.Table.{Table}
 use Rattle.bully_model.specs.declared.Event.{Event}
-use Rattle.bully_model.specs.declared.Answer.{Answer}
-use Rattle.bully_model.specs.declared.Answer.TheVariants.{Accepted, NotInRange, WrongNumber, WrongTask, WrongRunning, WrongPlace}
+use Rattle.std.specs.Prelude.{Ok, Err}
+use Rattle.bully_model.specs.declared.Refusal.{Refusal}
+use Rattle.bully_model.specs.declared.Refusal.TheVariants.{NotInRange, WrongNumber, WrongTask, WrongRunning, WrongPlace}
 use Rattle.bully_machine.specs.Stepped.{Stepped}
-use Rattle.bully_machine.specs.Parts.{number_grounds, state_grounds, is_accepted, FitsPlace, Passed}
+use Rattle.bully_machine.specs.Parts.{number_grounds, state_grounds, FitsPlace, Passed}
 
 -- ── the call ──
 
@@ -42,37 +43,35 @@ module _ (s : State) (i : ℕ) (c : Node) (p : Place) (j : ℕ) (d : Node) (e : 
   unfolding call
   call_timed_out r = sym (called_is ∙ rw r (pick_false _ _))
 
--- ── answers ──
-pub accepted_zero : (a : Answer) → is_accepted a ≡ true → answer_number a ≡ 0
-accepted_zero Accepted q = refl
-accepted_zero NotInRange q = absurd (true≢false (sym q))
-accepted_zero WrongNumber q = absurd (true≢false (sym q))
-accepted_zero WrongTask q = absurd (true≢false (sym q))
-accepted_zero WrongRunning q = absurd (true≢false (sym q))
-accepted_zero WrongPlace q = absurd (true≢false (sym q))
-
-refused_some : (a : Answer) → is_accepted a ≡ false → 1 ≤ answer_number a
-refused_some Accepted q = absurd (true≢false q)
-refused_some NotInRange q = omega arith
-refused_some WrongNumber q = omega arith
-refused_some WrongTask q = omega arith
-refused_some WrongRunning q = omega arith
-refused_some WrongPlace q = omega arith
-
 -- ── what a step comes to ──
+refused_some : (r : Refusal) → 1 ≤ answer_number (Err r)
+refused_some NotInRange = omega arith
+refused_some WrongNumber = omega arith
+refused_some WrongTask = omega arith
+refused_some WrongRunning = omega arith
+refused_some WrongPlace = omega arith
 
 -- a refusal with the first ground's number, and the same table
-refused_stepped : (t : Table) (e : Event) (a : Answer) → is_accepted a ≡ false → answer_number a ≡ first (grounds (view t) e) → Stepped t e (record { table = t; answer = a })
+pub refused_stepped : (t : Table) (e : Event) (r : Refusal) → answer_number (Err r) ≡ first (grounds (view t) e) → Stepped t e (record { table = t; answer = Err r })
 unfolding step
-refused_stepped t e a q h =
-    let n : 1 ≤ first (grounds (view t) e) = omega (arith, refused_some a q, h) in
-    let r = judged_first refused (accepted (effect (view t) e)) (grounds (view t) e) n in
-    record { answer = h ∙ sym (ap result_number r); table = sym (ap (kept (view t)) r); same = λ _. refl }
+refused_stepped t e r h =
+    let n : 1 ≤ first (grounds (view t) e) = omega (arith, refused_some r, h) in
+    let j = judged_first refused (accepted (effect (view t) e)) (grounds (view t) e) n in
+    record { answer = h ∙ sym (ap result_number j); table = sym (ap (kept (view t)) j); same = λ _. refl }
+
+-- no ground
+pub accepted_stepped : (t : Table) (e : Event) → first (grounds (view t) e) ≡ 0 → (u : Table) → view u ≡ effect (view t) e → Stepped t e (record { table = u; answer = Ok tt })
+unfolding step grounds
+accepted_stepped t e h u v =
+    let k = judged_clear refused (accepted (effect (view t) e)) (grounds (view t) e) refl h in
+    record { answer = sym (ap result_number k); table = v ∙ sym (ap (kept (view t)) k); same = λ n. absurd (n refl) }
+
+-- ── the grounds, as the code goes through them ──
 
 -- a table that is not in range
-pub range_refuses : (t : Table) (e : Event) → in_range (view t) ≡ false → Stepped t e (record { table = t; answer = NotInRange })
+pub range_first : (t : Table) (e : Event) → in_range (view t) ≡ false → 1 ≡ first (grounds (view t) e)
 unfolding grounds first
-range_refuses t e h = refused_stepped t e NotInRange refl (sym (rw (h, pick_true)))
+range_first t e h = sym (rw (h, pick_true))
 
 -- what is in range fits the code
 place_fits : (n i o : ℕ) (p : Place) → n ≤ 16 → i ≤ n → Placed n i o p → FitsPlace p
@@ -129,20 +128,9 @@ module _ (t : Table) (e : Event) (ok : in_range (view t) ≡ true) where
     unfolding grounds first
     actual = rw (here, ok, pick_false)
 
-    pub numbers_refuse : (a : Answer) → is_accepted a ≡ false → answer_number a ≡ first (number_grounds t.n e) → Stepped t e (record { table = t; answer = a })
-    numbers_refuse a q h = refused_stepped t e a q (h ∙ sym (actual ∙ first_met (number_grounds t.n e) _ (omega (arith, refused_some a q, h))))
+    -- 9 and 10, or none
+    pub past_numbers : first (number_grounds t.n e) ≡ 0 → first (grounds (view t) e) ≡ first (state_grounds c e)
+    past_numbers clear = actual ∙ first_clear (number_grounds t.n e) _ refl clear
 
-    module _ (clear : first (number_grounds t.n e) ≡ 0) where
-      past_numbers : first (grounds (view t) e) ≡ first (state_grounds c e)
-      past_numbers = actual ∙ first_clear (number_grounds t.n e) _ refl clear
-
-      -- 9 and 10
-      pub state_refuses : (a : Answer) → is_accepted a ≡ false → answer_number a ≡ first (state_grounds c e) → Stepped t e (record { table = t; answer = a })
-      state_refuses a q h = refused_stepped t e a q (h ∙ sym past_numbers)
-
-      -- none
-      pub all_clear : first (state_grounds c e) ≡ 0 → (u : Table) → view u ≡ effect (view t) e → Stepped t e (record { table = u; answer = Accepted })
-      unfolding step grounds
-      all_clear h u v =
-          let k = judged_clear refused (accepted (effect (view t) e)) (grounds (view t) e) refl (past_numbers ∙ h) in
-          record { answer = sym (ap result_number k); table = v ∙ sym (ap (kept (view t)) k); same = λ n. absurd (n refl) }
+  pub numbers_first : (r : Refusal) → answer_number (Err r) ≡ first (number_grounds t.n e) → answer_number (Err r) ≡ first (grounds (view t) e)
+  numbers_first r h = h ∙ sym (actual _ refl ∙ first_met (number_grounds t.n e) _ (omega (arith, refused_some r, h)))

@@ -1,14 +1,15 @@
 -- What is claimed of the tables that the code returns: they are those of the model's run, and T-07's claim holds of them. The proofs are in proofs/Runs.
-use Rattle.std.specs.Prelude.{ℕ, ◌≤◌, true, ◌≡◌, List}
+use Rattle.std.specs.Prelude.{ℕ, ◌≤◌, true, ◌≡◌, List, Err}
 use Rattle.model.specs.Limits.{node_limit}
 use Rattle.model.specs.Node.{is_normal, is_active}
 use Rattle.bully_model.specs.State.{State, node_at, in_range, view}
+use Rattle.bully_model.specs.Answers.{Accepted}
 use Rattle.bully_model.specs.Step.{accepted, step, run_from, run}
 use Rattle.bully_model.specs.Claims.{AllDown}
 use Rattle.bully_model.specs.declared.Table.{Table}
 use Rattle.bully_model.specs.declared.Event.{Event}
 use Rattle.bully_model.specs.declared.Outcome.{Outcome}
-use Rattle.bully_model.specs.declared.Answer.TheVariants.{Accepted, NotInRange}
+use Rattle.bully_model.specs.declared.Refusal.TheVariants.{NotInRange}
 use Rattle.bully_machine.specs.declared.Start.{Start}
 use Rattle.bully_machine.specs.Stepped.{Stepped, Begun}
 use Rattle.bully_machine.specs.Folded.{Folded}
@@ -40,7 +41,7 @@ pub record CodeRuns : Type 0 where
   pub from_start : (n : ℕ) (es : List Event) (t : Table) → Reached n es t → view t ≡ run n es
   -- and so they are in range, and no event meets ground 1
   pub in_range_lem : (n : ℕ) → 1 ≤ n → n ≤ node_limit → {es : List Event} {t : Table} → Reached n es t → in_range (view t) ≡ true
-  pub never_one : (n : ℕ) → 1 ≤ n → n ≤ node_limit → {es : List Event} {t : Table} → Reached n es t → {e : Event} {r : Outcome} → Stepped t e r → r.answer ≡ NotInRange → ⊥
+  pub never_one : (n : ℕ) → 1 ≤ n → n ≤ node_limit → {es : List Event} {t : Table} → Reached n es t → {e : Event} {r : Outcome} → Stepped t e r → r.answer ≡ Err NotInRange → ⊥
 
 -- T-07's claim, of the tables u that the code returned for lists of events from the table t: each field is that of `Agreement` (bully_model/specs/Claims), of them.
 pub record CodeAgrees (t : Table) : Type 0 where

@@ -4,11 +4,11 @@ use Rattle.std.specs.Prelude.{ℕ, ◌+◌, ◌-◌, ◌<◌, true, false, ◌�
 use Rattle.model.specs.Node.{is_reorganization}
 use Rattle.model.specs.declared.Status.TheVariants.{Down, Election}
 use Rattle.bully_model.specs.State.{node_at, view}
+use Rattle.bully_model.specs.Answers.{Accepted}
 use Rattle.bully_model.specs.declared.Place.TheVariants.{Idle, Asking, Halting, Handing}
 use Rattle.bully_model.specs.declared.Table.{Table}
 use Rattle.bully_model.specs.declared.Event.TheVariants.{Crash, Recover, GoOn}
 use Rattle.bully_model.specs.declared.Outcome.{Outcome}
-use Rattle.bully_model.specs.declared.Answer.TheVariants.{Accepted}
 use Rattle.bully_machine.specs.Stepped.{Stepped}
 
 pub record NoWrongReading : Type 0 where

@@ -1,18 +1,16 @@
 -- What the inner functions compute and need: the grounds but 1 in two groups, and what passing them gives.
-use Rattle.std.specs.Prelude.{ℕ, ◌≤◌, Bool, true, false, not, ◌≡◌, List, [], ◌∷◌}
+use Rattle.std.specs.Prelude.{ℕ, ◌≤◌, not, ◌≡◌, List, [], ◌∷◌}
 use Rattle.model.specs.Limits.{node_limit}
-use Rattle.model.specs.Grounds.{Ground, ground}
+use Rattle.model.specs.Grounds.{Ground, ground, first}
 use Rattle.model.specs.Range.{is_node}
 use Rattle.bully_model.specs.Calls.{callee}
 use Rattle.bully_model.specs.State.{node_at, view}
-use Rattle.bully_model.specs.Step.{actor, wrong_task, wrong_running, wrong_place}
+use Rattle.bully_model.specs.Step.{actor, wrong_task, wrong_running, wrong_place, grounds}
 use Rattle.bully_model.specs.declared.Place.{Place}
 use Rattle.bully_model.specs.declared.Place.TheVariants.{Idle, Asking, Halting, Announcing, Point, Handing, Checking, Contacting}
 use Rattle.bully_model.specs.declared.Node.{Node}
 use Rattle.bully_model.specs.declared.Table.{Table}
 use Rattle.bully_model.specs.declared.Event.{Event}
-use Rattle.bully_model.specs.declared.Answer.{Answer}
-use Rattle.bully_model.specs.declared.Answer.TheVariants.{Accepted, NotInRange, WrongNumber, WrongTask, WrongRunning, WrongPlace}
 
 -- ── the grounds but 1 ──
 
@@ -23,14 +21,6 @@ number_grounds n e = ground 7 (not (is_node n (actor e))) ∷ ground 8 (wrong_ta
 -- by the record of the event's node
 abbrev pub state_grounds : Node → Event → List Ground
 state_grounds c e = ground 9 (wrong_running c.runs e) ∷ ground 10 (wrong_place c.place e) ∷ []
-
-abbrev pub is_accepted : Answer → Bool
-is_accepted Accepted = true
-is_accepted NotInRange = false
-is_accepted WrongNumber = false
-is_accepted WrongTask = false
-is_accepted WrongRunning = false
-is_accepted WrongPlace = false
 
 -- ── what the code needs so that no number overflows; what is in range has it ──
 
@@ -53,3 +43,8 @@ pub record Passed (t : Table) (i : ℕ) (c : Node) : Type 0 where
   pub here : c ≡ node_at (view t) i
   pub place : FitsPlace c.place
   pub callee : callee c c.place ≤ t.n
+
+-- no ground of an event is met, and c is the record of its node
+pub record AllClear (t : Table) (e : Event) (c : Node) : Type 0 where
+  pub none : first (grounds (view t) e) ≡ 0
+  pub passed : Passed t (actor e) c

@@ -6,10 +6,9 @@ use Rattle.model.specs.State.{wrong_count}
 use Rattle.model.specs.Answers.{start_number}
 use Rattle.bully_model.specs.State.{starting_node, start, view}
 use Rattle.bully_model.specs.Step.{step, after}
-use Rattle.bully_model.specs.Answers.{answer_number, result_number}
+use Rattle.bully_model.specs.Answers.{Accepted, answer_number, result_number}
 use Rattle.bully_model.specs.declared.Table.{Table}
 use Rattle.bully_model.specs.declared.Event.{Event}
-use Rattle.bully_model.specs.declared.Answer.TheVariants.{Accepted}
 use Rattle.bully_model.specs.declared.Outcome.{Outcome}
 use Rattle.bully_machine.specs.declared.Start.{Start}
 

@@ -6,31 +6,28 @@ ghost use Rattle.bully_model.specs.Step as spec;
 ghost use Rattle.bully_machine.specs.Parts as parts;
 
 use crate::node;
-use bully_model::{Answer, Event, Node, Place};
+use bully_model::{Answer, Event, Node, Place, Refusal};
 
 pub fn actor(e: Event) -> u8
     ensures { result ≡ spec.actor e }
 {
     match e {
-        Event::Crash(i) => i,
-        Event::Recover(i) => i,
-        Event::Check(i) => i,
-        Event::Timeout(i) => i,
-        Event::GoOn(i) => i,
-        Event::Finish(i, _) => i,
+        Event::Crash(i)
+        | Event::Recover(i)
+        | Event::Check(i)
+        | Event::Timeout(i)
+        | Event::GoOn(i)
+        | Event::Finish(i, _) => i,
     }
 }
 
+// kept: beside that of node_step: the Events are two types, of two algorithms, and a trait for both would have one match for each.
 fn wrong_task(e: Event) -> bool
     ensures { result ≡ spec.wrong_task e }
 {
     match e {
-        Event::Crash(_) => false,
-        Event::Recover(_) => false,
-        Event::Check(_) => false,
-        Event::Timeout(_) => false,
-        Event::GoOn(_) => false,
         Event::Finish(_, t) => !predicates::is_given_task(t),
+        _ => false,
     }
 }
 
@@ -38,12 +35,8 @@ fn wrong_running(runs: bool, e: Event) -> bool
     ensures { result ≡ spec.wrong_running runs e }
 {
     match e {
-        Event::Crash(_) => !runs,
         Event::Recover(_) => runs,
-        Event::Check(_) => !runs,
-        Event::Timeout(_) => !runs,
-        Event::GoOn(_) => !runs,
-        Event::Finish(_, _) => !runs,
+        _ => !runs,
     }
 }
 
@@ -51,65 +44,52 @@ fn wrong_place(p: Place, e: Event) -> bool
     ensures { result ≡ spec.wrong_place p e }
 {
     match e {
-        Event::Crash(_) => false,
-        Event::Recover(_) => false,
-        Event::Check(_) => !node::is_idle(p),
-        Event::Timeout(_) => !node::is_idle(p),
+        Event::Crash(_) | Event::Recover(_) => false,
+        Event::Check(_) | Event::Timeout(_) => !node::is_idle(p),
         Event::GoOn(_) => !node::has_call(p),
         Event::Finish(_, _) => !node::is_point(p),
     }
 }
 
 // Grounds 7 and 8.
+#[tactic(auto, unfolding(model::specs::Grounds::first, model::specs::Pick::pick))]
 pub fn number_answer(n: u8, e: Event) -> Answer
     ensures { answer_number result ≡ first (parts.number_grounds n e) }
 {
     if !predicates::is_node(n, actor(e)) {
-        return Answer::WrongNumber;
+        return Err(Refusal::WrongNumber);
     }
     if wrong_task(e) {
-        return Answer::WrongTask;
+        return Err(Refusal::WrongTask);
     }
-    Answer::Accepted
+    Ok(())
 }
 
 // Grounds 9 and 10, by the record of the event's node.
+#[tactic(auto, unfolding(model::specs::Grounds::first, model::specs::Pick::pick))]
 pub fn state_answer(c: Node, e: Event) -> Answer
     ensures { answer_number result ≡ first (parts.state_grounds c e) }
 {
-    let place = c.place;
     if wrong_running(c.runs, e) {
-        return Answer::WrongRunning;
+        return Err(Refusal::WrongRunning);
     }
-    if wrong_place(place, e) {
-        return Answer::WrongPlace;
+    if wrong_place(c.place, e) {
+        return Err(Refusal::WrongPlace);
     }
-    Answer::Accepted
-}
-
-pub fn is_accepted(a: Answer) -> bool
-    ensures { result ≡ parts.is_accepted a }
-{
-    match a {
-        Answer::Accepted => true,
-        Answer::NotInRange => false,
-        Answer::WrongNumber => false,
-        Answer::WrongTask => false,
-        Answer::WrongRunning => false,
-        Answer::WrongPlace => false,
-    }
+    Ok(())
 }
 
 // The number of an answer; 0 where the event is accepted.
+// kept: a function with a name: `u8::from(answer)` would not say that the number is 01's, and 0 for Ok is no conversion.
 pub fn answer_number(a: Answer) -> u8
     ensures { result ≡ answer_number a }
 {
     match a {
-        Answer::Accepted => 0,
-        Answer::NotInRange => 1,
-        Answer::WrongNumber => 7,
-        Answer::WrongTask => 8,
-        Answer::WrongRunning => 9,
-        Answer::WrongPlace => 10,
+        Ok(()) => 0,
+        Err(Refusal::NotInRange) => 1,
+        Err(Refusal::WrongNumber) => 7,
+        Err(Refusal::WrongTask) => 8,
+        Err(Refusal::WrongRunning) => 9,
+        Err(Refusal::WrongPlace) => 10,
     }
 }

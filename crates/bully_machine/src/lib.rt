@@ -7,20 +7,23 @@ mod node;
 mod procedures;
 mod range;
 
-ghost use Rattle.std.specs.Prelude.{◌≡◌, ℕ, ◌≤◌};
+ghost use Rattle.std.specs.Prelude.{◌≡◌, ℕ, ◌≤◌, IfOk, IfErr, Err};
 ghost use Rattle.model.specs.Limits.{node_limit};
 ghost use Rattle.bully_model.specs.State.{starting_node, node_at, view};
 ghost use Rattle.bully_model.specs.State as state;
+ghost use Rattle.model.specs.Grounds.{first};
+ghost use Rattle.bully_model.specs.Answers.{answer_number};
 ghost use Rattle.bully_model.specs.Step as spec;
 ghost use Rattle.bully_machine.specs.Stepped.{Stepped, starting_table, Begun};
-ghost use Rattle.bully_machine.specs.Parts.{Passed};
+ghost use Rattle.bully_machine.specs.Parts.{Passed, AllClear};
 
-use bully_model::{Answer, Event, Node, Outcome, Place, Table};
+use bully_model::{Event, Node, Outcome, Place, Refusal, Table};
 pub use grounds::answer_number;
 use model::{StartAnswer, Status, TaskNo};
 pub use range::in_range;
 
 // What `starting` answers, and the table beside it.
+// kept: no Result, since `Begun` says what table stands beside a refusal.
 #[derive(Clone, Copy)]
 pub struct Start {
     pub answer: StartAnswer,
@@ -54,6 +57,7 @@ fn blank(n: u8) -> Table
 }
 
 // The starting table of n nodes, and beside it refusal 6 where there is no such number of nodes.
+#[tactic(auto, using(crate::proofs::Laws::start_is))]
 pub fn starting(n: u8) -> Start
     ensures { Begun n result }
 {
@@ -87,6 +91,7 @@ fn stored(t: Table, i: u8, c: Node) -> Table
 }
 
 // Node i, whose record is c, makes its next call.
+#[tactic(auto, unfolding(bully_model::specs::Step::go_on, bully_model::specs::Step::call, model::specs::Pick::pick))]
 fn go_on(t: Table, i: u8, c: Node) -> Table
     requires { Passed t i c }
     ensures { view result ≡ spec.go_on (view t) i c c.place }
@@ -103,6 +108,7 @@ fn go_on(t: Table, i: u8, c: Node) -> Table
 }
 
 // The table after an accepted event, whose node has the record c.
+#[tactic(auto, unfolding(bully_model::specs::Step::effect))]
 fn effect(t: Table, c: Node, e: Event) -> Table
     requires { Passed t (spec.actor e) c }
     ensures { view result ≡ spec.effect (view t) e }
@@ -118,34 +124,32 @@ fn effect(t: Table, c: Node, e: Event) -> Table
     }
 }
 
+// The record of the event's node, or the first ground that is met.
+fn judged(t: Table, e: Event) -> Result<Node, Refusal>
+    ensures clear { IfOk result (λ c. AllClear t e c) }
+    ensures met { IfErr result (λ r. answer_number (Err r) ≡ first (spec.grounds (view t) e)) }
+{
+    if !range::in_range(t) {
+        return Err(Refusal::NotInRange);
+    }
+    grounds::number_answer(t.n, e)?;
+    let c = node_at(t, grounds::actor(e));
+    grounds::state_answer(c, e)?;
+    Ok(c)
+}
+
 // One event on any table: refused, and the very same table; or accepted, and the table after it.
 pub fn step(t: Table, e: Event) -> Outcome
     ensures { Stepped t e result }
 {
-    if !range::in_range(t) {
-        return Outcome {
+    match judged(t, e) {
+        Ok(c) => Outcome {
+            table: effect(t, c, e),
+            answer: Ok(()),
+        },
+        Err(r) => Outcome {
             table: t,
-            answer: Answer::NotInRange,
-        };
-    }
-    let numbers = grounds::number_answer(t.n, e);
-    if !grounds::is_accepted(numbers) {
-        return Outcome {
-            table: t,
-            answer: numbers,
-        };
-    }
-    let c = node_at(t, grounds::actor(e));
-    let state = grounds::state_answer(c, e);
-    if !grounds::is_accepted(state) {
-        return Outcome {
-            table: t,
-            answer: state,
-        };
-    }
-    let next = effect(t, c, e);
-    Outcome {
-        table: next,
-        answer: Answer::Accepted,
+            answer: Err(r),
+        },
     }
 }

@@ -20,6 +20,7 @@ fn ended(c: Node) -> Node
     }
 }
 
+#[tactic(auto, unfolding(bully_model::specs::Procedures::hand_next, model::specs::Pick::pick))]
 pub fn hand_next(c: Node, still: u16) -> Node
     ensures { result ≡ spec.hand_next c still }
 {
@@ -37,6 +38,7 @@ pub fn hand_next(c: Node, still: u16) -> Node
     )
 }
 
+#[tactic(auto, unfolding(bully_model::specs::Procedures::announce_next, model::specs::Pick::pick))]
 pub fn announce_next(c: Node, still: u16) -> Node
     ensures { result ≡ spec.announce_next c still }
 {
@@ -65,12 +67,14 @@ pub fn led(c: Node, j: u8) -> Node
     }
 }
 
+#[tactic(auto, unfolding(bully_model::specs::Procedures::election_point))]
 fn election_point(i: u8, c: Node) -> Node
     ensures { result ≡ spec.election_point i c }
 {
     announce_next(led(c, i), c.up)
 }
 
+#[tactic(auto, unfolding(bully_model::specs::Procedures::halt_from, model::specs::Pick::pick))]
 pub fn halt_from(i: u8, c: Node, j: u8) -> Node
     ensures { result ≡ spec.halt_from i c j }
 {
@@ -93,6 +97,7 @@ fn stopped(i: u8, c: Node) -> Node
     }
 }
 
+#[tactic(auto, unfolding(bully_model::specs::Procedures::halting_step))]
 fn halting_step(i: u8, c: Node) -> Node
     requires { 1 ≤ i }
     ensures { result ≡ spec.halting_step i c }
@@ -100,6 +105,7 @@ fn halting_step(i: u8, c: Node) -> Node
     halt_from(i, stopped(i, c), i - 1)
 }
 
+#[tactic(auto, unfolding(bully_model::specs::Procedures::ask_from, model::specs::Pick::pick))]
 pub fn ask_from(n: u8, i: u8, c: Node, j: u8) -> Node
     requires { 1 ≤ i }
     ensures { result ≡ spec.ask_from n i c j }
@@ -110,6 +116,7 @@ pub fn ask_from(n: u8, i: u8, c: Node, j: u8) -> Node
     halting_step(i, c)
 }
 
+#[tactic(auto, unfolding(bully_model::specs::Procedures::election))]
 pub fn election(n: u8, i: u8, c: Node) -> Node
     requires { (1 ≤ i) × (i ≤ node_limit) }
     ensures { result ≡ spec.election n i c }
@@ -123,6 +130,7 @@ fn tasked(c: Node, t: TaskNo) -> Node
     Node { task: t, ..c }
 }
 
+#[tactic(auto, unfolding(bully_model::specs::Procedures::finish))]
 pub fn finish(c: Node, t: TaskNo) -> Node
     ensures { result ≡ spec.finish c t }
 {
@@ -139,6 +147,7 @@ fn recovering(c: Node) -> Node
     }
 }
 
+#[tactic(auto, unfolding(bully_model::specs::Procedures::recovery))]
 pub fn recovery(n: u8, i: u8, c: Node) -> Node
     requires { (1 ≤ i) × (i ≤ node_limit) }
     ensures { result ≡ spec.recovery n i c }
@@ -146,6 +155,7 @@ pub fn recovery(n: u8, i: u8, c: Node) -> Node
     election(n, i, recovering(c))
 }
 
+#[tactic(auto, unfolding(bully_model::specs::Procedures::check_at, model::specs::Pick::pick))]
 fn check_at(n: u8, c: Node, j: u8) -> Node
     ensures { result ≡ spec.check_at n c j }
 {
@@ -155,6 +165,7 @@ fn check_at(n: u8, c: Node, j: u8) -> Node
     with_place(c, Place::Idle)
 }
 
+#[tactic(auto, unfolding(bully_model::specs::Procedures::check_from, model::specs::Pick::pick))]
 pub fn check_from(n: u8, i: u8, c: Node, j: u8) -> Node
     requires { j ≤ node_limit + 1 }
     ensures { result ≡ spec.check_from n i c j }
@@ -165,22 +176,22 @@ pub fn check_from(n: u8, i: u8, c: Node, j: u8) -> Node
     check_at(n, c, j)
 }
 
+#[tactic(auto, unfolding(bully_model::specs::Procedures::check, model::specs::Pick::pick))]
 pub fn check(n: u8, i: u8, c: Node) -> Node
     ensures { result ≡ spec.check n i c }
 {
-    let status = c.status;
-    if predicates::is_normal(status) & (c.coordinator == i) {
+    if predicates::is_normal(c.status) & (c.coordinator == i) {
         return check_from(n, i, c, 1);
     }
     c
 }
 
+#[tactic(auto, unfolding(bully_model::specs::Procedures::timeout, model::specs::Pick::pick))]
 pub fn timeout(n: u8, i: u8, c: Node) -> Node
     requires { (1 ≤ i) × (i ≤ node_limit) }
     ensures { result ≡ spec.timeout n i c }
 {
-    let status = c.status;
-    if predicates::is_active(status) {
+    if predicates::is_active(c.status) {
         if c.coordinator == i {
             return c;
         }

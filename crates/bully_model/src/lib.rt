@@ -27,10 +27,10 @@ pub enum Place {
 // One node (02: cabinet). In the appendix S(i) has s for the status, c for the coordinator, d for the task, h for the last halter, and Up.
 #[derive(Clone, Copy)]
 pub struct Node {
-    // 02: "whether the cabinet runs"
+    // 02: "whether the cabinet runs"; kept: no Option of the record, as a stopped node has one too
     pub runs: bool,
     pub status: Status,
-    // 0 for none
+    // 0 for none; kept, here and below, as 02 has it: a table that is handed in may hold any number
     pub coordinator: u8,
     pub task: TaskNo,
     // 02: "last halter (0 for none)"
@@ -57,10 +57,9 @@ pub enum Event {
     Finish(u8, TaskNo),
 }
 
-// What a step answers: accepted, or the ground of its refusal. The numbers are in specs/Answers.
-#[derive(Clone, Copy)]
-pub enum Answer {
-    Accepted,
+// The ground of a refusal. The numbers are in specs/Answers.
+#[derive(Clone, Copy, PartialEq, Eq)]
+pub enum Refusal {
     NotInRange,
     WrongNumber,
     WrongTask,
@@ -68,7 +67,11 @@ pub enum Answer {
     WrongPlace,
 }
 
+// What a step answers: accepted, or the ground of its refusal.
+pub type Answer = Result<(), Refusal>;
+
 // The answer of a step, and the table after it.
+// kept: no Result, since `Stepped` of bully_machine says what table stands beside a refusal.
 #[derive(Clone, Copy)]
 pub struct Outcome {
     pub table: Table,

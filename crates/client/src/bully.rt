@@ -9,8 +9,6 @@ pub fn agreed(n: u8, a: Event, b: Event) -> Outcome
     ensures { Agreed n a b result }
 {
     let s = bully_machine::starting(n);
-    let t = s.table;
-    let o = bully_machine::step(t, a);
-    let u = o.table;
-    bully_machine::step(u, b)
+    let o = bully_machine::step(s.table, a);
+    bully_machine::step(o.table, b)
 }

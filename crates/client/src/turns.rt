@@ -10,27 +10,19 @@ use round::Place;
 fn pairs_of(n: u8) -> u16
     ensures { result ≡ round_size n }
 {
-    if n == 0 {
-        return 0;
-    }
-    (n as u16) * (n as u16 - 1)
+    n as u16 * (n as u16).saturating_sub(1)
 }
 
 // A whole round of turns, the first at p. From a table in range and a pair of the round it delivers or loses the oldest message of each pair that has one.
 pub fn whole_round(t: Table, p: Place) -> Table
     ensures { Rounded t p result }
 {
-    let end = pairs_of(t.n);
     let mut u = t;
     let mut q = p;
-    let mut i: u16 = 0;
-    while i < end {
+    for _ in 0..pairs_of(t.n) {
         let o = driver::turn(u, q);
-        let next = o.table;
-        let place = o.place;
-        u = next;
-        q = place;
-        i += 1;
+        u = o.table;
+        q = o.place;
     }
     u
 }

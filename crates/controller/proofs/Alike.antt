@@ -25,8 +25,7 @@ use Rattle.model.proofs.Local.{both_left, both_right}
 use Rattle.model.proofs.Range.{is_other_lem}
 use Rattle.model.proofs.Fields.{message_facts, in_range_node, in_range_size, in_range_queue, in_range_oldest, oldest_goes}
 use Rattle.model.specs.declared.Message.{Message}
-use Rattle.model.specs.declared.Outgoing.{Outgoing}
-use Rattle.model.specs.declared.Outgoing.TheVariants.{Nothing, Send}
+use Rattle.std.specs.Prelude.{Option, None, Some}
 use Rattle.model.specs.declared.Input.TheVariants.{Receive}
 use Rattle.model.specs.declared.Event.{Event}
 use Rattle.message_fields.specs.Fields.{fields, message_in, carried}
@@ -384,9 +383,9 @@ module _ (s : State) (ok : in_range s ≡ true) where
         sends = both_left (is_sending (reaction_to s e).outgoing) _ (met s e 14 refl q);
       }
 
-  end_sends : (l : List ℕ) (o : Outgoing) → pair_at_end l o ≡ true → is_sending o ≡ true
-  end_sends l Nothing h = h
-  end_sends l (Send m) h = refl
+  end_sends : (l : List ℕ) (o : Option Message) → pair_at_end l o ≡ true → is_sending o ≡ true
+  end_sends l None h = h
+  end_sends l (Some m) h = refl
 
   at_seventeen : (e : Event) → step s e ≡ table.refused 17 → Behind e
   unfolding grounds pick

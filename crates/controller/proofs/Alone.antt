@@ -22,8 +22,7 @@ use Rattle.model.proofs.Range.{Numbered, ReactionIn, OutgoingIn, InputIn, react_
 use Rattle.model.proofs.Due.{From, react_within}
 use Rattle.model.specs.declared.Node.{Node}
 use Rattle.model.specs.declared.Message.{Message}
-use Rattle.model.specs.declared.Outgoing.{Outgoing}
-use Rattle.model.specs.declared.Outgoing.TheVariants.{Nothing, Send}
+use Rattle.std.specs.Prelude.{Option, None, Some}
 use Rattle.message_fields.specs.Fields.{most_bytes, message_in, is_message, carried}
 use Rattle.message_fields.proofs.Forms.{at_most}
 use Rattle.message_fields.proofs.RoundTrip.{widths, message_back, fields_message, its_range}
@@ -103,9 +102,9 @@ pub controller_small : (n i : ℕ) (c : Node) (x : Incoming) → result_number (
 controller_small n i c x =
     by_number n i c x (λ (y : Result). result_number y ≤ 21) (omega arith) (omega arith) (omega arith) (omega arith) (omega arith) (omega arith) (omega arith) (omega arith) (omega arith) (omega arith) (omega arith) (omega arith)
 
-outgoing_short : (o : Outgoing) → length (sent_bytes o) ≤ most_bytes
-outgoing_short Nothing = omega arith
-outgoing_short (Send m) = at_most m
+outgoing_short : (o : Option Message) → length (sent_bytes o) ≤ most_bytes
+outgoing_short None = omega arith
+outgoing_short (Some m) = at_most m
 
 pub sent_short : (n i : ℕ) (c : Node) (x : Incoming) → length (sent_in (controller_step n i c x)) ≤ most_bytes
 sent_short n i c x =
@@ -159,10 +158,10 @@ module _ (n i : ℕ) (c : Node) (x : Incoming) (g : NoneApplies (controller_grou
   record_in = both (is_count node_limit n) _ (both_left (is_count node_limit n) _ in_range_lem) (both (is_node n i) _ (both_left (is_node n i) _ (both_right (is_count node_limit n) _ in_range_lem)) reaction_in_lem.node)
 
 -- what is sent
-sent_in_lem : (n i : ℕ) (o : Outgoing) → n ≤ 16 → OutgoingIn n o → From i o → (sent_bytes o ≡ []) ⊎ ((is_message n (sent_bytes o) ≡ true) × ((message_in (sent_bytes o)).sender ≡ i))
+sent_in_lem : (n i : ℕ) (o : Option Message) → n ≤ 16 → OutgoingIn n o → From i o → (sent_bytes o ≡ []) ⊎ ((is_message n (sent_bytes o) ≡ true) × ((message_in (sent_bytes o)).sender ≡ i))
 unfolding carried
-sent_in_lem n i Nothing h r f = inl refl
-sent_in_lem n i (Send m) h r f = inr (fields_message n m h r, ap (λ (x : Message). x.sender) (message_back m (widths n m h r)) ∙ f)
+sent_in_lem n i None h r f = inl refl
+sent_in_lem n i (Some m) h r f = inr (fields_message n m h r, ap (λ (x : Message). x.sender) (message_back m (widths n m h r)) ∙ f)
 
 message_in_lem : (n i : ℕ) (c : Node) (x : Incoming) → NoneApplies (controller_grounds n i c x)
     → (sent_bytes (reaction_in n i c x).outgoing ≡ []) ⊎ ((is_message n (sent_bytes (reaction_in n i c x).outgoing) ≡ true) × ((message_in (sent_bytes (reaction_in n i c x).outgoing)).sender ≡ i))

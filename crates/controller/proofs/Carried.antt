@@ -18,8 +18,7 @@ use Rattle.model.specs.declared.GroupNo.{GroupNo}
 use Rattle.model.specs.declared.TaskNo.{TaskNo}
 use Rattle.model.specs.declared.Node.{Node}
 use Rattle.model.specs.declared.Message.{Message}
-use Rattle.model.specs.declared.Outgoing.{Outgoing}
-use Rattle.model.specs.declared.Outgoing.TheVariants.{Nothing, Send}
+use Rattle.std.specs.Prelude.{Option, None, Some}
 use Rattle.model.specs.declared.Mark.{Mark}
 use Rattle.model.specs.declared.Mark.TheVariants.{Plain, Merges}
 use Rattle.model.specs.declared.Reaction.{Reaction}
@@ -70,9 +69,9 @@ module _ (n i : ℕ) (c : Node) (m : Message) where
   react_carried = received_carried
 
 -- ── what a node sends holds nothing that its kind does not carry ──
-abbrev pub SentCarried : Outgoing → Type 0
-SentCarried Nothing = Unit {0}
-SentCarried (Send m) = carried m ≡ m
+abbrev pub SentCarried : Option Message → Type 0
+SentCarried None = Unit {0}
+SentCarried (Some m) = carried m ≡ m
 
 -- of a reaction
 abbrev Own : Reaction → Type 0

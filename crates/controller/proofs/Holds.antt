@@ -26,8 +26,7 @@ use Rattle.model.proofs.Traffic.{run_n, run_limits}
 use Rattle.model.specs.declared.Limits.{Limits}
 use Rattle.model.specs.declared.Node.{Node}
 use Rattle.model.specs.declared.Message.{Message}
-use Rattle.model.specs.declared.Outgoing.{Outgoing}
-use Rattle.model.specs.declared.Outgoing.TheVariants.{Nothing, Send}
+use Rattle.std.specs.Prelude.{Option, None, Some}
 use Rattle.model.specs.declared.Mark.{Mark}
 use Rattle.model.specs.declared.Reaction.{Reaction}
 use Rattle.model.specs.declared.Event.{Event}
@@ -59,9 +58,9 @@ carried_without a b (m ∷ q) h = by (goes a b m) (carried_without a b q h.1)
     by true r = h.1
     by false r = (h.0, r)
 
-carried_sent : (o : Outgoing) → SentCarried o → AllCarried (sent o)
-carried_sent Nothing h = tt
-carried_sent (Send m) h = (h, tt)
+carried_sent : (o : Option Message) → SentCarried o → AllCarried (sent o)
+carried_sent None h = tt
+carried_sent (Some m) h = (h, tt)
 
 carried_remaining : (s : State) (e : Event) → AllCarried s.queue → AllCarried (remaining s e)
 unfolding remaining

@@ -21,8 +21,10 @@ use Rattle.model.proofs.Grounds.{applies_of, before, judged_passed}
 use Rattle.model.proofs.Local.{both_left, both_right}
 use Rattle.model.specs.declared.Node.{Node}
 use Rattle.model.specs.declared.TaskNo.{TaskNo}
-use Rattle.model.specs.declared.Answer.{Answer}
-use Rattle.model.specs.declared.Answer.TheVariants.{Accepted, OtherNode, WrongStatus, NoMessage, QueueFull, SentAtEnd}
+use Rattle.model.specs.Answers.{Answer}
+use Rattle.model.specs.Answers.{Accepted}
+use Rattle.std.specs.Prelude.{Err}
+use Rattle.model.specs.declared.Refusal.TheVariants.{OtherNode, WrongStatus, NoMessage, QueueFull, SentAtEnd}
 use Rattle.message_fields.specs.Fields.{message_in, is_message}
 use Rattle.controller.specs.declared.LocalEvent.TheVariants.{Recover, Finish}
 use Rattle.controller.specs.declared.ControllerOutcome.{ControllerOutcome}
@@ -71,9 +73,9 @@ module _ (n i : ℕ) (c : Node) (x : Incoming) where
     unfolding controller_grounds
     any_node h a = true≢false (sym h ∙ (none a).1.1.1.1.0)
 
-    status_before_other : is_for_other i x ≡ true → r.answer ≡ WrongStatus → ⊥
+    status_before_other : is_for_other i x ≡ true → r.answer ≡ Err WrongStatus → ⊥
     unfolding controller_grounds pick
-    status_before_other h q = true≢false (sym h ∙ passed 21 9 refl (numbered WrongStatus 8 refl q))
+    status_before_other h q = true≢false (sym h ∙ passed 21 9 refl (numbered (Err WrongStatus) 8 refl q))
 
     refusal : (r.answer ≡ Accepted → ⊥) → (P : Result → Type 0) → ((k : ℕ) → P (refused k)) → P (controller_step n i c x)
     refusal h P f = by (controller_step n i c x) refl
@@ -108,13 +110,13 @@ any_bytes : (n i : ℕ) (c : Node) (l : List ℕ) (r : ControllerOutcome) → Co
 unfolding controller_grounds
 any_bytes n i c l r s h a = true≢false (sym (ap not h) ∙ (none n i c (message l) r s a).1.1.1.0)
 
-other_before_bytes : (n i : ℕ) (c : Node) (l : List ℕ) (r : ControllerOutcome) → ControllerStepped n i c (message l) r → is_message n l ≡ false → r.answer ≡ OtherNode → ⊥
+other_before_bytes : (n i : ℕ) (c : Node) (l : List ℕ) (r : ControllerOutcome) → ControllerStepped n i c (message l) r → is_message n l ≡ false → r.answer ≡ Err OtherNode → ⊥
 unfolding controller_grounds pick
-other_before_bytes n i c l r s h q = true≢false (sym (ap not h) ∙ passed n i c (message l) 20 21 refl (numbered n i c (message l) r s OtherNode 20 refl q))
+other_before_bytes n i c l r s h q = true≢false (sym (ap not h) ∙ passed n i c (message l) 20 21 refl (numbered n i c (message l) r s (Err OtherNode) 20 refl q))
 
-other_before_task : (n i j : ℕ) (t : TaskNo) (c : Node) (r : ControllerOutcome) → ControllerStepped n i c (event (Finish j t)) r → is_given_task t.number ≡ false → r.answer ≡ OtherNode → ⊥
+other_before_task : (n i j : ℕ) (t : TaskNo) (c : Node) (r : ControllerOutcome) → ControllerStepped n i c (event (Finish j t)) r → is_given_task t.number ≡ false → r.answer ≡ Err OtherNode → ⊥
 unfolding controller_grounds pick
-other_before_task n i j t c r s h q = true≢false (sym (ap not h) ∙ passed n i c (event (Finish j t)) 8 21 refl (numbered n i c (event (Finish j t)) r s OtherNode 20 refl q))
+other_before_task n i j t c r s h q = true≢false (sym (ap not h) ∙ passed n i c (event (Finish j t)) 8 21 refl (numbered n i c (event (Finish j t)) r s (Err OtherNode) 20 refl q))
 
 -- ── a recovery that is due ──
 module _ (n i : ℕ) (c : Node) (ok : in_range_for n i c ≡ true) (d : is_down c.status ≡ true) (k : c.counter ≡ counter_end → ⊥) where
@@ -140,9 +142,9 @@ no_other_controller =
       other_before_task = λ n i j t c r s. other_before_task n i j t c r s;
       other_before_bytes = other_before_bytes;
       status_before_other = status_before_other;
-      none_waits_lem = λ n i c x r s q. (controller_refuses.never_queues n i c x 11 (numbered n i c x r s NoMessage 10 refl q)).0 refl;
-      queue_full = λ n i c x r s q. (controller_refuses.never_queues n i c x 14 (numbered n i c x r s QueueFull 13 refl q)).1.0 refl;
-      sent_at_end = λ n i c x r s q. (controller_refuses.never_queues n i c x 17 (numbered n i c x r s SentAtEnd 16 refl q)).1.1.0 refl;
+      none_waits_lem = λ n i c x r s q. (controller_refuses.never_queues n i c x 11 (numbered n i c x r s (Err NoMessage) 10 refl q)).0 refl;
+      queue_full = λ n i c x r s q. (controller_refuses.never_queues n i c x 14 (numbered n i c x r s (Err QueueFull) 13 refl q)).1.0 refl;
+      sent_at_end = λ n i c x r s q. (controller_refuses.never_queues n i c x 17 (numbered n i c x r s (Err SentAtEnd) 16 refl q)).1.1.0 refl;
       refused_moves = refused_moves;
       refused_sends = refused_sends;
       sends_none = sends_none;

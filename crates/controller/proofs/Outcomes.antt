@@ -8,8 +8,8 @@ use Rattle.model.specs.Pick.{pick, pick_true, pick_false}
 use Rattle.model.specs.Answers.{answer_number}
 use Rattle.model.proofs.Answers.{zero_accepted, answer_of}
 use Rattle.model.specs.declared.Node.{Node}
-use Rattle.model.specs.declared.Outgoing.{Outgoing}
-use Rattle.model.specs.declared.Outgoing.TheVariants.{Nothing, Send}
+use Rattle.model.specs.declared.Message.{Message}
+use Rattle.std.specs.Prelude.{Option, None, Some}
 use Rattle.message_fields.specs.Fields.{padded}
 use Rattle.message_fields.specs.Fields.{Packed}
 use Rattle.message_fields.proofs.Forms.{unpacked}
@@ -26,11 +26,11 @@ module _ (c : Node) (r : ControllerOutcome) where
   unfolding result_by
   refusal k h s = rw (← zero_accepted r.answer, s.answer, h, pick_false)
 
-  sent_back : (o : Outgoing) → Packed r.packet (sent_bytes o) → take r.packet.length r.packet.bytes ≡ sent_bytes o
-  sent_back Nothing p = rw p.length
-  sent_back (Send m) p = unpacked r.packet m p
+  sent_back : (o : Option Message) → Packed r.packet (sent_bytes o) → take r.packet.length r.packet.bytes ≡ sent_bytes o
+  sent_back None p = rw p.length
+  sent_back (Some m) p = unpacked r.packet m p
 
-  acceptance : (d : Node) (o : Outgoing) → OutcomeOf c (accepted d (sent_bytes o)) r → result_by r ≡ accepted d (sent_bytes o)
+  acceptance : (d : Node) (o : Option Message) → OutcomeOf c (accepted d (sent_bytes o)) r → result_by r ≡ accepted d (sent_bytes o)
   unfolding result_by
   acceptance d o s = rw (← zero_accepted r.answer, s.answer, pick_true, s.node, sent_back o s.packet)
 

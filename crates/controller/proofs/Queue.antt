@@ -11,8 +11,7 @@ use Rattle.model.specs.State.{goes, waits, oldest, without_oldest, every}
 use Rattle.model.specs.Step.{sent, is_sending}
 use Rattle.model.proofs.Local.{both_left, both_right}
 use Rattle.model.specs.declared.Message.{Message}
-use Rattle.model.specs.declared.Outgoing.{Outgoing}
-use Rattle.model.specs.declared.Outgoing.TheVariants.{Nothing, Send}
+use Rattle.std.specs.Prelude.{Option, None, Some}
 use Rattle.message_fields.specs.Fields.{fields}
 use Rattle.message_fields.proofs.RoundTrip.{sender_at, receiver_at, has_bytes}
 use Rattle.controller.specs.Controller.{sent_bytes}
@@ -50,10 +49,10 @@ module _ (n : ℕ) (small : n ≤ 16) where
         by false = refl
 
 -- ── what is sent ──
-pub queued_sent : (o : Outgoing) → as_queued (sent_bytes o) ≡ map fields (sent o)
-queued_sent Nothing = refl
-queued_sent (Send m) = has_bytes m (λ (l : List ℕ). as_queued l ≡ l ∷ []) (λ x l. refl)
+pub queued_sent : (o : Option Message) → as_queued (sent_bytes o) ≡ map fields (sent o)
+queued_sent None = refl
+queued_sent (Some m) = has_bytes m (λ (l : List ℕ). as_queued l ≡ l ∷ []) (λ x l. refl)
 
-pub full_is : (limit : ℕ) (q : List Message) (o : Outgoing) → is_full limit (map fields q) (as_queued (sent_bytes o)) ≡ is_sending o && eqb (length q) limit
-full_is limit q Nothing = refl
-full_is limit q (Send m) = has_bytes m (λ (l : List ℕ). is_full limit (map fields q) (as_queued l) ≡ eqb (length q) limit) (λ x l. ap (λ (k : ℕ). eqb k limit) (length-map q fields))
+pub full_is : (limit : ℕ) (q : List Message) (o : Option Message) → is_full limit (map fields q) (as_queued (sent_bytes o)) ≡ is_sending o && eqb (length q) limit
+full_is limit q None = refl
+full_is limit q (Some m) = has_bytes m (λ (l : List ℕ). is_full limit (map fields q) (as_queued l) ≡ eqb (length q) limit) (λ x l. ap (λ (k : ℕ). eqb k limit) (length-map q fields))

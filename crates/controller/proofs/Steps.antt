@@ -2,22 +2,22 @@
 use Prim.Native.Nat.{ℕ, ◌≤◌}
 use native.Mathlib.Omega.{arith}
 use mathlib.Core.Bool.{true, false, not}
-use mathlib.Core.Path.{◌≡◌, refl, ◌∙◌, ap}
+use mathlib.Core.Path.{◌≡◌, refl, sym, ◌∙◌, ap}
 use mathlib.Core.List.{List, ◌∷◌, ◌++◌}
 use lib.Dec.{eqb, leb}
 use borrow.Author.Tests.{eq-eqb, ne_eqb, leb-true}
 use Rattle.model.specs.Pick.{pick, pick_true, pick_false}
 use Rattle.model.specs.Limits.{node_limit}
 use Rattle.model.specs.Grounds.{Ground, ground, judged, first}
-use Rattle.model.specs.Answers.{answer_number, is_accepted}
+use Rattle.model.specs.Answers.{refusal_number}
+use Rattle.model.specs.declared.Refusal.{Refusal}
 use Rattle.model.specs.Range.{is_node}
 use Rattle.model.specs.React.{react}
 use Rattle.model.specs.State.{is_count}
 use Rattle.model.specs.Step.{actor}
-use Rattle.model.proofs.Answers.{refused_some}
+use Rattle.model.proofs.Answers.{ground_some}
 use Rattle.model.proofs.Grounds.{first_met, judged_clear, judged_past, judged_first}
 use Rattle.model.proofs.Local.{both_left, both_right}
-use Rattle.model.specs.declared.Answer.{Answer}
 use Rattle.model.specs.declared.Node.{Node}
 use Rattle.model.specs.declared.Message.{Message}
 use Rattle.model.specs.declared.Input.{Input}
@@ -30,9 +30,7 @@ use Rattle.node_step.proofs.InRange.{in_range_fits}
 use Rattle.message_fields.specs.Fields.{message_in, is_message}
 use Rattle.controller.specs.declared.LocalEvent.{LocalEvent}
 use Rattle.controller.specs.declared.LocalEvent.TheVariants.{Crash, Recover, Check, Timeout, Tick, Expire, Finish}
-use Rattle.controller.specs.declared.ControllerOutcome.{ControllerOutcome}
-use Rattle.controller.specs.Controller.{Incoming, event, message, as_event, input_of, reaction_in, in_range_for, controller_grounds, Result, refused, controller_step}
-use Rattle.controller.specs.Stepped.{OutcomeOf}
+use Rattle.controller.specs.Controller.{Incoming, event, message, as_event, input_of, reaction_in, in_range_for, controller_grounds, refused, controller_step}
 use Rattle.controller.specs.Parts.{act_grounds, acts, acted, received_by}
 
 module _ (n i : ℕ) (c : Node) where
@@ -60,14 +58,14 @@ module _ (n i : ℕ) (c : Node) where
       unfolding controller_step controller_grounds reaction_in judged
       by_numbers = rw (ok, pick_false)
 
-      pub wrong_numbers : 1 ≤ first (number_grounds n (as_event e)) → controller_step n i c (event e) ≡ refused (first (number_grounds n (as_event e)))
-      wrong_numbers h =
-          let f = first_met (number_grounds n (as_event e)) behind h in
-          by_numbers ∙ judged_first refused (acts n i c (input_of e)) (number_grounds n (as_event e) ++ behind) (omega (arith, f, h)) ∙ ap refused f
+      pub wrong_numbers : (g : Refusal) → refusal_number g ≡ first (number_grounds n (as_event e)) → controller_step n i c (event e) ≡ refused (refusal_number g)
+      wrong_numbers g h =
+          let f = first_met (number_grounds n (as_event e)) behind (omega (arith, ground_some g, h)) in
+          by_numbers ∙ judged_first refused (acts n i c (input_of e)) (number_grounds n (as_event e) ++ behind) (omega (arith, ground_some g, f, h)) ∙ ap refused (f ∙ sym h)
 
-      module _ (clear : first (number_grounds n (as_event e)) ≡ 0) where
+      module _ (clear : 0 ≡ first (number_grounds n (as_event e))) where
         past : controller_step n i c (event e) ≡ judged refused (acts n i c (input_of e)) behind
-        past = by_numbers ∙ judged_past refused (acts n i c (input_of e)) (number_grounds n (as_event e)) behind refl clear
+        past = by_numbers ∙ judged_past refused (acts n i c (input_of e)) (number_grounds n (as_event e)) behind refl (sym clear)
 
         pub other_event : (actor (as_event e) ≡ i → ⊥) → controller_step n i c (event e) ≡ refused 21
         unfolding judged
@@ -98,30 +96,20 @@ module _ (n i : ℕ) (c : Node) where
 
   -- ── by the record ──
   module _ (e : Event) (x : Input) where
-    pub wrong_state : 1 ≤ first (node_grounds n c e) → acted n i c e x ≡ refused (first (node_grounds n c e))
-    wrong_state h =
-        let f = first_met (node_grounds n c e) (own_end_grounds c (react n i c x)) h in
-        judged_first refused (acts n i c x) (act_grounds n i c e x) (omega (arith, f, h)) ∙ ap refused f
+    pub wrong_state : (g : Refusal) → refusal_number g ≡ first (node_grounds n c e) → acted n i c e x ≡ refused (refusal_number g)
+    wrong_state g h =
+        let f = first_met (node_grounds n c e) (own_end_grounds c (react n i c x)) (omega (arith, ground_some g, h)) in
+        judged_first refused (acts n i c x) (act_grounds n i c e x) (omega (arith, ground_some g, f, h)) ∙ ap refused (f ∙ sym h)
 
-    module _ (clear : first (node_grounds n c e) ≡ 0) where
+    module _ (clear : 0 ≡ first (node_grounds n c e)) where
       ends : acted n i c e x ≡ judged refused (acts n i c x) (own_end_grounds c (react n i c x))
-      ends = judged_past refused (acts n i c x) (node_grounds n c e) (own_end_grounds c (react n i c x)) refl clear
+      ends = judged_past refused (acts n i c x) (node_grounds n c e) (own_end_grounds c (react n i c x)) refl (sym clear)
 
-      pub at_end : 1 ≤ first (own_end_grounds c (react n i c x)) → acted n i c e x ≡ refused (first (own_end_grounds c (react n i c x)))
-      at_end h = ends ∙ judged_first refused (acts n i c x) (own_end_grounds c (react n i c x)) h
+      pub at_end : (g : Refusal) → refusal_number g ≡ first (own_end_grounds c (react n i c x)) → acted n i c e x ≡ refused (refusal_number g)
+      at_end g h = ends ∙ judged_first refused (acts n i c x) (own_end_grounds c (react n i c x)) (omega (arith, ground_some g, h)) ∙ ap refused (sym h)
 
-      pub all_clear : first (own_end_grounds c (react n i c x)) ≡ 0 → acted n i c e x ≡ acts n i c x
-      all_clear h = ends ∙ judged_clear refused (acts n i c x) (own_end_grounds c (react n i c x)) refl h
-
--- ── outcomes ──
-
--- one that same_outcome a result same_outcome what is equal to it
-pub same_outcome : {c : Node} {y z : Result} {r : ControllerOutcome} → z ≡ y → OutcomeOf c y r → OutcomeOf c z r
-same_outcome e s = rw e s
-
--- the code's test of an answer that is not accepted
-pub some_number : (a : Answer) {x : ℕ} → is_accepted a ≡ false → answer_number a ≡ x → 1 ≤ x
-some_number a q h = omega (arith, refused_some a q, h)
+      pub all_clear : 0 ≡ first (own_end_grounds c (react n i c x)) → acted n i c e x ≡ acts n i c x
+      all_clear h = ends ∙ judged_clear refused (acts n i c x) (own_end_grounds c (react n i c x)) refl (sym h)
 
 -- an event's input needs nothing of its numbers
 pub event_fits : (e : LocalEvent) → FitsInput (input_of e)

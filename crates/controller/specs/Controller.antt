@@ -1,7 +1,7 @@
 -- One node's share of the machine (02, T-11: "The controller in the cabinet"). "It takes n, its own number, its own record and one event other than deliver and lose or one incoming message, and gives
 -- the new record and at most one outgoing message." "The result depends on nothing but those four things": `controller_step` is a function of them, and the code promises
 -- what it gives (ControllerStepped). What n of them over one queue of messages do is in Network.
-use Rattle.std.specs.Prelude.{ℕ, Bool, false, not, ◌&&◌, List, [], ◌∷◌, eqb}
+use Rattle.std.specs.Prelude.{ℕ, Bool, false, not, ◌&&◌, List, [], ◌∷◌, eqb, Option, None, Some}
 use Rattle.model.specs.Limits.{node_limit, counter_end, call_end}
 use Rattle.model.specs.Grounds.{Ground, ground, judged}
 use Rattle.model.specs.React.{react}
@@ -9,8 +9,7 @@ use Rattle.model.specs.Range.{is_node, node_in_range}
 use Rattle.model.specs.State.{is_count}
 use Rattle.model.specs.Step.{actor, wrong_number, wrong_task, wrong_status, wrong_activity, not_coordinator, no_majority, forms, is_calling}
 use Rattle.model.specs.declared.Node.{Node}
-use Rattle.model.specs.declared.Outgoing.{Outgoing}
-use Rattle.model.specs.declared.Outgoing.TheVariants.{Nothing, Send}
+use Rattle.model.specs.declared.Message.{Message}
 use Rattle.model.specs.declared.Reaction.{Reaction}
 use Rattle.model.specs.declared.Input.{Input}
 use Rattle.model.specs.declared.Event.{Event}
@@ -59,9 +58,9 @@ unfoldable pub reaction_in : ℕ → ℕ → Node → Incoming → Reaction
 reaction_in n i c x = react n i c (input_in x)
 
 -- "at most one outgoing message", in bytes; none where nothing is sent
-abbrev pub sent_bytes : Outgoing → List ℕ
-sent_bytes Nothing = []
-sent_bytes (Send m) = fields m
+abbrev pub sent_bytes : Option Message → List ℕ
+sent_bytes None = []
+sent_bytes (Some m) = fields m
 
 -- ── the grounds: "Checks: 20, a message's bytes are not of that form, hold a number out of range or have the same sender and receiver; 21, it or the event is for another cabinet; both after 8
 -- and before 9." ──

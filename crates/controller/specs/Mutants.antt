@@ -1,11 +1,12 @@
 -- Controllers that are shut out: no outcome that meets the promise is theirs. Each field says of any n, own number i, record c and event or bytes what such an outcome can't be. The proofs are in proofs/Mutants.
-use Rattle.std.specs.Prelude.{ℕ, true, false, ◌≡◌, List, take}
+use Rattle.std.specs.Prelude.{ℕ, true, false, ◌≡◌, List, take, Err}
 use Rattle.model.specs.Node.{is_down}
 use Rattle.model.specs.Limits.{counter_end}
 use Rattle.model.specs.Range.{is_given_task}
 use Rattle.model.specs.declared.Node.{Node}
 use Rattle.model.specs.declared.TaskNo.{TaskNo}
-use Rattle.model.specs.declared.Answer.TheVariants.{Accepted, OtherNode, WrongStatus, NoMessage, QueueFull, SentAtEnd}
+use Rattle.model.specs.Answers.{Accepted}
+use Rattle.model.specs.declared.Refusal.TheVariants.{OtherNode, WrongStatus, NoMessage, QueueFull, SentAtEnd}
 use Rattle.message_fields.specs.Fields.{message_in, is_message}
 use Rattle.controller.specs.declared.LocalEvent.TheVariants.{Recover, Finish}
 use Rattle.controller.specs.declared.ControllerOutcome.{ControllerOutcome}
@@ -24,14 +25,14 @@ pub record NoOtherController : Type 0 where
   pub any_bytes : (n i : ℕ) (c : Node) (l : List ℕ) (r : ControllerOutcome) → ControllerStepped n i c (message l) r → is_message n l ≡ false → r.answer ≡ Accepted → ⊥
   pub any_node : (n i : ℕ) (c : Node) (x : Incoming) (r : ControllerOutcome) → ControllerStepped n i c x r → is_for_other i x ≡ true → r.answer ≡ Accepted → ⊥
   -- one that looks for whom they are before it looks what they are: 21 before 8, or before 20
-  pub other_before_task : (n i j : ℕ) (t : TaskNo) (c : Node) (r : ControllerOutcome) → ControllerStepped n i c (event (Finish j t)) r → is_given_task t.number ≡ false → r.answer ≡ OtherNode → ⊥
-  pub other_before_bytes : (n i : ℕ) (c : Node) (l : List ℕ) (r : ControllerOutcome) → ControllerStepped n i c (message l) r → is_message n l ≡ false → r.answer ≡ OtherNode → ⊥
+  pub other_before_task : (n i j : ℕ) (t : TaskNo) (c : Node) (r : ControllerOutcome) → ControllerStepped n i c (event (Finish j t)) r → is_given_task t.number ≡ false → r.answer ≡ Err OtherNode → ⊥
+  pub other_before_bytes : (n i : ℕ) (c : Node) (l : List ℕ) (r : ControllerOutcome) → ControllerStepped n i c (message l) r → is_message n l ≡ false → r.answer ≡ Err OtherNode → ⊥
   -- one that looks at its status before it looks for whom they are: 9 before 21
-  pub status_before_other : (n i : ℕ) (c : Node) (x : Incoming) (r : ControllerOutcome) → ControllerStepped n i c x r → is_for_other i x ≡ true → r.answer ≡ WrongStatus → ⊥
+  pub status_before_other : (n i : ℕ) (c : Node) (x : Incoming) (r : ControllerOutcome) → ControllerStepped n i c x r → is_for_other i x ≡ true → r.answer ≡ Err WrongStatus → ⊥
   -- one that answers for the queue: 11, 14 or 17
-  pub none_waits_lem : (n i : ℕ) (c : Node) (x : Incoming) (r : ControllerOutcome) → ControllerStepped n i c x r → r.answer ≡ NoMessage → ⊥
-  pub queue_full : (n i : ℕ) (c : Node) (x : Incoming) (r : ControllerOutcome) → ControllerStepped n i c x r → r.answer ≡ QueueFull → ⊥
-  pub sent_at_end : (n i : ℕ) (c : Node) (x : Incoming) (r : ControllerOutcome) → ControllerStepped n i c x r → r.answer ≡ SentAtEnd → ⊥
+  pub none_waits_lem : (n i : ℕ) (c : Node) (x : Incoming) (r : ControllerOutcome) → ControllerStepped n i c x r → r.answer ≡ Err NoMessage → ⊥
+  pub queue_full : (n i : ℕ) (c : Node) (x : Incoming) (r : ControllerOutcome) → ControllerStepped n i c x r → r.answer ≡ Err QueueFull → ⊥
+  pub sent_at_end : (n i : ℕ) (c : Node) (x : Incoming) (r : ControllerOutcome) → ControllerStepped n i c x r → r.answer ≡ Err SentAtEnd → ⊥
   -- one whose refusal changes the record, or sends something
   pub refused_moves : (n i : ℕ) (c : Node) (x : Incoming) (r : ControllerOutcome) → ControllerStepped n i c x r → (r.answer ≡ Accepted → ⊥) → (r.node ≡ c → ⊥) → ⊥
   pub refused_sends : (n i : ℕ) (c : Node) (x : Incoming) (r : ControllerOutcome) → ControllerStepped n i c x r → (r.answer ≡ Accepted → ⊥) → (r.packet.length ≡ 0 → ⊥) → ⊥

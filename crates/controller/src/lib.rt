@@ -5,14 +5,13 @@
 
 ghost use Rattle.std.specs.Prelude.{◌≡◌};
 ghost use Rattle.message_fields.specs.Fields.{Packed};
-ghost use Rattle.model.specs.Answers.{answer_number};
 ghost use Rattle.node_step.specs.Fits.{Fits, FitsInput, FitsSender};
 ghost use Rattle.controller.specs.Controller as spec;
 ghost use Rattle.controller.specs.Stepped.{OutcomeOf, ControllerStepped};
-ghost use Rattle.controller.specs.Parts.{acted, received_by};
+ghost use Rattle.controller.specs.Parts.{result_of, acted, received_by};
 
-use message_fields::{MessageRead, Packet};
-use model::{Answer, Event, Input, Message, Node, Outgoing, TaskNo};
+use message_fields::Packet;
+use model::{Answer, Event, Input, Message, Node, Reaction, Refusal, TaskNo};
 
 // The events other than deliver and lose, which are the queue's.
 #[derive(Clone, Copy)]
@@ -27,6 +26,7 @@ pub enum LocalEvent {
 }
 
 // The answer, the record after it, and the message that is sent; no bytes where none is.
+// kept: no Result, since `OutcomeOf` says what record and bytes stand beside a refusal.
 #[derive(Clone, Copy)]
 pub struct ControllerOutcome {
     pub answer: Answer,
@@ -35,17 +35,19 @@ pub struct ControllerOutcome {
 }
 
 // The same event as one of a list.
-fn as_event(e: LocalEvent) -> Event
-    ensures { result ≡ spec.as_event e }
-{
-    match e {
-        LocalEvent::Crash(i) => Event::Crash(i),
-        LocalEvent::Recover(i) => Event::Recover(i),
-        LocalEvent::Check(i) => Event::Check(i),
-        LocalEvent::Timeout(i) => Event::Timeout(i),
-        LocalEvent::Tick(i) => Event::Tick(i),
-        LocalEvent::Expire(i) => Event::Expire(i),
-        LocalEvent::Finish(i, t) => Event::Finish(i, t),
+impl From<LocalEvent> for Event {
+    ghost from_gives = { λ e r. r ≡ spec.as_event e };
+
+    fn from(e: LocalEvent) -> Event {
+        match e {
+            LocalEvent::Crash(i) => Event::Crash(i),
+            LocalEvent::Recover(i) => Event::Recover(i),
+            LocalEvent::Check(i) => Event::Check(i),
+            LocalEvent::Timeout(i) => Event::Timeout(i),
+            LocalEvent::Tick(i) => Event::Tick(i),
+            LocalEvent::Expire(i) => Event::Expire(i),
+            LocalEvent::Finish(i, t) => Event::Finish(i, t),
+        }
     }
 }
 
@@ -68,84 +70,53 @@ fn input_of(e: LocalEvent) -> Input
 fn in_range(n: u8, own: u8, node: Node) -> bool
     ensures { result ≡ spec.in_range_for n own node }
 {
-    if predicates::wrong_count(16, n) {
-        return false;
-    }
-    if !predicates::is_node(n, own) {
-        return false;
-    }
-    node_step::node_in_range(n, own, node)
-}
-
-// A refusal: the record as it was, and nothing sent.
-fn refused(answer: Answer, node: Node) -> ControllerOutcome
-    ensures { OutcomeOf node (spec.refused (answer_number answer)) result }
-{
-    ControllerOutcome {
-        answer: answer,
-        node: node,
-        packet: message_fields::no_packet(),
-    }
+    !predicates::wrong_count(16, n)
+        && predicates::is_node(n, own)
+        && node_step::node_in_range(n, own, node)
 }
 
 // The packet of what is sent.
-fn packet_for(o: Outgoing) -> Packet
+fn packet_for(o: Option<Message>) -> Packet
     ensures { Packed result (spec.sent_bytes o) }
 {
     match o {
-        Outgoing::Nothing => message_fields::no_packet(),
-        Outgoing::Send(m) => message_fields::packet_of(m),
+        None => message_fields::no_packet(),
+        Some(m) => message_fields::packet_of(m),
     }
 }
 
 // By the record: grounds 9, 10, 18 and 19, then what the node does, then 12 and 13.
-fn act(n: u8, own: u8, node: Node, e: Event, input: Input) -> ControllerOutcome
+fn act(n: u8, own: u8, node: Node, e: Event, input: Input) -> Result<Reaction, Refusal>
     requires { Fits own node × FitsInput input }
-    ensures { OutcomeOf node (acted n own node e input) result }
+    ensures { result_of result ≡ acted n own node e input }
 {
-    let state = node_step::node_answer(n, node, e);
-    if !predicates::is_accepted(state) {
-        return refused(state, node);
-    }
+    node_step::node_answer(n, node, e)?;
     let r = node_step::react(n, own, node, input);
-    let ends = node_step::own_end_answer(node, r);
-    if !predicates::is_accepted(ends) {
-        return refused(ends, node);
-    }
-    let next = r.node;
-    let outgoing = r.outgoing;
-    ControllerOutcome {
-        answer: Answer::Accepted,
-        node: next,
-        packet: packet_for(outgoing),
-    }
+    node_step::own_end_answer(node, r)?;
+    Ok(r)
 }
 
-// An event of a list, other than deliver and lose.
-pub fn on_event(n: u8, own: u8, node: Node, e: LocalEvent) -> ControllerOutcome
-    ensures { ControllerStepped n own node (spec.event e) result }
+fn judge_event(n: u8, own: u8, node: Node, e: LocalEvent) -> Result<Reaction, Refusal>
+    ensures { result_of result ≡ spec.controller_step n own node (spec.event e) }
 {
     if !in_range(n, own, node) {
-        return refused(Answer::NotInRange, node);
+        return Err(Refusal::NotInRange);
     }
-    let whole = as_event(e);
-    let numbers = node_step::number_answer(n, whole);
-    if !predicates::is_accepted(numbers) {
-        return refused(numbers, node);
-    }
+    let whole = Event::from(e);
+    node_step::number_answer(n, whole)?;
     if node_step::actor(whole) != own {
-        return refused(Answer::OtherNode, node);
+        return Err(Refusal::OtherNode);
     }
     act(n, own, node, whole, input_of(e))
 }
 
 // A message that is read: for another node, or acted on.
-fn received(n: u8, own: u8, node: Node, m: Message) -> ControllerOutcome
+fn received(n: u8, own: u8, node: Node, m: Message) -> Result<Reaction, Refusal>
     requires { Fits own node × FitsSender m }
-    ensures { OutcomeOf node (received_by n own node m) result }
+    ensures { result_of result ≡ received_by n own node m }
 {
     if m.receiver != own {
-        return refused(Answer::OtherNode, node);
+        return Err(Refusal::OtherNode);
     }
     act(
         n,
@@ -156,15 +127,46 @@ fn received(n: u8, own: u8, node: Node, m: Message) -> ControllerOutcome
     )
 }
 
+fn judge_message(n: u8, own: u8, node: Node, bytes: &[u8]) -> Result<Reaction, Refusal>
+    ensures { result_of result ≡ spec.controller_step n own node (spec.message bytes.now) }
+{
+    if !in_range(n, own, node) {
+        return Err(Refusal::NotInRange);
+    }
+    match message_fields::decode(n, bytes) {
+        None => Err(Refusal::WrongMessage),
+        Some(m) => received(n, own, node, m),
+    }
+}
+
+// What a judgement comes to; a refusal leaves the record as it was, and sends nothing.
+fn outcome_of(node: Node, judged: Result<Reaction, Refusal>) -> ControllerOutcome
+    ensures { OutcomeOf node (result_of judged) result }
+{
+    match judged {
+        Err(refusal) => ControllerOutcome {
+            answer: Err(refusal),
+            node: node,
+            packet: message_fields::no_packet(),
+        },
+        Ok(r) => ControllerOutcome {
+            answer: Ok(()),
+            node: r.node,
+            packet: packet_for(r.outgoing),
+        },
+    }
+}
+
+// An event of a list, other than deliver and lose.
+pub fn on_event(n: u8, own: u8, node: Node, e: LocalEvent) -> ControllerOutcome
+    ensures { ControllerStepped n own node (spec.event e) result }
+{
+    outcome_of(node, judge_event(n, own, node, e))
+}
+
 // The bytes of one message, and nothing behind them.
 pub fn on_message(n: u8, own: u8, node: Node, bytes: &[u8]) -> ControllerOutcome
     ensures { ControllerStepped n own node (spec.message bytes.now) result }
 {
-    if !in_range(n, own, node) {
-        return refused(Answer::NotInRange, node);
-    }
-    match message_fields::decode(n, bytes) {
-        MessageRead::Wrong => refused(Answer::WrongMessage, node),
-        MessageRead::Got(m) => received(n, own, node, m),
-    }
+    outcome_of(node, judge_message(n, own, node, bytes))
 }

@@ -11,8 +11,8 @@ use Rattle.model.specs.declared.Table.{Table}
 use Rattle.model.specs.declared.Mark.{Mark}
 use Rattle.model.specs.declared.Event.{Event}
 use Rattle.model.specs.declared.Event.TheVariants.{Deliver, Lose}
-use Rattle.model.specs.declared.Answer.{Answer}
-use Rattle.model.specs.declared.Answer.TheVariants.{Accepted}
+use Rattle.model.specs.Answers.{Answer}
+use Rattle.model.specs.Answers.{Accepted}
 use Rattle.machine.specs.Stepped.{Stepped}
 use Rattle.machine.specs.Folded.{Folded}
 use Rattle.machine.proofs.Runs.{folded_append, answer_known, chain_runs, chain_fixes, chain_both}

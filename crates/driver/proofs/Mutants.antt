@@ -10,8 +10,10 @@ use Rattle.model.proofs.Fields.{in_range_size}
 use Rattle.model.proofs.Counts.{pair_counting}
 use Rattle.model.specs.Answers.{answer_number}
 use Rattle.model.specs.declared.Table.{Table}
-use Rattle.model.specs.declared.Answer.{Answer}
-use Rattle.model.specs.declared.Answer.TheVariants.{Accepted, NotInRange, WrongNumber}
+use Rattle.model.specs.Answers.{Answer}
+use Rattle.model.specs.Answers.{Accepted}
+use Rattle.std.specs.Prelude.{Err}
+use Rattle.model.specs.declared.Refusal.TheVariants.{NotInRange, WrongNumber}
 use Rattle.machine.proofs.Runs.{answer_known}
 use Rattle.round.specs.Order.{pair}
 use Rattle.round.specs.Turn.{Turn, turn_refused, turn_accepted, turn_at, turn_number, table_after, place_after, done_in, event_of}
@@ -109,8 +111,8 @@ no_other_turn =
       counts_none = λ x d h. h (ap (λ (s : State). s.lost) (lost_leaves x d));
       one_away = λ {t} {p} x i e h. h (accepts x (turn_rules.alone (view t) p i e));
       one_moves = λ {t} {p} x i e h. h (goes x (turn_rules.alone (view t) p i e));
-      no_pair = λ {t} {p} x i e f h. h (answers x WrongNumber (turn_rules.no_pair (view t) p i e f));
-      not_one_first = λ {t} {p} x i h. h (answers x NotInRange (turn_rules.not_in_range (view t) p i));
+      no_pair = λ {t} {p} x i e f h. h (answers x (Err WrongNumber) (turn_rules.no_pair (view t) p i e f));
+      not_one_first = λ {t} {p} x i h. h (answers x (Err NotInRange) (turn_rules.not_in_range (view t) p i));
       refused_table = λ x n h. h (x.same (refused_is x n).0);
       refused_place = λ x n h. h (refused_is x n).1;
     }

@@ -17,8 +17,8 @@ use Rattle.model.proofs.Fields.{in_range_size, in_range_sum}
 use Rattle.model.proofs.Traffic.{traffic_rules}
 use Rattle.model.specs.declared.Table.{Table}
 use Rattle.model.specs.declared.Outcome.{Outcome}
-use Rattle.model.specs.declared.Answer.{Answer}
-use Rattle.model.specs.declared.Answer.TheVariants.{Accepted}
+use Rattle.model.specs.Answers.{Answer}
+use Rattle.model.specs.Answers.{Accepted}
 use Rattle.model.specs.declared.Event.TheVariants.{Deliver, Lose}
 use Rattle.machine.specs.Parts.{place_of}
 use Rattle.machine.specs.Stepped.{Stepped}

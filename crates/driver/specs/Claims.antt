@@ -1,6 +1,6 @@
 -- What is claimed of the tables that the code's turns and steps return: they are those of the model's schedules, T-09's claim holds of them, and so do demand 3, the traffic,
 -- T-10 and the range. The proofs are in proofs/Chains.
-use Rattle.std.specs.Prelude.{ℕ, ◌+◌, ◌-◌, ◌*◌, ◌≤◌, ◌<◌, true, ◌≡◌, List, ◌∷◌, ◌++◌, drop}
+use Rattle.std.specs.Prelude.{ℕ, ◌+◌, ◌-◌, ◌*◌, ◌≤◌, ◌<◌, true, ◌≡◌, List, ◌∷◌, ◌++◌, drop, Err}
 use Rattle.model.specs.Limits.{node_limit}
 use Rattle.model.specs.Counts.{count_at}
 use Rattle.model.specs.Range.{TwoPairs}
@@ -10,7 +10,8 @@ use Rattle.model.specs.declared.Limits.{Limits}
 use Rattle.model.specs.declared.Table.{Table}
 use Rattle.model.specs.declared.Event.{Event}
 use Rattle.model.specs.declared.Event.TheVariants.{Deliver, Lose}
-use Rattle.model.specs.declared.Answer.TheVariants.{Accepted, NotInRange}
+use Rattle.model.specs.Answers.{Accepted}
+use Rattle.model.specs.declared.Refusal.TheVariants.{NotInRange}
 use Rattle.machine.specs.Stepped.{Stepped}
 use Rattle.machine.specs.Claims.{Reached, CodeRuns, CodeFixes, CodeTowerAndStand}
 use Rattle.machine.specs.Folded.{Folded}
@@ -67,4 +68,4 @@ pub record CodeDriverRuns : Type 0 where
   -- and in the tower and on the stand the traffic, T-10 and the range too
   pub both : CodeTowerAndStand ByDriver
   -- there no turn is answered with 1
-  pub never_one : (n : ℕ) (l : Limits) → MayStart TwoPairs n l → {es : List Event} {u : Table} {q : Place} {r : TurnOutcome} → Reached ByDriver n l es u → Turned u q r → r.answer ≡ NotInRange → ⊥
+  pub never_one : (n : ℕ) (l : Limits) → MayStart TwoPairs n l → {es : List Event} {u : Table} {q : Place} {r : TurnOutcome} → Reached ByDriver n l es u → Turned u q r → r.answer ≡ Err NotInRange → ⊥

@@ -1,5 +1,5 @@
 -- Wrong drivers: no outcome that meets `Turned` is theirs, on any table and at any place. The proof is in proofs/Mutants.
-use Rattle.std.specs.Prelude.{ℕ, ◌+◌, true, false, ◌⊎◌, ◌≡◌}
+use Rattle.std.specs.Prelude.{ℕ, ◌+◌, true, false, ◌⊎◌, ◌≡◌, Err}
 use Rattle.model.specs.Counts.{count_at, one_more}
 use Rattle.model.specs.Node.{is_down}
 use Rattle.model.specs.State.{State, node_at, waits, without_oldest, in_range, view}
@@ -7,7 +7,8 @@ use Rattle.model.specs.Step.{refused, accepted, step}
 use Rattle.model.specs.declared.Table.{Table}
 use Rattle.model.specs.declared.Mark.{Mark}
 use Rattle.model.specs.declared.Event.TheVariants.{Deliver}
-use Rattle.model.specs.declared.Answer.TheVariants.{Accepted, NotInRange, WrongNumber}
+use Rattle.model.specs.Answers.{Accepted}
+use Rattle.model.specs.declared.Refusal.TheVariants.{NotInRange, WrongNumber}
 use Rattle.round.specs.Order.{pair, is_in_round, next_pair}
 use Rattle.round.specs.Claims.{AtPair}
 use Rattle.round.specs.declared.Place.{Place}
@@ -47,8 +48,8 @@ pub record NoOtherTurn : Type 0 where
   pub one_away : {t : Table} {p : Place} {r : TurnOutcome} → Turned t p r → in_range (view t) ≡ true → t.n ≡ 1 → (r.answer ≡ Accepted → ⊥) → ⊥
   pub one_moves : {t : Table} {p : Place} {r : TurnOutcome} → Turned t p r → in_range (view t) ≡ true → t.n ≡ 1 → (r.place ≡ p → ⊥) → ⊥
   -- one that takes another place than a pair of the round, or gives 7 before 1
-  pub no_pair : {t : Table} {p : Place} {r : TurnOutcome} → Turned t p r → in_range (view t) ≡ true → (t.n ≡ 1 → ⊥) → is_in_round t.n p ≡ false → (r.answer ≡ WrongNumber → ⊥) → ⊥
-  pub not_one_first : {t : Table} {p : Place} {r : TurnOutcome} → Turned t p r → in_range (view t) ≡ false → (r.answer ≡ NotInRange → ⊥) → ⊥
+  pub no_pair : {t : Table} {p : Place} {r : TurnOutcome} → Turned t p r → in_range (view t) ≡ true → (t.n ≡ 1 → ⊥) → is_in_round t.n p ≡ false → (r.answer ≡ Err WrongNumber → ⊥) → ⊥
+  pub not_one_first : {t : Table} {p : Place} {r : TurnOutcome} → Turned t p r → in_range (view t) ≡ false → (r.answer ≡ Err NotInRange → ⊥) → ⊥
   -- a refusal that changes the table or the place
   pub refused_table : {t : Table} {p : Place} {r : TurnOutcome} → Turned t p r → (r.answer ≡ Accepted → ⊥) → (r.table ≡ t → ⊥) → ⊥
   pub refused_place : {t : Table} {p : Place} {r : TurnOutcome} → Turned t p r → (r.answer ≡ Accepted → ⊥) → (r.place ≡ p → ⊥) → ⊥

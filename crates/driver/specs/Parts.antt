@@ -2,7 +2,7 @@
 use Rattle.std.specs.Prelude.{true, ◌≡◌}
 use Rattle.model.specs.State.{view, waits}
 use Rattle.model.specs.declared.Table.{Table}
-use Rattle.model.specs.declared.Answer.{Answer}
+use Rattle.model.specs.Answers.{Answer}
 use Rattle.round.specs.Turn.{turn_accepted, turn_at}
 use Rattle.round.specs.Claims.{AtPair, with_loss}
 use Rattle.round.specs.declared.Place.{Place}

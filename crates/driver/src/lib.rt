@@ -9,7 +9,7 @@ ghost use Rattle.round.specs.Claims.{AtPair};
 ghost use Rattle.driver.specs.Turned.{Turned};
 ghost use Rattle.driver.specs.Parts.{outcome, Losing};
 
-use model::{Answer, Event, Table};
+use model::{Answer, Event, Refusal, Table};
 use round::{Done, Place, TurnOutcome};
 
 fn pair(a: u8, b: u8) -> Place
@@ -21,6 +21,7 @@ fn pair(a: u8, b: u8) -> Place
     }
 }
 
+#[tactic(auto, unfolding(round::specs::Order::next_receiver, model::specs::Pick::pick))]
 fn next_receiver(a: u8, b: u8) -> u8
     requires { b ≤ 16 }
     ensures { result ≡ order.next_receiver a b }
@@ -32,6 +33,7 @@ fn next_receiver(a: u8, b: u8) -> u8
 }
 
 // The pair after p in the round of n nodes.
+#[tactic(auto, unfolding(round::specs::Order::next_pair, model::specs::Pick::pick))]
 fn next_pair(n: u8, p: Place) -> Place
     requires { (n ≤ 16) × (order.is_in_round n p ≡ true) }
     ensures { result ≡ order.next_pair n p }
@@ -73,8 +75,7 @@ fn lose(t: Table, p: Place, next: Place) -> TurnOutcome
     ensures { Turned t p result }
 {
     let o = machine::advance(t, Event::Lose(p.sender, p.receiver));
-    let u = o.table;
-    outcome_of(u, next, Done::Lost, Answer::Accepted)
+    outcome_of(o.table, next, Done::Lost, Ok(()))
 }
 
 // A turn at a pair of the round, on a table in range: "with no message it does nothing, with a Down receiver it loses the oldest, else it delivers it. A delivery that meets
@@ -87,15 +88,14 @@ fn look(t: Table, p: Place) -> TurnOutcome
     let b = p.receiver;
     let next = next_pair(t.n, p);
     if !some_wait(t, a, b) {
-        return outcome_of(t, next, Done::Nothing, Answer::Accepted);
+        return outcome_of(t, next, Done::Nothing, Ok(()));
     }
     let o = machine::advance(t, Event::Deliver(a, b));
-    let answer = o.answer;
-    if !predicates::is_accepted(answer) {
+    // kept: tried with a `match` over the answer, and it misses a speed bar: the table of a delivery is copied once more
+    if !predicates::is_accepted(o.answer) {
         return lose(t, p, next);
     }
-    let u = o.table;
-    outcome_of(u, next, Done::Delivered, Answer::Accepted)
+    outcome_of(o.table, next, Done::Delivered, Ok(()))
 }
 
 // A turn on any table, at any place: refused, and the very same table and place; or accepted, and the table after it, the place of the next turn, and what was done.
@@ -103,18 +103,19 @@ pub fn turn(t: Table, p: Place) -> TurnOutcome
     ensures { Turned t p result }
 {
     if !machine::in_range(t) {
-        return outcome_of(t, p, Done::Nothing, Answer::NotInRange);
+        return outcome_of(t, p, Done::Nothing, Err(Refusal::NotInRange));
     }
     if t.n == 1 {
-        return outcome_of(t, p, Done::Nothing, Answer::Accepted);
+        return outcome_of(t, p, Done::Nothing, Ok(()));
     }
     if !predicates::is_pair(t.n, p.sender, p.receiver) {
-        return outcome_of(t, p, Done::Nothing, Answer::WrongNumber);
+        return outcome_of(t, p, Done::Nothing, Err(Refusal::WrongNumber));
     }
     look(t, p)
 }
 
 // The number of what was done: 0 nothing, 1 delivered, 2 lost.
+// kept: a function with a name: `u8::from(done)` would not say which number is whose.
 pub fn done_number(d: Done) -> u8
     ensures { result ≡ spec.done_number d }
 {

@@ -2,20 +2,21 @@
 -- `first_of` and other readers of a field.
 use Prim.Native.Nat.{ℕ, suc, ◌+◌, ◌-◌, ◌≤◌, ◌<◌}
 use native.Mathlib.Omega.{arith}
-use mathlib.Core.Path.{◌≡◌, refl}
-use mathlib.Core.Bool.{Bool, true, false, ◌&&◌, ◌||◌, true≢false}
+use mathlib.Core.Path.{◌≡◌, refl, sym, ◌∙◌, ap}
+use mathlib.Core.Bool.{Bool, true, false, ◌&&◌, not, ◌||◌, true≢false}
 use mathlib.Core.List.{List, [], ◌∷◌, ◌++◌}
-use lib.ListN.{length, take, drop, length-append, length-drop}
+use lib.ListN.{get_or, length, take, drop, length-append, length-drop}
 use lib.Seq.{length-take-le, take-append-le}
-use lib.Dec.{leb, ltb}
+use lib.Dec.{eqb, leb, ltb}
 use borrow.Author.Tests.{le-ltb, lt-ltb, le-leb, lt-leb, leb-true, leb-false, ltb-false}
+use Rattle.std.specs.Prelude.{Option, Some, None, Result, Ok, Err}
 use Rattle.model.specs.Pick.{pick, by_test}
+use Rattle.model.specs.declared.Limits.{Limits}
+use Rattle.model.specs.declared.Event.{Event}
 use Rattle.event_list.specs.declared.Stop.{Stop}
 use Rattle.event_list.specs.declared.Stop.TheVariants.{TooLong, CutShort, WrongTag, WrongLength, WrongCount}
 use Rattle.event_list.specs.declared.Field.{Field}
-use Rattle.event_list.specs.declared.Next.TheVariants as Next
-use Rattle.event_list.specs.declared.First.TheVariants as First
-use Rattle.event_list.specs.Format.{stop_number, max_bytes, between, two_bytes, tag_at, length_at, contents_at, behind, cut_short, field_at, checked, next_at, first_of}
+use Rattle.event_list.specs.Format.{stop_number, max_bytes, between, two_bytes, tag_at, length_at, contents_at, behind, event_tag, length_of, event_of, cut_short, field_at, checked, Next, next_at, First, nodes_of, first_of}
 use Rattle.event_list.specs.Parts.{sized, decoded, counted_in, first_in}
 
 -- What cannot lie between two ends does not.
@@ -57,10 +58,10 @@ pub record Found (l : List ℕ) (at t s e : ℕ) : Type 0 where
   pub inside : e ≤ length l
 
 -- what each answer of `field_at` says
-abbrev pub Seen : List ℕ → ℕ → Field → Type 0
-Seen l at Field.End = length l ≤ at
-Seen l at Field.Short = (at < length l) × (cut_short l at ≡ true)
-Seen l at (Field.Whole t s e) = Found l at t s e
+abbrev pub Seen : List ℕ → ℕ → Result (Option Field) Stop → Type 0
+Seen l at (Ok None) = length l ≤ at
+Seen l at (Err s) = (at < length l) × (cut_short l at ≡ true) × (s ≡ CutShort)
+Seen l at (Ok (Some f)) = Found l at f.tag f.start f.end
 
 seen_at : (l : List ℕ) (at : ℕ) → Seen l at (field_at l at)
 unfolding field_at
@@ -69,19 +70,33 @@ seen_at l at =
     (λ m. leb-true (length l) at m)
     (λ m.
     by_test (Seen l at)
-    (λ u. (leb-false (length l) at m, u))
+    (λ u. (leb-false (length l) at m, u, refl))
     (λ u. record { more = leb-false (length l) at m; uncut = u; tag = refl; start = refl; end = refl; inside = uncut l at u }))
 
 -- The same for an answer x of `field_at`.
-pub seen : (l : List ℕ) (at : ℕ) {x y : Field} → x ≡ field_at l at → x ≡ y → Seen l at y
-seen l at e f = rw (← f, e) (seen_at l at)
+module _ (l : List ℕ) (at : ℕ) {x : Result (Option Field) Stop} (e : x ≡ field_at l at) where
+  pub seen : {o p : Option Field} → x ≡ Ok o → o ≡ p → Seen l at (Ok p)
+  seen {o} {p} f g = let w : field_at l at ≡ Ok p = sym e ∙ (f ∙ ap Ok g) in rw w at (seen_at l at)
+
+  pub seen_short : {s : Stop} → x ≡ Err s → (at < length l) × (cut_short l at ≡ true) × (s ≡ CutShort)
+  seen_short {s} f = let w : field_at l at ≡ Err s = sym e ∙ f in rw w at (seen_at l at)
+
+-- what stands at an offset where a whole field says this and ends there
+abbrev pub placed : Result Event Stop → ℕ → Next
+placed (Ok v) e = Ok (Some (v, e))
+placed (Err s) e = Err s
+
+-- what a first field says whose contents say this
+abbrev pub first_then : Limits → Result ℕ Stop → First
+first_then lim (Ok n) = nodes_of lim n
+first_then lim (Err s) = Err s
 
 module _ (l : List ℕ) (at : ℕ) where
-  pub next_end : length l ≤ at → next_at l at ≡ Next.Done
+  pub next_end : length l ≤ at → next_at l at ≡ Ok None
   unfolding next_at pick
   next_end h = rw (le-leb (length l) at h)
 
-  pub next_short : at < length l → cut_short l at ≡ true → next_at l at ≡ Next.Stopped CutShort
+  pub next_short : at < length l → cut_short l at ≡ true → next_at l at ≡ Err CutShort
   unfolding next_at checked pick
   next_short h k = rw (lt-leb (length l) at h, k)
 
@@ -93,26 +108,45 @@ module _ (l : List ℕ) (at : ℕ) where
     pub own_part : take (e - s) (drop s l) ≡ contents_at l at
     own_part = let k : e - s ≡ length_at l at = omega arith in rw (k, f.start)
 
-    pub next_whole : next_at l at ≡ decoded t (take (e - s) (drop s l)) e
+    pub next_whole : next_at l at ≡ placed (decoded t (take (e - s) (drop s l))) e
     unfolding next_at checked decoded sized pick
-    next_whole = rw (lt-leb (length l) at f.more, f.uncut, own_part, own_length, f.tag, f.end)
+    next_whole =
+        rw (lt-leb (length l) at f.more, f.uncut, own_part, own_length, f.tag, f.end)
+        (by (not (event_tag (tag_at l at))) (not (eqb (length_at l at) (length_of (tag_at l at)))))
+      where
+        by : (a b : Bool) → pick a (Err WrongTag) (pick b (Err WrongLength) (Ok (Some (event_of (tag_at l at) (contents_at l at), behind l at))))
+            ≡ placed (pick a (Err WrongTag) (pick b (Err WrongLength) (Ok (event_of (tag_at l at) (contents_at l at))))) (behind l at)
+        by true b = refl
+        by false true = refl
+        by false false = refl
 
 module _ (l : List ℕ) where
-  pub first_long : max_bytes < length l → first_of l ≡ First.Stopped TooLong
+  pub first_long : max_bytes < length l → first_of l ≡ Err TooLong
   unfolding first_of pick
   first_long h = rw (lt-ltb max_bytes (length l) h)
 
   module _ (h : length l ≤ max_bytes) where
-    pub first_short : cut_short l 0 ≡ true → first_of l ≡ First.Stopped CutShort
+    pub first_short : cut_short l 0 ≡ true → first_of l ≡ Err CutShort
     unfolding first_of checked pick
     first_short k = rw (le-ltb max_bytes (length l) h, k)
 
-    pub first_empty : length l ≤ 0 → first_of l ≡ First.Stopped CutShort
+    pub first_empty : length l ≤ 0 → first_of l ≡ Err CutShort
     first_empty z = first_short (cut_empty l z)
 
     pub first_whole : (t s e : ℕ) → Found l 0 t s e → first_of l ≡ first_in t (take (e - s) (drop s l))
     unfolding first_of checked counted_in first_in pick
     first_whole t s e f = rw (le-ltb max_bytes (length l) h, f.uncut, own_part l 0 t s e f, own_length l 0 t s e f, f.tag)
+
+-- the first field's n, by its length
+module _ (wanted : ℕ) (lim : Limits) (c : List ℕ) {b : ℕ} (f : b ≡ get_or c 0 0) where
+  counted_by : (t : Bool) → pick t (Err WrongLength) (nodes_of lim b) ≡ first_then lim (pick t (Err WrongLength) (Ok b))
+  unfolding pick
+  counted_by true = refl
+  counted_by false = refl
+
+  pub counted_by_sized : {x : Result ℕ Stop} → x ≡ sized (length c) wanted b → counted_in wanted lim c ≡ first_then lim x
+  unfolding counted_in sized
+  counted_by_sized e = rw (e, ← f) (counted_by (not (eqb (length c) wanted)))
 
 -- ── bytes behind a field that is there whole ──
 

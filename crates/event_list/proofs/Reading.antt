@@ -7,15 +7,14 @@ use mathlib.Core.List.{List}
 use lib.ListN.{length, get_or}
 use lib.Dec.{eqb, leb, ltb}
 use borrow.Author.Tests.{le-leb, leb-true, leb-false, ltb-false, eqb-true, eqb-false, not-false}
+use Rattle.std.specs.Prelude.{Some, None, Ok, Err}
 use Rattle.model.specs.Range.{TwoPairs, is_tower_or_stand, is_within_tower}
 use Rattle.model.specs.Claims.{MayStart}
 use Rattle.model.specs.Pick.{pick, by_test}
 use Rattle.model.specs.declared.Limits.{Limits}
 use Rattle.model.specs.declared.Event.{Event}
 use Rattle.event_list.specs.declared.Stop.{Stop}
-use Rattle.event_list.specs.declared.Next.{Next}
-use Rattle.event_list.specs.declared.First.{First}
-use Rattle.event_list.specs.Format.{max_bytes, between, tag_at, length_at, contents_at, behind, first_tag, event_tag, length_of, cut_short, checked, next_at, limits_of, nodes_of, first_of, Ending, complete, stopped, ended, after, onward, read_from, rest, failed, begun, reading}
+use Rattle.event_list.specs.Format.{max_bytes, between, tag_at, length_at, contents_at, behind, first_tag, event_tag, length_of, cut_short, checked, Next, next_at, limits_of, nodes_of, First, first_of, Ending, complete, stopped, ended, after, onward, read_from, rest, failed, begun, reading}
 use Rattle.event_list.specs.Claims.{ReadsAll}
 use Rattle.event_list.proofs.Fields.{uncut, next_end}
 
@@ -33,16 +32,16 @@ within a b x e = let h = both (leb a x) (leb x b) e in (leb-true a x h.0, leb-tr
 above : (a b x : ℕ) → between a b x ≡ false → a ≤ x → b < x
 above a b x e h = leb-false x b (rw (le-leb a x h) at e)
 
-abbrev Some : ℕ → Type 0
-Some n = 1 ≤ n
+abbrev One_up : ℕ → Type 0
+One_up n = 1 ≤ n
 
 -- An event's contents have at least one byte.
 some_length : (t : ℕ) → 0x10 ≤ t → t ≤ 0x18 → 1 ≤ length_of t
 unfolding length_of
 some_length t h k =
-    by_test Some
+    by_test One_up
     (λ a. omega arith)
-    (λ a. by_test Some (λ b. omega arith) (λ b. by_test Some (λ d. omega arith) (λ d. by_test Some (λ f. omega arith) (λ f. none b d f))))
+    (λ a. by_test One_up (λ b. omega arith) (λ b. by_test One_up (λ d. omega arith) (λ d. by_test One_up (λ f. omega arith) (λ f. none b d f))))
   where
     none : between 0x10 0x15 t ≡ false → eqb t 0x16 ≡ false → between 0x17 0x18 t ≡ false → 1 ≤ 0
     none b d f =
@@ -58,9 +57,9 @@ one_length t h = rw h
 
 -- what is known of where the next field starts
 abbrev Past : List ℕ → ℕ → Next → Type 0
-Past l at Next.Done = Unit {0}
-Past l at (Next.Stopped s) = Unit {0}
-Past l at (Next.Got e next) = (at + 4 ≤ next) × (next ≤ length l)
+Past l at (Ok None) = Unit {0}
+Past l at (Err s) = Unit {0}
+Past l at (Ok (Some (e, next))) = (at + 4 ≤ next) × (next ≤ length l)
 
 past_at : (l : List ℕ) (at : ℕ) → Past l at (next_at l at)
 unfolding next_at checked
@@ -79,8 +78,8 @@ past_at l at =
 
 -- what is known of a list whose first field is good
 abbrev Good : List ℕ → First → Type 0
-Good l (First.Stopped s) = Unit {0}
-Good l (First.Nodes n lim) = (behind l 0 ≡ 4) × (4 ≤ length l) × (length l ≤ max_bytes) × MayStart TwoPairs n lim
+Good l (Err s) = Unit {0}
+Good l (Ok (n, lim)) = (behind l 0 ≡ 4) × (4 ≤ length l) × (length l ≤ max_bytes) × MayStart TwoPairs n lim
 
 -- the limits that a tag gives are one of the two pairs
 given_pair : (t : ℕ) → (is_within_tower (limits_of t) ≡ true) × (is_tower_or_stand (limits_of t) ≡ true)
@@ -121,9 +120,9 @@ enough (suc j) (suc k) l at p q = by (next_at l at) (past_at l at) (λ n u w. en
   where
     by : (x : Next) → Past l at x → ((n : ℕ) → length l ≤ n + j → length l ≤ n + k → read_from j l n ≡ read_from k l n) →
         onward at x (read_from j l) ≡ onward at x (read_from k l)
-    by Next.Done g r = refl
-    by (Next.Stopped s) g r = refl
-    by (Next.Got e n) g r = rw (r n (omega arith) (omega arith))
+    by (Ok None) g r = refl
+    by (Err s) g r = refl
+    by (Ok (Some (e, n))) g r = rw (r n (omega arith) (omega arith))
 
 -- What is left at a field, by what stands there and what is left behind it: no reading ends for lack of a count.
 pub rest_step : (l : List ℕ) (at : ℕ) → rest l at ≡ onward at (next_at l at) (rest l)
@@ -131,7 +130,7 @@ unfolding rest read_from
 rest_step l at = enough (length l) (suc (length l)) l at (omega arith) (omega arith)
 
 -- What stops stands before the end.
-stop_inside : (l : List ℕ) (at : ℕ) (s : Stop) → next_at l at ≡ Next.Stopped s → at < length l
+stop_inside : (l : List ℕ) (at : ℕ) (s : Stop) → next_at l at ≡ Err s → at < length l
 stop_inside l at s e = by (leb (length l) at) refl
   where
     by : (t : Bool) → leb (length l) at ≡ t → at < length l
@@ -140,28 +139,28 @@ stop_inside l at s e = by (leb (length l) at) refl
 
 -- The same for an answer x of `event_at`.
 module _ (l : List ℕ) (at : ℕ) {x : Next} (i : x ≡ next_at l at) where
-  pub rest_done : x ≡ Next.Done → rest l at ≡ ended complete
+  pub rest_done : x ≡ Ok None → rest l at ≡ ended complete
   rest_done f = rest_step l at ∙ rw (← i, f)
 
-  pub rest_stopped : {s : Stop} → x ≡ Next.Stopped s → rest l at ≡ ended (stopped at s)
+  pub rest_stopped : {s : Stop} → x ≡ Err s → rest l at ≡ ended (stopped at s)
   rest_stopped f = rest_step l at ∙ rw (← i, f)
 
-  pub rest_got : {e : Event} {next : ℕ} → x ≡ Next.Got e next → rest l at ≡ after e (rest l next)
+  pub rest_got : {e : Event} {next : ℕ} → x ≡ Ok (Some (e, next)) → rest l at ≡ after e (rest l next)
   rest_got f = rest_step l at ∙ rw (← i, f)
 
   -- An event takes at least four bytes, and the next field starts within the list or at its end.
-  pub next_past : {e : Event} {next : ℕ} → x ≡ Next.Got e next → (at + 4 ≤ next) × (next ≤ length l)
-  next_past {e} {next} f = let w : next_at l at ≡ Next.Got e next = sym i ∙ f in rw w at (past_at l at)
+  pub next_past : {e : Event} {next : ℕ} → x ≡ Ok (Some (e, next)) → (at + 4 ≤ next) × (next ≤ length l)
+  next_past {e} {next} f = let w : next_at l at ≡ Ok (Some (e, next)) = sym i ∙ f in rw w at (past_at l at)
 
 -- The whole list for an answer x of `first_of`.
 module _ (l : List ℕ) {x : First} (i : x ≡ first_of l) where
-  pub reading_failed : {s : Stop} → x ≡ First.Stopped s → reading l ≡ failed s
+  pub reading_failed : {s : Stop} → x ≡ Err s → reading l ≡ failed s
   unfolding reading
   reading_failed f = rw (← i, f)
 
-  module _ {n : ℕ} {lim : Limits} (f : x ≡ First.Nodes n lim) where
+  module _ {n : ℕ} {lim : Limits} (f : x ≡ Ok (n, lim)) where
     good : (behind l 0 ≡ 4) × (4 ≤ length l) × (length l ≤ max_bytes) × MayStart TwoPairs n lim
-    good = let w : first_of l ≡ First.Nodes n lim = sym i ∙ f in rw w at (good_of l)
+    good = let w : first_of l ≡ Ok (n, lim) = sym i ∙ f in rw w at (good_of l)
 
     -- The first field takes four bytes.
     pub reading_begun : reading l ≡ begun n lim (rest l 4)
@@ -179,9 +178,9 @@ few_events (suc k) l at h = by (next_at l at) (past_at l at) (λ n u. few_events
   where
     by : (x : Next) → Past l at x → ((n : ℕ) → n ≤ length l → n + 4 * length (read_from k l n).events ≤ length l) →
         at + 4 * length (onward at x (read_from k l)).events ≤ length l
-    by Next.Done g r = omega arith
-    by (Next.Stopped s) g r = omega arith
-    by (Next.Got e n) g r = let z = r n g.1 in omega arith
+    by (Ok None) g r = omega arith
+    by (Err s) g r = omega arith
+    by (Ok (Some (e, n))) g r = let z = r n g.1 in omega arith
 
 rest_few : (l : List ℕ) (at : ℕ) → at ≤ length l → at + 4 * length (rest l at).events ≤ length l
 unfolding rest
@@ -198,9 +197,9 @@ ends_before zero l at = tt
 ends_before (suc k) l at = by (next_at l at) refl (ends_before k l)
   where
     by : (x : Next) → next_at l at ≡ x → ((n : ℕ) → Before (length l) (read_from k l n).ending) → Before (length l) (onward at x (read_from k l)).ending
-    by Next.Done i f = tt
-    by (Next.Stopped s) i f = stop_inside l at s i
-    by (Next.Got v n) i f = f n
+    by (Ok None) i f = tt
+    by (Err s) i f = stop_inside l at s i
+    by (Ok (Some (v, n))) i f = f n
 
 rest_before : (l : List ℕ) (at b : ℕ) (s : Stop) → (rest l at).ending ≡ stopped b s → b < length l
 unfolding rest

@@ -1,5 +1,5 @@
 -- What a list of bytes means, after 01's "The list and the printed table" and "Where each refusal is met", and T-08. Each definition quotes the words it stands for.
-use Rattle.std.specs.Prelude.{Bool, not, ◌&&◌, ◌||◌, List, [], ◌∷◌, ℕ, zero, suc, ◌+◌, ◌-◌, ◌*◌, length, get_or, take, drop, eqb, leb, ltb}
+use Rattle.std.specs.Prelude.{Bool, not, ◌&&◌, ◌||◌, Option, Some, None, Result, Ok, Err, List, [], ◌∷◌, ℕ, zero, suc, ◌+◌, ◌-◌, ◌*◌, length, get_or, take, drop, eqb, leb, ltb}
 use Rattle.model.specs.Limits.{tower, stand}
 use Rattle.model.specs.Pick.{pick}
 use Rattle.model.specs.State.{wrong_count}
@@ -10,8 +10,6 @@ use Rattle.model.specs.declared.Event.TheVariants.{Crash, Recover, Check, Timeou
 use Rattle.event_list.specs.declared.Stop.{Stop}
 use Rattle.event_list.specs.declared.Stop.TheVariants.{TooLong, CutShort, WrongTag, WrongLength, WrongCount}
 use Rattle.event_list.specs.declared.Field.{Field}
-use Rattle.event_list.specs.declared.Next.{Next}
-use Rattle.event_list.specs.declared.First.{First}
 
 -- the "No." of each ground: "Refusals 2 to 6 end the list"
 abbrev pub stop_number : Stop → ℕ
@@ -75,11 +73,11 @@ unfoldable pub cut_short : List ℕ → ℕ → Bool
 cut_short l at = ltb (length l - at) 3 || ltb (length l - (at + 3)) (length_at l at)
 
 -- what stands at an offset, by the bytes that are left: nothing, too few for a field, or its tag and where its contents start and end
-unfoldable pub field_at : List ℕ → ℕ → Field
+unfoldable pub field_at : List ℕ → ℕ → Result (Option Field) Stop
 field_at l at =
-    pick (leb (length l) at) Field.End
-    (pick (cut_short l at) Field.Short
-    (Field.Whole (tag_at l at) (at + 3) (behind l at)))
+    pick (leb (length l) at) (Ok None)
+    (pick (cut_short l at) (Err CutShort)
+    (Ok (Some (record { tag = tag_at l at; start = at + 3; end = behind l at }))))
 
 -- the grounds of "a field", "Checked from the top; the first that applies is given"; `fits` says which tags may stand there, and `long` which length goes with a tag
 unfoldable pub checked : {A : Type 0} → (ℕ → Bool) → (ℕ → ℕ) → List ℕ → ℕ → (Stop → A) → A → A
@@ -109,21 +107,29 @@ event_of t c =
     (pick (eqb t 0x17) (Deliver (get_or c 0 0) (get_or c 1 0))
     (Lose (get_or c 0 0) (get_or c 1 0)))))))))
 
--- what stands at an offset past the first field: "0 bytes left later is the list's end"; else the grounds of a field, or its event and where the next field starts
+-- what stands at an offset past the first field: the list's end, a ground, or an event and where the next field starts
+abbrev pub Next : Type 0
+Next = Result (Option (Event × ℕ)) Stop
+
+-- "0 bytes left later is the list's end"; else the grounds of a field, or its event and where the next field starts
 unfoldable pub next_at : List ℕ → ℕ → Next
 next_at l at =
-    pick (leb (length l) at) Next.Done
-    (checked event_tag length_of l at Next.Stopped (Next.Got (event_of (tag_at l at) (contents_at l at)) (behind l at)))
+    pick (leb (length l) at) (Ok None)
+    (checked event_tag length_of l at Err (Ok (Some (event_of (tag_at l at) (contents_at l at), behind l at))))
+
+-- what the whole list and its first field say: a ground, or n and the table's limits
+abbrev pub First : Type 0
+First = Result (ℕ × Limits) Stop
 
 -- ground 6: "n outside 1 to 16"; T-08: "Grounds 1, 6 and 14 read the table's own limits."
 unfoldable pub nodes_of : Limits → ℕ → First
-nodes_of lim n = pick (wrong_count lim.nodes n) (First.Stopped WrongCount) (First.Nodes n lim)
+nodes_of lim n = pick (wrong_count lim.nodes n) (Err WrongCount) (Ok (n, lim))
 
 -- the ground of the "whole list", 2: "over 65,536 bytes"; then those of a field, and that of the "first field", 6
 unfoldable pub first_of : List ℕ → First
 first_of l =
-    pick (ltb max_bytes (length l)) (First.Stopped TooLong)
-    (checked first_tag length_of l 0 First.Stopped (nodes_of (limits_of (tag_at l 0)) (get_or (contents_at l 0) 0 0)))
+    pick (ltb max_bytes (length l)) (Err TooLong)
+    (checked first_tag length_of l 0 Err (nodes_of (limits_of (tag_at l 0)) (get_or (contents_at l 0) 0 0)))
 
 -- how a list ends: at its end, or "at the offset b of its field's tag" by a refusal
 pub data Ending : Type 0 where
@@ -145,9 +151,9 @@ after e r = record { events = e ∷ r.events; ending = r.ending }
 
 -- what is read from an offset on, given what is read from the next field on
 abbrev pub onward : ℕ → Next → (ℕ → Reading) → Reading
-onward at Next.Done later = ended complete
-onward at (Next.Stopped s) later = ended (stopped at s)
-onward at (Next.Got e next) later = after e (later next)
+onward at (Ok None) later = ended complete
+onward at (Err s) later = ended (stopped at s)
+onward at (Ok (Some (e, next))) later = after e (later next)
 
 -- what the next k fields from an offset on say
 unfoldable pub read_from : ℕ → List ℕ → ℕ → Reading
@@ -165,8 +171,8 @@ pub data Listed : Type 0 where
 
 -- the same by what the whole list and its first field say
 abbrev pub listed : List ℕ → First → Listed
-listed l (First.Stopped s) = failed s
-listed l (First.Nodes n lim) = begun n lim (rest l (behind l 0))
+listed l (Err s) = failed s
+listed l (Ok (n, lim)) = begun n lim (rest l (behind l 0))
 
 -- "A list is a row of fields"
 unfoldable pub reading : List ℕ → Listed

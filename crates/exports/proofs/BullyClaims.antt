@@ -1,4 +1,5 @@
 -- What is claimed of the Bully machine's step on bytes.
+use Rattle.std.specs.Prelude.{Ok, Err}
 use Prim.Native.Nat.{ℕ, ◌≤◌, ◌<◌}
 use native.Mathlib.Omega.{arith}
 use mathlib.Core.Bool.{false}
@@ -18,10 +19,8 @@ use Rattle.event_list.specs.Format.{cut_short}
 use Rattle.event_list.specs.declared.Stop.{Stop}
 use Rattle.event_list.specs.declared.Stop.TheVariants.{TooLong, CutShort, WrongTag, WrongLength, WrongCount}
 use Rattle.number_bytes.proofs.Lent.{short_in, long_in, only_short_in, keeps_in, behind_in}
-use Rattle.bully_bytes.specs.declared.FieldRead.{FieldRead}
-use Rattle.bully_bytes.specs.declared.FieldRead.TheVariants.{Stopped, Got}
 use Rattle.bully_bytes.specs.Bytes.{size}
-use Rattle.bully_bytes.specs.Field.{event_in}
+use Rattle.bully_bytes.specs.Field.{FieldRead, event_in}
 use Rattle.bully_bytes.proofs.Records.{encoded_size}
 use Rattle.bully_bytes.proofs.Reading.{field_rules}
 use Rattle.exports.specs.BullyBoundary.{state_of, state_bytes, field_number, field_after, bully_number, bully_bytes, BullyClaims}
@@ -36,12 +35,12 @@ result_small s e = by (step s e) refl
     by (accepted u) q = omega arith
 
 field_small : (s : State) (x : FieldRead) → field_number s x < 255
-field_small s (Stopped TooLong) = omega arith
-field_small s (Stopped CutShort) = omega arith
-field_small s (Stopped WrongTag) = omega arith
-field_small s (Stopped WrongLength) = omega arith
-field_small s (Stopped WrongCount) = omega arith
-field_small s (Got e) = omega (arith, result_small s e)
+field_small s (Err TooLong) = omega arith
+field_small s (Err CutShort) = omega arith
+field_small s (Err WrongTag) = omega arith
+field_small s (Err WrongLength) = omega arith
+field_small s (Err WrongCount) = omega arith
+field_small s (Ok e) = omega (arith, result_small s e)
 
 state_long : (s : State) → length (state_bytes s) ≡ size
 state_long s = encoded_size (table_of s) (first_length 16 starting_node s.nodes)
@@ -76,10 +75,10 @@ module _ (t f b : List ℕ) where
   unfolding bully_bytes
   behind = behind_in size b (bully_number t f b) given (λ _. state_long _)
 
-  no_event : (s : Stop) → size ≤ length b → event_in f ≡ Stopped s → (3 ≤ bully_number t f b) × (bully_number t f b ≤ 5)
+  no_event : (s : Stop) → size ≤ length b → event_in f ≡ Err s → (3 ≤ bully_number t f b) × (bully_number t f b ≤ 5)
   no_event s h q = rw (long h, q) (field_rules.grounds f s q)
 
-  not_in_range : (e : Event) → size ≤ length b → event_in f ≡ Got e → in_range (state_of t) ≡ false → bully_number t f b ≡ 1
+  not_in_range : (e : Event) → size ≤ length b → event_in f ≡ Ok e → in_range (state_of t) ≡ false → bully_number t f b ≡ 1
   unfolding step grounds judged pick
   not_in_range e h q away = long h ∙ rw (q, away)
 

@@ -1,4 +1,5 @@
 -- The promise of `nevraspu_bully_step` by its cases: too little room, a field that is no event, and an event.
+use Rattle.std.specs.Prelude.{Ok}
 use Prim.Native.Nat.{ℕ, ◌≤◌, ◌<◌}
 use native.Mathlib.Omega.{arith}
 use mathlib.Core.Path.{◌≡◌, sym, ◌∙◌, ap}
@@ -12,10 +13,8 @@ use Rattle.bully_model.specs.declared.Table.{Table}
 use Rattle.bully_model.specs.declared.Event.{Event}
 use Rattle.bully_model.specs.declared.Outcome.{Outcome}
 use Rattle.bully_machine.specs.Stepped.{Stepped}
-use Rattle.bully_bytes.specs.declared.FieldRead.{FieldRead}
-use Rattle.bully_bytes.specs.declared.FieldRead.TheVariants.{Got}
 use Rattle.bully_bytes.specs.Bytes.{decoded, size}
-use Rattle.bully_bytes.specs.Field.{event_in}
+use Rattle.bully_bytes.specs.Field.{FieldRead, event_in}
 use Rattle.exports.specs.BullyBoundary.{state_of, state_bytes, field_number, field_after, bully_number, bully_bytes, BullyExported}
 use Rattle.exports.specs.Parts.{BullyAnswered}
 use Rattle.exports.proofs.BullyClaims as claims
@@ -41,7 +40,7 @@ module _ (t f b : List ℕ) where
     pub no_event : (x : FieldRead) → x ≡ event_in f → (r : ℕ) → r ≡ field_number (state_of t) x → (r ≡ 0 → ⊥) → BullyExported t f b b r
     no_event x i r e h = kept_by r (e ∙ rw i (sym long)) h
 
-    pub event : (x : FieldRead) → x ≡ event_in f → {e : Event} → x ≡ Got e → (u : Outcome) → Stepped (decoded t) e u
+    pub event : (x : FieldRead) → x ≡ event_in f → {e : Event} → x ≡ Ok e → (u : Outcome) → Stepped (decoded t) e u
         → (o : List ℕ) (r : ℕ) → BullyAnswered u.answer u.table b o r → BullyExported t f b o r
     unfolding bully_bytes
     event x i {e} g u s o r a = record {
@@ -50,7 +49,7 @@ module _ (t f b : List ℕ) where
       back = λ z. a.back z room ∙ after_it;
     }
       where
-        w : event_in f ≡ Got e
+        w : event_in f ≡ Ok e
         w = sym i ∙ g
 
         q : r ≡ bully_number t f b

@@ -1,4 +1,5 @@
 -- The claims of the step on bytes.
+use Rattle.std.specs.Prelude.{Some, None, Ok, Err}
 use Prim.Native.Nat.{ℕ, ◌≤◌, ◌<◌}
 use native.Mathlib.Omega.{arith}
 use mathlib.Core.Bool.{true, false, not}
@@ -12,12 +13,10 @@ use Rattle.model.proofs.Refusals.{refuses_by_ground, result_small}
 use Rattle.model.proofs.InRange.{stays_in_range}
 use Rattle.model.proofs.Fields.{in_range_places}
 use Rattle.model.proofs.Lists.{first_length}
-use Rattle.event_list.specs.Format.{stop_number, event_tag, length_of, cut_short, checked, event_of, next_at}
+use Rattle.event_list.specs.Format.{stop_number, event_tag, length_of, cut_short, checked, event_of, Next, next_at}
 use Rattle.event_list.proofs.Fields.{uncut, checked_alone}
 use Rattle.event_list.specs.declared.Stop.{Stop}
 use Rattle.event_list.specs.declared.Stop.TheVariants.{TooLong, CutShort, WrongTag, WrongLength, WrongCount}
-use Rattle.event_list.specs.declared.Next.{Next}
-use Rattle.event_list.specs.declared.Next.TheVariants.{Done, Stopped, Got}
 use Rattle.number_bytes.proofs.Lent.{short_in, long_in, only_short_in, accepts_in, keeps_in, behind_in}
 use Rattle.table_bytes.specs.Bytes.{size}
 use Rattle.table_bytes.proofs.Records.{encoded_size}
@@ -27,20 +26,20 @@ use Rattle.exports.specs.Claims.{StepClaims}
 -- ── no number of a refusal is 255 ──
 
 field_small : (s : State) (x : Next) → field_number s x < 255
-field_small s Done = omega arith
-field_small s (Stopped TooLong) = omega arith
-field_small s (Stopped CutShort) = omega arith
-field_small s (Stopped WrongTag) = omega arith
-field_small s (Stopped WrongLength) = omega arith
-field_small s (Stopped WrongCount) = omega arith
-field_small s (Got e next) = omega (arith, result_small s e)
+field_small s (Ok None) = omega arith
+field_small s (Err TooLong) = omega arith
+field_small s (Err CutShort) = omega arith
+field_small s (Err WrongTag) = omega arith
+field_small s (Err WrongLength) = omega arith
+field_small s (Err WrongCount) = omega arith
+field_small s (Ok (Some (e, next))) = omega (arith, result_small s e)
 
 -- ── a field that is no event ──
 
 abbrev Bad : Next → Type 0
-Bad Done = Unit {0}
-Bad (Stopped s) = (3 ≤ stop_number s) × (stop_number s ≤ 5)
-Bad (Got e next) = Unit {0}
+Bad (Ok None) = Unit {0}
+Bad (Err s) = (3 ≤ stop_number s) × (stop_number s ≤ 5)
+Bad (Ok (Some (e, next))) = Unit {0}
 
 bad_at : (l : List ℕ) (at : ℕ) → Bad (next_at l at)
 unfolding next_at checked
@@ -51,9 +50,9 @@ bad_at l at =
 -- ── what an accepted event leaves is in range, so each of its lists of counts is whole ──
 
 after_in_range : (s : State) (x : Next) → Bad x → field_number s x ≡ 0 → in_range (field_after s x) ≡ true
-after_in_range s Done h z = absurd (omega (arith, z))
-after_in_range s (Stopped y) h z = absurd (omega arith)
-after_in_range s (Got e next) h z =
+after_in_range s (Ok None) h z = absurd (omega (arith, z))
+after_in_range s (Err y) h z = absurd (omega arith)
+after_in_range s (Ok (Some (e, next))) h z =
     let m = refuses_by_ground.zero_accepts s e z in
     rw m.is (stays_in_range.keeps s e m.state m.mark m.is)
 
@@ -70,7 +69,7 @@ unfolding next_at
 same_field f g h =
     let k = uncut f 0 h in
     let l : 3 ≤ length (f ++ g) = simp length-append (omega arith) in
-    rw (lt-leb (length f) 0 (omega arith), lt-leb (length (f ++ g)) 0 (omega arith)) (ap (pick false Done) (checked_alone event_tag length_of Stopped (λ t c n. Got (event_of t c) n) f g h))
+    rw (lt-leb (length f) 0 (omega arith), lt-leb (length (f ++ g)) 0 (omega arith)) (ap (pick false (Ok None)) (checked_alone event_tag length_of Err (λ t c n. Ok (Some (event_of t c, n))) f g h))
 
 -- ── the claims ──
 
@@ -113,7 +112,7 @@ module _ (t f b : List ℕ) where
   unfolding step_bytes
   behind = behind_in size b (step_number t f b) given (λ z. state_long _ (after_in_range (state_of t) (next_at f 0) (bad_at f 0) (accepts z)))
 
-  no_event : (s : Stop) → size ≤ length b → in_range (state_of t) ≡ true → next_at f 0 ≡ Stopped s → (3 ≤ step_number t f b) × (step_number t f b ≤ 5)
+  no_event : (s : Stop) → size ≤ length b → in_range (state_of t) ≡ true → next_at f 0 ≡ Err s → (3 ≤ step_number t f b) × (step_number t f b ≤ 5)
   no_event s h g q = rw (long h g, q) (rw q at (bad_at f 0))
 
 empty : (t b : List ℕ) → size ≤ length b → in_range (state_of t) ≡ true → step_number t [] b ≡ 3

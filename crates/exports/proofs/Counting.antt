@@ -1,4 +1,5 @@
 -- How the count of accepted events goes on, event by event.
+use Rattle.std.specs.Prelude.{Some, None, Ok, Err}
 use Prim.Native.Nat.{ℕ, ◌+◌, ◌≤◌}
 use native.Mathlib.Omega.{arith}
 use mathlib.Core.Path.{◌≡◌, refl, ◌∙◌, ap}
@@ -12,9 +13,7 @@ use Rattle.model.specs.Traffic.{of_accepted, tally, accepted_from}
 use Rattle.model.specs.Answers.{result_number}
 use Rattle.model.proofs.Refusals.{refuses_by_ground}
 use Rattle.model.specs.declared.Event.{Event}
-use Rattle.event_list.specs.Format.{next_at, rest}
-use Rattle.event_list.specs.declared.Next.{Next}
-use Rattle.event_list.specs.declared.Next.TheVariants.{Done, Stopped, Got}
+use Rattle.event_list.specs.Format.{Next, next_at, rest}
 use Rattle.event_list.specs.declared.Stop.{Stop}
 use Rattle.event_list.proofs.Reading.{rest_done, rest_stopped, rest_got}
 use Rattle.exports.specs.Boundary.{plus_accepted}
@@ -38,15 +37,15 @@ abbrev pub left : List ℕ → State → ℕ → ℕ
 left l s at = accepted_from s (rest l at).events
 
 module _ (l : List ℕ) (s : State) (at : ℕ) {x : Next} (i : x ≡ next_at l at) where
-  pub left_done : x ≡ Done → left l s at ≡ 0
+  pub left_done : x ≡ Ok None → left l s at ≡ 0
   unfolding tally
   left_done q = rw (rest_done l at i q)
 
-  pub left_stopped : {z : Stop} → x ≡ Stopped z → left l s at ≡ 0
+  pub left_stopped : {z : Stop} → x ≡ Err z → left l s at ≡ 0
   unfolding tally
   left_stopped q = rw (rest_stopped l at i q)
 
   -- r: the answer's number, and u the state after the event
-  pub left_got : {e : Event} {next : ℕ} → x ≡ Got e next → (k r : ℕ) → r ≡ result_number (step s e) → (u : State) → u ≡ after s e → plus_accepted k r + left l u next ≡ k + left l s at
+  pub left_got : {e : Event} {next : ℕ} → x ≡ Ok (Some (e, next)) → (k r : ℕ) → r ≡ result_number (step s e) → (u : State) → u ≡ after s e → plus_accepted k r + left l u next ≡ k + left l s at
   unfolding tally
   left_got {e} {next} q k r hr u hu = rw (rest_got l at i q, hr, hu) (omega (arith, plus_accepted_lem s e k))

@@ -1,4 +1,5 @@
 -- The promise of `nevraspu_recovery` by its cases: too little room, a refusal, and the eight records; and the claims `RecoveryClaims`.
+use Rattle.std.specs.Prelude.{Some, Ok}
 use Prim.Native.Nat.{ℕ, ◌≤◌, ◌<◌}
 use native.Mathlib.Omega.{arith}
 use mathlib.Core.Path.{◌≡◌, refl, sym, ◌∙◌, ap}
@@ -16,14 +17,13 @@ use Rattle.model.specs.Claims.{Accepts, record_after}
 use Rattle.model.proofs.Refusals.{refuses_by_ground, result_small}
 use Rattle.model.proofs.Recovery.{recovery_rules}
 use Rattle.model.specs.declared.Node.{Node}
-use Rattle.model.specs.declared.Answer.TheVariants.{Accepted}
+use Rattle.model.specs.Answers.{Accepted}
 use Rattle.model.specs.declared.Event.TheVariants.{Recover}
 use Rattle.machine.specs.declared.RecoveryAnswer.{RecoveryAnswer}
 use Rattle.machine.specs.Stepped.{RecoveryAnswered}
 use Rattle.machine.proofs.Runs.{answer_known}
 use Rattle.machine.proofs.Recovering.{recovery_alike}
 use Rattle.event_list.specs.Format.{length_of, cut_short, checked, event_of, next_at}
-use Rattle.event_list.specs.declared.Next.TheVariants.{Got}
 use Rattle.number_bytes.specs.Bytes.{many, all}
 use Rattle.table_bytes.specs.Bytes.{node_of, decoded, node_bytes, size, records_size, RecordsStored}
 use Rattle.number_bytes.proofs.Records.{all_long}
@@ -74,7 +74,7 @@ module _ (t : List ℕ) (i : ℕ) (b : List ℕ) where
 -- ── the claims ──
 
 -- the field of recover i is read as that event
-recover_read : (i : ℕ) → next_at (recover_field i) 0 ≡ Got (Recover i) 4
+recover_read : (i : ℕ) → next_at (recover_field i) 0 ≡ Ok (Some (Recover i, 4))
 unfolding length_of cut_short checked event_of next_at pick
 recover_read i = refl
 

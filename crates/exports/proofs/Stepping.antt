@@ -1,4 +1,5 @@
 -- The promise of `nevraspu_step` by its cases: too little room, a table not in range, a field that is no event, and an event.
+use Rattle.std.specs.Prelude.{Some, Ok}
 use Prim.Native.Nat.{ℕ, ◌≤◌, ◌<◌}
 use native.Mathlib.Omega.{arith}
 use mathlib.Core.Path.{◌≡◌, sym, ◌∙◌, ap}
@@ -11,9 +12,7 @@ use Rattle.model.specs.State.{State, in_range, view}
 use Rattle.model.specs.declared.Event.{Event}
 use Rattle.model.specs.declared.Outcome.{Outcome}
 use Rattle.machine.specs.Stepped.{Stepped}
-use Rattle.event_list.specs.Format.{next_at}
-use Rattle.event_list.specs.declared.Next.{Next}
-use Rattle.event_list.specs.declared.Next.TheVariants.{Got}
+use Rattle.event_list.specs.Format.{Next, next_at}
 use Rattle.table_bytes.specs.Bytes.{decoded, size}
 use Rattle.exports.specs.Boundary.{state_of, state_bytes, field_number, field_after, step_number, step_bytes, StepExported}
 use Rattle.exports.specs.Parts.{Answered}
@@ -38,7 +37,7 @@ module _ (t f b : List ℕ) where
     pub no_event : (x : Next) → x ≡ next_at f 0 → (r : ℕ) → r ≡ field_number (state_of t) x → (r ≡ 0 → ⊥) → StepExported t f b b r
     no_event x i r e h = kept_by r (e ∙ rw i (sym long)) h
 
-    pub event : (x : Next) → x ≡ next_at f 0 → {e : Event} {next : ℕ} → x ≡ Got e next → (u : Outcome) → Stepped (decoded t) e u
+    pub event : (x : Next) → x ≡ next_at f 0 → {e : Event} {next : ℕ} → x ≡ Ok (Some (e, next)) → (u : Outcome) → Stepped (decoded t) e u
         → (o : List ℕ) (r : ℕ) → Answered u.answer u.table b o r → StepExported t f b o r
     unfolding step_bytes
     event x i {e} {next} g u s o r a = record {
@@ -47,7 +46,7 @@ module _ (t f b : List ℕ) where
       back = λ z. a.back z ∙ after_it;
     }
       where
-        w : next_at f 0 ≡ Got e next
+        w : next_at f 0 ≡ Ok (Some (e, next))
         w = sym i ∙ g
 
         q : r ≡ step_number t f b

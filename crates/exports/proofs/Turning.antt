@@ -1,4 +1,5 @@
 -- The promise of `nevraspu_turn` by its cases: too little room, a refusal, and a turn that is accepted; and the claims `TurnClaims`.
+use Rattle.std.specs.Prelude.{Some, Ok}
 use Prim.Native.Nat.{ℕ, ◌+◌, ◌≤◌, ◌<◌}
 use native.Mathlib.Omega.{arith}
 use mathlib.Core.Bool.{Bool, true, false}
@@ -13,7 +14,6 @@ use Rattle.model.specs.Answers.{answer_number, result_number}
 use Rattle.model.proofs.InRange.{run_in}
 use Rattle.model.specs.declared.Event.{Event}
 use Rattle.event_list.specs.Format.{next_at}
-use Rattle.event_list.specs.declared.Next.TheVariants.{Got}
 use Rattle.number_bytes.specs.Bytes.{written}
 use Rattle.number_bytes.proofs.Lent.{short_in, long_in, only_short_in, accepts_in, keeps_in, gives_in, behind_in}
 use Rattle.table_bytes.specs.Bytes.{decoded, size}
@@ -167,7 +167,7 @@ module _ (t : List ℕ) (a b : ℕ) (l : List ℕ) where
       ∙ take_at (state_bytes (table_after (state_of t) (turn_on t a b))) _ size (table_long z)
 
 -- a turn's event, as a field for the step
-module _ (t : List ℕ) (a b : ℕ) (l m : List ℕ) (e : Event) (f : List ℕ) (room : size ≤ length m) (z : turn_answer t a b l ≡ 0) (x : event_of (pair a b) (done_in (turn_on t a b)) ≡ e ∷ []) (k : ℕ) (g : next_at f 0 ≡ Got e k) where
+module _ (t : List ℕ) (a b : ℕ) (l m : List ℕ) (e : Event) (f : List ℕ) (room : size ≤ length m) (z : turn_answer t a b l ≡ 0) (x : event_of (pair a b) (done_in (turn_on t a b)) ≡ e ∷ []) (k : ℕ) (g : next_at f 0 ≡ Ok (Some (e, k))) where
   good : in_range (state_of t) ≡ true
   good = in_range_lem (state_of t) (pair a b) (accepts t a b l z)
 

@@ -1,5 +1,5 @@
 -- What the exported functions promise: for any bytes at all, the number that is answered and what the lent buffer then holds.
-use Rattle.std.specs.Prelude.{◌≡◌, not, List, ℕ, ◌+◌, eqb}
+use Rattle.std.specs.Prelude.{Some, None, Ok, Err, ◌≡◌, not, List, ℕ, ◌+◌, eqb}
 use Rattle.model.specs.Pick.{pick}
 use Rattle.model.specs.Recovery.{recovery_records}
 use Rattle.model.specs.State.{State, start, node_at, in_range, view, table_of}
@@ -7,10 +7,8 @@ use Rattle.model.specs.Step.{step, after}
 use Rattle.model.specs.Traffic.{accepted_from}
 use Rattle.model.specs.Answers.{result_number}
 use Rattle.model.specs.declared.Event.TheVariants.{Recover}
-use Rattle.event_list.specs.Format.{Listed, failed, begun, reading, stop_number, next_at}
+use Rattle.event_list.specs.Format.{Listed, failed, begun, reading, stop_number, Next, next_at}
 use Rattle.event_list.specs.declared.Stop.TheVariants.{CutShort}
-use Rattle.event_list.specs.declared.Next.{Next}
-use Rattle.event_list.specs.declared.Next.TheVariants.{Done, Stopped, Got}
 use Rattle.number_bytes.specs.Bytes.{many, all, number_in, buffer_in}
 use Rattle.table_bytes.specs.Bytes.{node_of, decoded, node_bytes, size, encoded, records_size}
 
@@ -27,15 +25,15 @@ state_bytes s = encoded (table_of s)
 -- what a field is answered on the state s. One that is no event of 01's list: by the grounds of "a field", 3 to 5 (3 for no bytes at all: "an empty list too").
 -- An event: its refusal, or 0 where it is accepted
 abbrev pub field_number : State → Next → ℕ
-field_number s Done = stop_number CutShort
-field_number s (Stopped x) = stop_number x
-field_number s (Got e next) = result_number (step s e)
+field_number s (Ok None) = stop_number CutShort
+field_number s (Err x) = stop_number x
+field_number s (Ok (Some (e, next))) = result_number (step s e)
 
 -- the state after it
 abbrev pub field_after : State → Next → State
-field_after s Done = s
-field_after s (Stopped x) = s
-field_after s (Got e next) = after s e
+field_after s (Ok None) = s
+field_after s (Err x) = s
+field_after s (Ok (Some (e, next))) = after s e
 
 -- What is answered for the bytes of a table, t, and of a field, f, with a lent buffer that holds b: as in 01's table of grounds, the "table handed in" comes before the
 -- field and the event

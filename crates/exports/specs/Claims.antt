@@ -1,10 +1,9 @@
 -- What is claimed of the step on bytes, of the records of a recovery in bytes, and of a turn on bytes. The proofs are in proofs/Claims, proofs/Recovering and proofs/Turning.
-use Rattle.std.specs.Prelude.{ℕ, ◌≤◌, ◌<◌, true, false, ◌⊎◌, ◌≡◌, List, [], ◌∷◌, ◌++◌, length, take, drop}
+use Rattle.std.specs.Prelude.{Some, Ok, Err, ℕ, ◌≤◌, ◌<◌, true, false, ◌⊎◌, ◌≡◌, List, [], ◌∷◌, ◌++◌, length, take, drop}
 use Rattle.model.specs.State.{node_at, in_range}
 use Rattle.model.specs.Claims.{record_after}
 use Rattle.event_list.specs.Format.{cut_short, next_at}
 use Rattle.event_list.specs.declared.Stop.{Stop}
-use Rattle.event_list.specs.declared.Next.TheVariants.{Stopped, Got}
 use Rattle.model.specs.declared.Event.{Event}
 use Rattle.round.specs.Order.{pair}
 use Rattle.round.specs.Turn.{event_of, done_in}
@@ -27,7 +26,7 @@ pub record StepClaims : Type 0 where
   pub not_in_range : (t f b : List ℕ) → size ≤ length b → in_range (state_of t) ≡ false → step_number t f b ≡ 1
   -- with one in range, no bytes are no field, 3; any other bytes that are no event are answered by 3, 4 or 5
   pub empty : (t b : List ℕ) → size ≤ length b → in_range (state_of t) ≡ true → step_number t [] b ≡ 3
-  pub no_event : (t f b : List ℕ) (s : Stop) → size ≤ length b → in_range (state_of t) ≡ true → next_at f 0 ≡ Stopped s → (3 ≤ step_number t f b) × (step_number t f b ≤ 5)
+  pub no_event : (t f b : List ℕ) (s : Stop) → size ≤ length b → in_range (state_of t) ≡ true → next_at f 0 ≡ Err s → (3 ≤ step_number t f b) × (step_number t f b ≤ 5)
   -- bytes behind a field that is there whole are not looked at
   pub first_alone : (t f g b : List ℕ) → cut_short f 0 ≡ false → (step_number t (f ++ g) b ≡ step_number t f b) × (step_bytes t (f ++ g) b ≡ step_bytes t f b)
 
@@ -63,5 +62,5 @@ pub record TurnClaims : Type 0 where
   pub not_in_range : (t : List ℕ) (a b : ℕ) (l : List ℕ) → turn_size ≤ length l → in_range (state_of t) ≡ false → turn_answer t a b l ≡ 1
   -- With room in both buffers, a turn that delivers or loses a message, which is the event e, leaves the bytes of the table that nevraspu_step leaves for e. f is a field that is read as e, up to k.
   pub as_step : (t : List ℕ) (a b : ℕ) (l m : List ℕ) (e : Event) (f : List ℕ) (k : ℕ) → turn_size ≤ length l → size ≤ length m
-      → event_of (pair a b) (done_in (turn_on t a b)) ≡ e ∷ [] → next_at f 0 ≡ Got e k
+      → event_of (pair a b) (done_in (turn_on t a b)) ≡ e ∷ [] → next_at f 0 ≡ Ok (Some (e, k))
       → (turn_answer t a b l ≡ 0) × (step_number t f m ≡ 0) × (take size (step_bytes t f m) ≡ take size (turn_bytes t a b l))

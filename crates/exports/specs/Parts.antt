@@ -3,11 +3,9 @@ use Rattle.std.specs.Prelude.{◌≡◌, List, ◌++◌, ℕ, ◌≤◌, length,
 use Rattle.model.specs.State.{view}
 use Rattle.bully_model.specs.State as bully
 use Rattle.bully_model.specs.Answers as bully_answers
-use Rattle.bully_model.specs.declared.Answer as bully_answer
 use Rattle.bully_model.specs.declared.Table as bully_table
 use Rattle.bully_bytes.specs.Bytes as bully_bytes
-use Rattle.model.specs.Answers.{answer_number}
-use Rattle.model.specs.declared.Answer.{Answer}
+use Rattle.model.specs.Answers.{Answer, answer_number}
 use Rattle.model.specs.declared.Table.{Table}
 use Rattle.table_bytes.specs.Bytes.{size}
 use Rattle.exports.specs.Boundary.{state_of, state_bytes}
@@ -21,7 +19,7 @@ pub record Answered (a : Answer) (t : Table) (b o : List ℕ) (r : ℕ) : Type 0
   pub back : r ≡ 0 → state_of o ≡ view t
 
 -- the same of the Bully machine; `whole` and `back` ask that the buffer has the room
-pub record BullyAnswered (a : bully_answer.Answer) (t : bully_table.Table) (b o : List ℕ) (r : ℕ) : Type 0 where
+pub record BullyAnswered (a : bully_answers.Answer) (t : bully_table.Table) (b o : List ℕ) (r : ℕ) : Type 0 where
   pub number : r ≡ bully_answers.answer_number a
   pub kept : (r ≡ 0 → ⊥) → o ≡ b
   pub whole : r ≡ 0 → bully_bytes.size ≤ length b → o ≡ bully_boundary.state_bytes (bully.view t) ++ drop bully_bytes.size b

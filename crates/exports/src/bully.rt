@@ -1,35 +1,23 @@
 // The step of the Bully machine (02, T-07) on bytes. What is answered, and what out then holds, is in specs/BullyBoundary.
 ghost use Rattle.std.specs.Prelude.{◌≡◌};
-ghost use Rattle.bully_model.specs.State.{starting_node, view, table_of};
-ghost use Rattle.model.specs.State.{first_of};
+ghost use Rattle.bully_model.specs.State.{view, table_of};
 ghost use Rattle.exports.specs.BullyBoundary.{BullyExported};
 ghost use Rattle.exports.specs.Parts.{BullyAnswered};
 
-use bully_bytes::FieldRead;
-use bully_model::{Answer, Node, Table};
-
-fn cleared_nodes(t: Table) -> [Node; 16]
-    ensures { result ≡ first_of 16 starting_node (view t).nodes }
-{
-    let none = bully_machine::starting_node();
-    let mut all = t.nodes;
-    let mut i = t.n as usize;
-    while i < 16 {
-        all[i] = none;
-        i += 1;
-    }
-    all
-}
+use crate::clear;
+use bully_model::{Answer, Table};
 
 // The table with nothing in the places past its n records, so that its bytes depend on what it means alone.
-fn cleared(t: Table) -> Table
+fn cleared(mut t: Table) -> Table
     ensures { result ≡ table_of (view t) }
 {
-    let nodes = cleared_nodes(t);
-    Table { nodes: nodes, ..t }
+    let n = t.n;
+    clear(&mut t.nodes, n, bully_machine::starting_node());
+    t
 }
 
 // The number of an answer; where it is 0, the table is written to out.
+// kept: beside crate::answered. The answer, the table, its form and the room differ; a closure for each would be as long as the function.
 fn answered(answer: Answer, t: Table, out: &mut [u8]) -> u8
     ensures { BullyAnswered answer t out.old out.new result }
 {
@@ -56,12 +44,10 @@ pub extern "C" fn nevraspu_bully_step(table: &[u8], field: &[u8], out: &mut [u8]
         return 255;
     }
     match bully_bytes::event_in(field) {
-        FieldRead::Stopped(s) => event_list::stop_number(s),
-        FieldRead::Got(event) => {
+        Err(stop) => event_list::stop_number(stop),
+        Ok(event) => {
             let o = bully_machine::step(bully_bytes::decode(table), event);
-            let next = o.table;
-            let answer = o.answer;
-            answered(answer, next, out)
+            answered(o.answer, o.table, out)
         }
     }
 }

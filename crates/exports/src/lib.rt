@@ -20,62 +20,28 @@ ghost use Rattle.exports.specs.Boundary.{StepExported, RecoveryExported, plus_ac
 ghost use Rattle.exports.specs.Parts.{Answered};
 
 pub use bully::nevraspu_bully_step;
-use event_list::{First, Next};
-use model::{Answer, CallNo, GroupNo, Message, Node, Table, TaskNo};
+use model::{Answer, Table};
 pub use turn::nevraspu_turn;
 
-// The message that stands in places which are no part of a table; the record is machine::starting_node.
-fn no_message() -> Message
-    ensures { result ≡ no_message }
+// Writes `none` into each place from n on.
+fn clear<T: Copy>(all: &mut [T], n: u8, none: T)
+    requires copied { T.is_infallible none }
+    requires same { (y : T) → T.is_clone none y → y ≡ none }
+    ensures { all.new ≡ first_of (length all.old) none (first_of n none all.old) }
 {
-    Message {
-        sender: 0,
-        receiver: 0,
-        kind: 0,
-        call: CallNo { number: 0 },
-        group: GroupNo { number: 0 },
-        task: TaskNo { number: 0 },
-        yes: false,
-    }
-}
-
-fn cleared_nodes(t: Table) -> [Node; 16]
-    ensures { result ≡ first_of 16 starting_node (view t).nodes }
-{
-    let none = machine::starting_node();
-    let mut all = t.nodes;
-    let mut i = t.n as usize;
-    while i < 16 {
-        all[i] = none;
-        i += 1;
-    }
-    all
-}
-
-fn cleared_messages(t: Table) -> [Message; 64]
-    ensures { result ≡ first_of 64 no_message (view t).queue }
-{
-    let none = no_message();
-    let mut all = t.messages;
-    let mut i = t.waiting as usize;
-    while i < 64 {
-        all[i] = none;
-        i += 1;
-    }
-    all
+    let from = usize::from(n).min(all.len());
+    all[from..].fill(none)
 }
 
 // The table with nothing in the places past its n records and its waiting messages, so that its bytes depend on what it means alone.
-fn cleared(t: Table) -> Table
+fn cleared(mut t: Table) -> Table
     ensures { result ≡ table_of (view t) }
 {
-    let nodes = cleared_nodes(t);
-    let messages = cleared_messages(t);
-    Table {
-        nodes: nodes,
-        messages: messages,
-        ..t
-    }
+    let n = t.n;
+    let waiting = t.waiting;
+    clear(&mut t.nodes, n, machine::starting_node());
+    clear(&mut t.messages, waiting, predicates::no_message());
+    t
 }
 
 // The number of an answer; where it is 0, the table is written to out, over just the bytes that it needs: so that the compiler knows their number and leaves out the test of each place.
@@ -111,13 +77,11 @@ pub extern "C" fn nevraspu_step(table: &[u8], field: &[u8], out: &mut [u8]) -> u
         return 1;
     }
     match event_list::event_at(field, 0) {
-        Next::Done => 3,
-        Next::Stopped(s) => event_list::stop_number(s),
-        Next::Got(event, _) => {
+        Ok(None) => 3,
+        Err(stop) => event_list::stop_number(stop),
+        Ok(Some((event, _))) => {
             let o = machine::advance(t, event);
-            let next = o.table;
-            let answer = o.answer;
-            answered(answer, next, out)
+            answered(o.answer, o.table, out)
         }
     }
 }
@@ -137,25 +101,21 @@ pub extern "C" fn nevraspu_recovery(table: &[u8], node: u8, out: &mut [u8]) -> u
         return 255;
     }
     let q = machine::recovery(table_bytes::decode(table), node);
-    let answer = q.answer;
-    let records = q.records;
-    let r = predicates::answer_number(answer);
+    let r = predicates::answer_number(q.answer);
     if r != 0 {
         return r;
     }
-    table_bytes::encode_records(records, out);
+    table_bytes::encode_records(q.records, out);
     r
 }
 
 // One more where the number is 0.
+// kept: the answer's number, as `plus_accepted` of specs/Boundary takes it.
 fn counted(count: u32, number: u8) -> u32
     requires { count ≤ 65536 }
     ensures { result ≡ plus_accepted count number }
 {
-    if number == 0 {
-        return count + 1;
-    }
-    count
+    if number == 0 { count + 1 } else { count }
 }
 
 fn fold_from(list: &[u8], start: Table) -> u32
@@ -165,20 +125,14 @@ fn fold_from(list: &[u8], start: Table) -> u32
     let mut t = start;
     let mut at: usize = 4;
     let mut count: u32 = 0;
-    loop {
-        match event_list::event_at(list, at) {
-            Next::Done => return count,
-            Next::Stopped(_) => return count,
-            Next::Got(event, next) => {
-                let o = machine::step(t, event);
-                let answer = o.answer;
-                count = counted(count, predicates::answer_number(answer));
-                let after = o.table;
-                t = after;
-                at = next;
-            }
-        }
+    // kept: a loop over offsets, which `event_at` gives one by one
+    while let Ok(Some((event, next))) = event_list::event_at(list, at) {
+        let o = machine::step(t, event);
+        count = counted(count, predicates::answer_number(o.answer));
+        t = o.table;
+        at = next;
     }
+    count
 }
 
 // How many events of a list, up to its end or to where it stops, are accepted, each by the step with its check of the range. 0 where the whole list or its
@@ -188,11 +142,7 @@ pub extern "C" fn nevraspu_fold(list: &[u8]) -> u32
     ensures { result ≡ accepted_in list.now }
 {
     match event_list::first_of(list) {
-        First::Stopped(_) => 0,
-        First::Nodes(n, limits) => {
-            let begun = machine::starting(n, limits);
-            let t = begun.table;
-            fold_from(list, t)
-        }
+        Err(_) => 0,
+        Ok((n, limits)) => fold_from(list, machine::starting(n, limits).table),
     }
 }

@@ -46,14 +46,10 @@ pub extern "C" fn nevraspu_turn(table: &[u8], a: u8, b: u8, out: &mut [u8]) -> u
         receiver: b,
     };
     let o = driver::turn(table_bytes::decode(table), p);
-    let next = o.table;
-    let place = o.place;
-    let done = o.done;
-    let answer = o.answer;
-    let r = predicates::answer_number(answer);
+    let r = predicates::answer_number(o.answer);
     if r != 0 {
         return r;
     }
-    put_behind(out, place, done);
-    answered(answer, next, out)
+    put_behind(out, o.place, o.done);
+    answered(o.answer, o.table, out)
 }

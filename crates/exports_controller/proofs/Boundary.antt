@@ -1,4 +1,5 @@
 -- What is claimed of the controller on bytes.
+use Rattle.std.specs.Prelude.{Ok, Err}
 use Prim.Native.Nat.{ℕ, ◌≤◌, ◌<◌}
 use native.Mathlib.Omega.{arith}
 use mathlib.Core.Bool.{true, false}
@@ -21,9 +22,7 @@ use Rattle.controller.specs.declared.LocalEvent.{LocalEvent}
 use Rattle.controller.specs.Controller.{event, message, as_event, in_range_for, Result, controller_step, result_number, node_after, sent_in}
 use Rattle.controller.proofs.Steps.{out_of_range, other_event, wrong_bytes, good_bytes, other_message}
 use Rattle.controller.proofs.Alone.{controller_small, sent_short}
-use Rattle.exports_controller.specs.declared.FieldRead.{FieldRead}
-use Rattle.exports_controller.specs.declared.FieldRead.TheVariants.{Stopped, Got}
-use Rattle.exports_controller.specs.Field.{event_in}
+use Rattle.exports_controller.specs.Field.{FieldRead, event_in}
 use Rattle.exports_controller.specs.Boundary.{outcome_size, outcome_bytes, field_step, event_number, event_bytes, message_number, message_bytes, ControllerEventClaims, ControllerMessageClaims}
 use Rattle.exports_controller.proofs.Reading.{field_grounds, field_alone, queue_tag}
 use Rattle.exports_controller.proofs.Outcomes.{given_long}
@@ -32,16 +31,16 @@ use Rattle.exports_controller.proofs.Outcomes.{given_long}
 
 -- no number of a refusal is 255
 field_small : (n i : ℕ) (c : Node) (x : FieldRead) → result_number (field_step n i c x) < 255
-field_small n i c (Stopped TooLong) = omega arith
-field_small n i c (Stopped CutShort) = omega arith
-field_small n i c (Stopped WrongTag) = omega arith
-field_small n i c (Stopped WrongLength) = omega arith
-field_small n i c (Stopped WrongCount) = omega arith
-field_small n i c (Got e) = omega (arith, controller_small n i c (event e))
+field_small n i c (Err TooLong) = omega arith
+field_small n i c (Err CutShort) = omega arith
+field_small n i c (Err WrongTag) = omega arith
+field_small n i c (Err WrongLength) = omega arith
+field_small n i c (Err WrongCount) = omega arith
+field_small n i c (Ok e) = omega (arith, controller_small n i c (event e))
 
 field_sent : (n i : ℕ) (c : Node) (x : FieldRead) → length (sent_in (field_step n i c x)) ≤ most_bytes
-field_sent n i c (Stopped s) = omega arith
-field_sent n i c (Got e) = sent_short n i c (event e)
+field_sent n i c (Err s) = omega arith
+field_sent n i c (Ok e) = sent_short n i c (event e)
 
 module _ (n i : ℕ) (r f b : List ℕ) where
   abbrev result : Result
@@ -74,18 +73,18 @@ module _ (n i : ℕ) (r f b : List ℕ) where
   by_field : (x : FieldRead) → outcome_size ≤ length b → event_in f ≡ x → event_number n i r f b ≡ result_number (field_step n i (node_of r) x)
   by_field x h q = long h ∙ ap (λ (y : FieldRead). result_number (field_step n i (node_of r) y)) q
 
-  no_event : (s : Stop) → outcome_size ≤ length b → event_in f ≡ Stopped s → event_number n i r f b ≡ stop_number s
-  no_event s h q = by_field (Stopped s) h q
+  no_event : (s : Stop) → outcome_size ≤ length b → event_in f ≡ Err s → event_number n i r f b ≡ stop_number s
+  no_event s h q = by_field (Err s) h q
 
   queue_events : outcome_size ≤ length b → cut_short f 0 ≡ false → between 0x17 0x18 (tag_at f 0) ≡ true → event_number n i r f b ≡ 4
-  queue_events h w t = by_field (Stopped WrongTag) h (queue_tag f w t)
+  queue_events h w t = by_field (Err WrongTag) h (queue_tag f w t)
 
-  other_node : (e : LocalEvent) → outcome_size ≤ length b → event_in f ≡ Got e → in_range_for n i (node_of r) ≡ true → wrong_number n (as_event e) ≡ false → wrong_task (as_event e) ≡ false → (actor (as_event e) ≡ i → ⊥) → event_number n i r f b ≡ 21
+  other_node : (e : LocalEvent) → outcome_size ≤ length b → event_in f ≡ Ok e → in_range_for n i (node_of r) ≡ true → wrong_number n (as_event e) ≡ false → wrong_task (as_event e) ≡ false → (actor (as_event e) ≡ i → ⊥) → event_number n i r f b ≡ 21
   unfolding first pick
-  other_node e h q ok a t o = by_field (Got e) h q ∙ ap result_number (other_event n i (node_of r) e ok (rw (a, t)) o)
+  other_node e h q ok a t o = by_field (Ok e) h q ∙ ap result_number (other_event n i (node_of r) e ok (rw (a, t)) o)
 
-  not_in_range : (e : LocalEvent) → outcome_size ≤ length b → event_in f ≡ Got e → in_range_for n i (node_of r) ≡ false → event_number n i r f b ≡ 1
-  not_in_range e h q away = by_field (Got e) h q ∙ ap result_number (out_of_range n i (node_of r) (event e) away)
+  not_in_range : (e : LocalEvent) → outcome_size ≤ length b → event_in f ≡ Ok e → in_range_for n i (node_of r) ≡ false → event_number n i r f b ≡ 1
+  not_in_range e h q away = by_field (Ok e) h q ∙ ap result_number (out_of_range n i (node_of r) (event e) away)
 
 module _ (n i : ℕ) (r f g b : List ℕ) (h : cut_short f 0 ≡ false) where
   same_number : event_number n i r (f ++ g) b ≡ event_number n i r f b
@@ -112,7 +111,7 @@ controller_event_claims =
       only_short = only_short;
       keeps = keeps;
       behind = behind;
-      empty = λ n i r b h. by_field n i r [] b (Stopped CutShort) h refl;
+      empty = λ n i r b h. by_field n i r [] b (Err CutShort) h refl;
       no_event = no_event;
       field_grounds = field_grounds;
       queue_events = queue_events;

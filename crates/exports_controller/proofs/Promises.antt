@@ -1,4 +1,5 @@
 -- What `answered` leaves in a buffer; and the promises of the exported functions by their cases: too little room, a refusal, and an outcome in bytes.
+use Rattle.std.specs.Prelude.{Ok, Err}
 use Prim.Native.Nat.{ℕ, ◌≤◌, ◌<◌}
 use native.Mathlib.Omega.{arith}
 use mathlib.Core.Path.{◌≡◌, sym, ◌∙◌, ap}
@@ -20,11 +21,8 @@ use Rattle.controller.specs.declared.LocalEvent.{LocalEvent}
 use Rattle.controller.specs.declared.ControllerOutcome.{ControllerOutcome}
 use Rattle.controller.specs.Controller.{event, message, Result, controller_step, result_number, node_after, sent_in}
 use Rattle.controller.specs.Stepped.{OutcomeOf, ControllerStepped}
-use Rattle.controller.proofs.Steps.{same_outcome}
 use Rattle.controller.proofs.Alone.{sent_short}
-use Rattle.exports_controller.specs.declared.FieldRead.{FieldRead}
-use Rattle.exports_controller.specs.declared.FieldRead.TheVariants.{Stopped, Got}
-use Rattle.exports_controller.specs.Field.{event_in}
+use Rattle.exports_controller.specs.Field.{FieldRead, event_in}
 use Rattle.exports_controller.specs.Boundary.{outcome_size, outcome_bytes, field_step, event_number, event_bytes, message_number, message_bytes, ReadBack, EventExported, MessageExported}
 use Rattle.exports_controller.specs.Parts.{packet_bytes, Answered}
 use Rattle.exports_controller.proofs.Outcomes.{given_sent}
@@ -93,6 +91,10 @@ module _ (c : Node) (y : Result) (b : List ℕ) where
         buffer : o ≡ buffer_in outcome_size b answer (outcome_bytes c y)
         buffer = a.buffer ∙ rw (number, s.node, s.packet.bytes, s.packet.length)
 
+-- an outcome of a result is one of what is equal to it
+same_outcome : {c : Node} {y z : Result} {q : ControllerOutcome} → z ≡ y → OutcomeOf c y q → OutcomeOf c z q
+same_outcome e s = rw e s
+
 -- ── nevraspu_controller_event ──
 
 module _ (n i : ℕ) (r f b : List ℕ) where
@@ -108,11 +110,11 @@ module _ (n i : ℕ) (r f b : List ℕ) where
 
   module _ (room : outcome_size ≤ length b) where
     -- x is answered for the ground s
-    pub no_event : {s : Stop} → event_in f ≡ Stopped s → (x : ℕ) → x ≡ stop_number s → EventExported n i r f b b x
+    pub no_event : {s : Stop} → event_in f ≡ Err s → (x : ℕ) → x ≡ stop_number s → EventExported n i r f b b x
     no_event {s} q x e = event_exported (refusal (node_of r) result b room x (e ∙ sym (ap (λ (y : FieldRead). result_number (field_step n i (node_of r) y)) q)) (λ z. refuses s (sym e ∙ z)))
 
     -- q is the outcome of the event e
-    pub event_stepped : {e : LocalEvent} → event_in f ≡ Got e → (q : ControllerOutcome) → ControllerStepped n i (node_of r) (event e) q → (o : List ℕ) (x : ℕ) → Answered q b o x → EventExported n i r f b o x
+    pub event_stepped : {e : LocalEvent} → event_in f ≡ Ok e → (q : ControllerOutcome) → ControllerStepped n i (node_of r) (event e) q → (o : List ℕ) (x : ℕ) → Answered q b o x → EventExported n i r f b o x
     event_stepped {e} w q t o x a =
         let y = ap (field_step n i (node_of r)) w in
         event_exported (outcome (node_of r) result b room (rw y (sent_short n i (node_of r) (event e))) q (same_outcome y t) o x a)

@@ -1,6 +1,6 @@
 -- What nevraspu_controller_event and nevraspu_controller_message promise (02, T-11): for any numbers and any bytes at all, the number that is answered and what the lent buffer then holds; and what
 -- is claimed of them. The proofs are in proofs/Boundary.
-use Rattle.std.specs.Prelude.{◌≡◌, true, false, List, [], ◌∷◌, ◌++◌, ℕ, ◌+◌, ◌*◌, ◌≤◌, ◌<◌, length, get_or, take, drop, replicate}
+use Rattle.std.specs.Prelude.{Ok, Err, ◌≡◌, true, false, List, [], ◌∷◌, ◌++◌, ℕ, ◌+◌, ◌*◌, ◌≤◌, ◌<◌, length, get_or, take, drop, replicate}
 use Rattle.model.specs.State.{starting_node}
 use Rattle.model.specs.Step.{actor, wrong_number, wrong_task}
 use Rattle.model.specs.declared.Node.{Node}
@@ -12,9 +12,7 @@ use Rattle.message_fields.specs.Fields.{message_in, is_message, padded}
 use Rattle.controller.specs.Controller.{event, message, as_event, in_range_for, Result, refused, controller_step, result_number, node_after, sent_in}
 use Rattle.controller.specs.declared.LocalEvent.{LocalEvent}
 use Rattle.controller.specs.declared.LocalEvent.TheVariants.{Crash, Recover, Check, Timeout, Tick, Expire, Finish}
-use Rattle.exports_controller.specs.declared.FieldRead.{FieldRead}
-use Rattle.exports_controller.specs.declared.FieldRead.TheVariants.{Stopped, Got}
-use Rattle.exports_controller.specs.Field.{event_in}
+use Rattle.exports_controller.specs.Field.{FieldRead, event_in}
 
 -- ── what both give out ──
 
@@ -30,8 +28,8 @@ outcome_bytes c y = node_bytes (node_after c y) ++ (bytes 1 (length (sent_in y))
 
 -- A field that is no event is answered by its ground, 3 to 5, whatever the others are; 1 is a ground of an event.
 abbrev pub field_step : ℕ → ℕ → Node → FieldRead → Result
-field_step n i c (Stopped x) = refused (stop_number x)
-field_step n i c (Got e) = controller_step n i c (event e)
+field_step n i c (Err x) = refused (stop_number x)
+field_step n i c (Ok e) = controller_step n i c (event e)
 
 -- What is answered by controller i of n for the bytes of its record, r, and of a field, f, with a lent buffer that holds b
 unfoldable pub event_number : ℕ → ℕ → List ℕ → List ℕ → List ℕ → ℕ
@@ -81,25 +79,25 @@ pub record ControllerEventClaims : Type 0 where
   pub behind : (n i : ℕ) (r f b : List ℕ) → drop outcome_size (event_bytes n i r f b) ≡ drop outcome_size b
   -- no bytes are no field, 3; any other bytes that are no event of a controller are answered by their ground, 3, 4 or 5, whatever the others are
   pub empty : (n i : ℕ) (r b : List ℕ) → outcome_size ≤ length b → event_number n i r [] b ≡ 3
-  pub no_event : (n i : ℕ) (r f b : List ℕ) (s : Stop) → outcome_size ≤ length b → event_in f ≡ Stopped s → event_number n i r f b ≡ stop_number s
-  pub field_grounds : (f : List ℕ) (s : Stop) → event_in f ≡ Stopped s → (3 ≤ stop_number s) × (stop_number s ≤ 5)
+  pub no_event : (n i : ℕ) (r f b : List ℕ) (s : Stop) → outcome_size ≤ length b → event_in f ≡ Err s → event_number n i r f b ≡ stop_number s
+  pub field_grounds : (f : List ℕ) (s : Stop) → event_in f ≡ Err s → (3 ≤ stop_number s) × (stop_number s ≤ 5)
   -- a whole field with the tag of deliver or lose by 4, whatever its length is
   pub queue_events : (n i : ℕ) (r f b : List ℕ) → outcome_size ≤ length b → cut_short f 0 ≡ false → between 0x17 0x18 (tag_at f 0) ≡ true → event_number n i r f b ≡ 4
   -- those of the other seven are read as their events
-  pub crash : (i : ℕ) → event_in (0x10 ∷ 0 ∷ 1 ∷ i ∷ []) ≡ Got (Crash i)
-  pub recover : (i : ℕ) → event_in (0x11 ∷ 0 ∷ 1 ∷ i ∷ []) ≡ Got (Recover i)
-  pub check : (i : ℕ) → event_in (0x12 ∷ 0 ∷ 1 ∷ i ∷ []) ≡ Got (Check i)
-  pub timeout : (i : ℕ) → event_in (0x13 ∷ 0 ∷ 1 ∷ i ∷ []) ≡ Got (Timeout i)
-  pub tick : (i : ℕ) → event_in (0x14 ∷ 0 ∷ 1 ∷ i ∷ []) ≡ Got (Tick i)
-  pub expire : (i : ℕ) → event_in (0x15 ∷ 0 ∷ 1 ∷ i ∷ []) ≡ Got (Expire i)
-  pub finish : (i high low : ℕ) → event_in (0x16 ∷ 0 ∷ 3 ∷ i ∷ high ∷ low ∷ []) ≡ Got (Finish i (record { number = high * 256 + low }))
+  pub crash : (i : ℕ) → event_in (0x10 ∷ 0 ∷ 1 ∷ i ∷ []) ≡ Ok (Crash i)
+  pub recover : (i : ℕ) → event_in (0x11 ∷ 0 ∷ 1 ∷ i ∷ []) ≡ Ok (Recover i)
+  pub check : (i : ℕ) → event_in (0x12 ∷ 0 ∷ 1 ∷ i ∷ []) ≡ Ok (Check i)
+  pub timeout : (i : ℕ) → event_in (0x13 ∷ 0 ∷ 1 ∷ i ∷ []) ≡ Ok (Timeout i)
+  pub tick : (i : ℕ) → event_in (0x14 ∷ 0 ∷ 1 ∷ i ∷ []) ≡ Ok (Tick i)
+  pub expire : (i : ℕ) → event_in (0x15 ∷ 0 ∷ 1 ∷ i ∷ []) ≡ Ok (Expire i)
+  pub finish : (i high low : ℕ) → event_in (0x16 ∷ 0 ∷ 3 ∷ i ∷ high ∷ low ∷ []) ≡ Ok (Finish i (record { number = high * 256 + low }))
   -- 29 zero bytes, as no bytes at all, are the record of the start
   pub starts : node_of (replicate 29 0) ≡ starting_node
   pub starts_none : node_of [] ≡ starting_node
   -- an event with an n, an own number or a record out of range is answered by 1
-  pub not_in_range : (n i : ℕ) (r f b : List ℕ) (e : LocalEvent) → outcome_size ≤ length b → event_in f ≡ Got e → in_range_for n i (node_of r) ≡ false → event_number n i r f b ≡ 1
+  pub not_in_range : (n i : ℕ) (r f b : List ℕ) (e : LocalEvent) → outcome_size ≤ length b → event_in f ≡ Ok e → in_range_for n i (node_of r) ≡ false → event_number n i r f b ≡ 1
   -- an event with good numbers for another node by 21
-  pub other_node : (n i : ℕ) (r f b : List ℕ) (e : LocalEvent) → outcome_size ≤ length b → event_in f ≡ Got e → in_range_for n i (node_of r) ≡ true → wrong_number n (as_event e) ≡ false → wrong_task (as_event e) ≡ false
+  pub other_node : (n i : ℕ) (r f b : List ℕ) (e : LocalEvent) → outcome_size ≤ length b → event_in f ≡ Ok e → in_range_for n i (node_of r) ≡ true → wrong_number n (as_event e) ≡ false → wrong_task (as_event e) ≡ false
       → (actor (as_event e) ≡ i → ⊥) → event_number n i r f b ≡ 21
   -- bytes behind a field that is there whole are not looked at
   pub first_alone : (n i : ℕ) (r f g b : List ℕ) → cut_short f 0 ≡ false → (event_number n i r (f ++ g) b ≡ event_number n i r f b) × (event_bytes n i r (f ++ g) b ≡ event_bytes n i r f b)

@@ -1,22 +1,20 @@
 -- What the inner functions read, and leave in a buffer. No promise of a public function needs this file.
-use Rattle.std.specs.Prelude.{◌≡◌, List, ◌++◌, ℕ}
+use Rattle.std.specs.Prelude.{Some, None, Ok, Err, ◌≡◌, List, ◌++◌, ℕ}
 use Rattle.model.specs.Answers.{answer_number}
 use Rattle.number_bytes.specs.Bytes.{bytes, buffer_in}
 use Rattle.table_bytes.specs.Bytes.{node_of, node_bytes}
 use Rattle.event_list.specs.declared.Stop.TheVariants.{CutShort}
-use Rattle.event_list.specs.declared.Next.{Next}
+use Rattle.event_list.specs.Format.{Next}
 use Rattle.message_fields.specs.declared.Packet.{Packet}
 use Rattle.controller.specs.declared.ControllerOutcome.{ControllerOutcome}
-use Rattle.exports_controller.specs.declared.FieldRead.{FieldRead}
-use Rattle.exports_controller.specs.declared.FieldRead.TheVariants.{Stopped}
-use Rattle.exports_controller.specs.Field.{local_of}
+use Rattle.exports_controller.specs.Field.{FieldRead, local_of}
 use Rattle.exports_controller.specs.Boundary.{outcome_size}
 
 -- what the list reader's answer is to a controller
 abbrev pub read_as : Next → FieldRead
-read_as Next.Done = Stopped CutShort
-read_as (Next.Stopped s) = Stopped s
-read_as (Next.Got e k) = local_of e
+read_as (Ok None) = Err CutShort
+read_as (Err s) = Err s
+read_as (Ok (Some (e, k))) = local_of e
 
 -- a packet: how many of its bytes are a message's, and all of its bytes
 abbrev pub packet_bytes : Packet → List ℕ

@@ -16,7 +16,7 @@ ghost use Rattle.exports_controller.specs.Boundary.{outcome_size, EventExported,
 ghost use Rattle.exports_controller.specs.Parts.{read_as, packet_bytes, Answered};
 
 use controller::{ControllerOutcome, LocalEvent};
-use event_list::{Field, Next, Stop};
+use event_list::Stop;
 use message_fields::Packet;
 use model::Event;
 
@@ -27,55 +27,42 @@ const BYTES_AT: usize = 30;
 
 const OUTCOME_SIZE: usize = 55;
 
-// What a field says: why it is no event of a controller, or its event.
-#[derive(Clone, Copy)]
-pub enum FieldRead {
-    Stopped(Stop),
-    Got(LocalEvent),
-}
-
 // An event of a list as one of a controller: deliver and lose are none.
-fn local_of(e: Event) -> FieldRead
+// kept: a function, as a TryFrom is no plainer: neither type is this crate's, so it could not be written here.
+fn local_of(e: Event) -> Result<LocalEvent, Stop>
     ensures { result ≡ local_of e }
 {
     match e {
-        Event::Crash(i) => FieldRead::Got(LocalEvent::Crash(i)),
-        Event::Recover(i) => FieldRead::Got(LocalEvent::Recover(i)),
-        Event::Check(i) => FieldRead::Got(LocalEvent::Check(i)),
-        Event::Timeout(i) => FieldRead::Got(LocalEvent::Timeout(i)),
-        Event::Tick(i) => FieldRead::Got(LocalEvent::Tick(i)),
-        Event::Expire(i) => FieldRead::Got(LocalEvent::Expire(i)),
-        Event::Finish(i, t) => FieldRead::Got(LocalEvent::Finish(i, t)),
-        Event::Deliver(_, _) => FieldRead::Stopped(Stop::WrongTag),
-        Event::Lose(_, _) => FieldRead::Stopped(Stop::WrongTag),
+        Event::Crash(i) => Ok(LocalEvent::Crash(i)),
+        Event::Recover(i) => Ok(LocalEvent::Recover(i)),
+        Event::Check(i) => Ok(LocalEvent::Check(i)),
+        Event::Timeout(i) => Ok(LocalEvent::Timeout(i)),
+        Event::Tick(i) => Ok(LocalEvent::Tick(i)),
+        Event::Expire(i) => Ok(LocalEvent::Expire(i)),
+        Event::Finish(i, t) => Ok(LocalEvent::Finish(i, t)),
+        Event::Deliver(_, _) | Event::Lose(_, _) => Err(Stop::WrongTag),
     }
 }
 
 // The event of a field as the list reader has it.
-fn read_event(field: &[u8]) -> FieldRead
+fn read_event(field: &[u8]) -> Result<LocalEvent, Stop>
     ensures { result ≡ read_as (next_at field.now 0) }
 {
-    match event_list::event_at(field, 0) {
-        Next::Done => FieldRead::Stopped(Stop::CutShort),
-        Next::Stopped(s) => FieldRead::Stopped(s),
-        Next::Got(e, _) => local_of(e),
+    match event_list::event_at(field, 0)? {
+        None => Err(Stop::CutShort),
+        Some((e, _)) => local_of(e),
     }
 }
 
 // The event of the field at the start of these bytes; what comes behind it is not looked at. No bytes at all are a field cut short. A tag from deliver's on is looked at before the field's length.
-fn event_in(field: &[u8]) -> FieldRead
+fn event_in(field: &[u8]) -> Result<LocalEvent, Stop>
     ensures { result ≡ event_in field.now }
 {
-    match event_list::field_at(field, 0) {
-        Field::End => FieldRead::Stopped(Stop::CutShort),
-        Field::Short => FieldRead::Stopped(Stop::CutShort),
-        Field::Whole {
-            tag,
-            start: _,
-            end: _,
-        } => {
-            if 0x17 <= tag {
-                return FieldRead::Stopped(Stop::WrongTag);
+    match event_list::field_at(field, 0)? {
+        None => Err(Stop::CutShort),
+        Some(found) => {
+            if 0x17 <= found.tag {
+                return Err(Stop::WrongTag);
             }
             read_event(field)
         }
@@ -86,13 +73,8 @@ fn event_in(field: &[u8]) -> FieldRead
 fn put_packet(out: &mut [u8], p: Packet)
     ensures { out.new ≡ written out.old 29 (packet_bytes p) }
 {
-    let bytes = p.bytes;
     number_bytes::put_one(out, LENGTH_AT, p.length);
-    let mut i: usize = 0;
-    while i < 25 {
-        number_bytes::put(out, BYTES_AT + i, bytes[i]);
-        i += 1;
-    }
+    number_bytes::put_bytes(out, BYTES_AT, &p.bytes)
 }
 
 // The number of an outcome's answer; where it is 0, the record and the packet are written to out.
@@ -100,15 +82,12 @@ fn answered(o: ControllerOutcome, out: &mut [u8]) -> u8
     requires { outcome_size ≤ length out.old }
     ensures { Answered o out.old out.new result }
 {
-    let answer = o.answer;
-    let r = predicates::answer_number(answer);
+    let r = predicates::answer_number(o.answer);
     if r != 0 {
         return r;
     }
-    let node = o.node;
-    let packet = o.packet;
-    table_bytes::put_node(out, 0, node);
-    put_packet(out, packet);
+    table_bytes::put_node(out, 0, o.node);
+    put_packet(out, o.packet);
     r
 }
 
@@ -137,8 +116,8 @@ pub extern "C" fn nevraspu_controller_event(
         return 255;
     }
     match event_in(field) {
-        FieldRead::Stopped(s) => event_list::stop_number(s),
-        FieldRead::Got(event) => {
+        Err(stop) => event_list::stop_number(stop),
+        Ok(event) => {
             let o = controller::on_event(n, own, table_bytes::node_of(record), event);
             answered(o, out)
         }

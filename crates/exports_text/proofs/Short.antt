@@ -1,37 +1,25 @@
 -- How long T-01's text can be: there are fewer than 2 ^ 32 lists, and a line has at most seven events of at most 18 bytes each.
-use Prim.Native.Nat.{ℕ, ◌+◌, ◌*◌, ◌^◌, ◌≤◌, ◌<◌}
+use Prim.Native.Nat.{ℕ, ◌*◌, ◌^◌, ◌≤◌, ◌<◌}
 use native.Mathlib.Omega.{arith}
 use mathlib.Core.List.{List, [], ◌∷◌, map}
 use lib.ListN.{length, get_or, length-append}
 use Rattle.model.specs.Limits.{tower}
 use Rattle.model.specs.Pick.{by_test}
-use Rattle.model.specs.State.{State, start}
-use Rattle.model.specs.Step.{after}
+use Rattle.model.specs.State.{start}
 use Rattle.model.specs.declared.Event.{Event}
 use Rattle.listing.specs.Lines.{row}
 use Rattle.listing.specs.Printing.{joined}
 use Rattle.listing.proofs.Decimal.{decimal_32_long}
 use Rattle.short_lists_text.specs.Rows.{All, Among}
-use Rattle.short_lists_text.specs.Lists.{AcceptedFrom, lists_from}
-use Rattle.short_lists_text.specs.Text.{events_text, list_line, count_line, lines_of, text_of}
+use Rattle.short_lists_text.specs.Lists.{lists_from}
+use Rattle.short_lists_text.specs.Text.{list_line, count_line, lines_of, text_of}
 use Rattle.short_lists_text.proofs.Rows.{all_by}
 use Rattle.short_lists_text.proofs.Whole.{all_lists}
 use Rattle.short_lists_text.proofs.Few.{few_lists}
 use Rattle.short_lists_text.proofs.Counts.{joined_last}
-use Rattle.short_lists_text.proofs.Bytes.{same_bytes}
 use Rattle.short_lists_text.proofs.Refuses.{fits_are, stopped}
-use Rattle.list_text.specs.Claims.{FitsBytes}
-use Rattle.list_text.proofs.Lengths.{event_long, more_long}
-
--- accepted events fit into their bytes
-accepted_fit : (s : State) (es : List Event) → AcceptedFrom s es → All FitsBytes es
-accepted_fit s [] a = tt
-accepted_fit s (e ∷ es) a = ((same_bytes.are_bytes e (same_bytes.accepted_fits s e a.0)).1, accepted_fit (after s e) es a.1)
-
-line_long : (es : List Event) → All FitsBytes es → length (list_line es) ≤ 18 * length es + 1
-unfolding list_line events_text
-line_long [] f = omega arith
-line_long (e ∷ es) f = let a = event_long e f.0 in let b = more_long es f.1 in simp length-append (omega arith)
+use Rattle.list_text.proofs.Pasted.{accepted_fit}
+use Rattle.list_text.proofs.Lines.{line_long}
 
 lines_long : (ls : List (List Event)) → All (λ l. length (list_line l) ≤ 127) ls → length (joined (map list_line ls)) ≤ 127 * length ls
 unfolding joined

@@ -4,6 +4,7 @@ use native.Mathlib.Omega.{arith}
 use mathlib.Core.Path.{◌≡◌, refl, subst, sym}
 use mathlib.Core.List.{List, [], ◌∷◌, ◌++◌, append-nil}
 use lib.ListN.{length, set, length-append}
+use Rattle.std.specs.Prelude.{Option, None, Some, Ok, Err}
 use Rattle.model.specs.Pick.{pick_true, by_test}
 use Rattle.model.specs.Range.{TwoPairs}
 use Rattle.model.specs.State.{State, start, oldest}
@@ -12,14 +13,11 @@ use Rattle.model.specs.declared.Activity.{Activity}
 use Rattle.model.specs.declared.Activity.TheVariants.{Idle, Asking, Waiting, Inviting, Collecting, Handing, Contacting, Forwarding, Accepting}
 use Rattle.model.specs.declared.Node.{Node}
 use Rattle.model.specs.declared.Message.{Message}
-use Rattle.model.specs.declared.Outgoing.{Outgoing}
-use Rattle.model.specs.declared.Outgoing.TheVariants.{Nothing, Send}
 use Rattle.model.specs.declared.Event.{Event}
 use Rattle.model.specs.declared.Event.TheVariants.{Crash, Recover, Check, Timeout, Tick, Expire, Finish, Deliver, Lose}
 use Rattle.model.proofs.InRange.{start_small, stays_in_range}
 use Rattle.model.proofs.Judged.{accepted_is}
-use Rattle.event_list.specs.declared.First.{First}
-use Rattle.event_list.specs.Format.{stop_number, first_of, Ending, complete, stopped, rest}
+use Rattle.event_list.specs.Format.{First, stop_number, first_of, Ending, complete, stopped, rest}
 use Rattle.event_list.proofs.Reading.{reading_failed, reading_begun, first_good, reads_all}
 use Rattle.listing.specs.Ascii.{bytes}
 use Rattle.listing.specs.Decimal.{digits, decimal}
@@ -158,10 +156,10 @@ all_taken_long q (Finish i t) = omega arith
 all_taken_long q (Deliver a b) = taken_long (oldest a b q)
 all_taken_long q (Lose a b) = taken_long (oldest a b q)
 
-sent_long : (o : Outgoing) → length (joined (sent_lines o)) ≤ 170
+sent_long : (o : Option Message) → length (joined (sent_lines o)) ≤ 170
 unfolding sent_line joined
-sent_long Nothing = omega arith
-sent_long (Send m) = let w = words_long m in simp length-append (omega arith)
+sent_long None = omega arith
+sent_long (Some m) = let w = words_long m in simp length-append (omega arith)
 
 -- ── a step ──
 
@@ -243,8 +241,8 @@ unfolding trace_pieces pieces_from
 trace_fits l = by (first_of l) refl
   where
     by : (x : First) → x ≡ first_of l → length (joined (trace_pieces l)) ≤ 16778240
-    by (First.Stopped s) i = let h = stopped_long 0 (stop_number s) in rw (reading_failed l i refl, joined_one (stopped_line 0 (stop_number s))) (omega arith)
-    by (First.Nodes n lim) i =
+    by (Err s) i = let h = stopped_long 0 (stop_number s) in rw (reading_failed l i refl, joined_one (stopped_line 0 (stop_number s))) (omega arith)
+    by (Ok (n, lim)) i =
         let g = first_good l i refl in
         let r = rest l 4 in
         let e = reads_all.few l 4 g.0 in

@@ -9,7 +9,6 @@ use lib.Dec.{leb}
 use lib.ListN.{length, take, drop, get_or, length-take, length-append, length-drop, take-append-drop, drop_of_length-le}
 use lib.Seq.{length-take-le, take_all, take_at, drop_at, take-nil, drop-nil, take-add, drop-drop, take-append-le, take-append-add, drop-append-le, drop-append-add}
 use borrow.Author.Tests.{leb-true, leb-false}
-use Rattle.model.specs.Pick.{pick_true, pick_false}
 use Rattle.listing.specs.Printing.{Appended}
 use Rattle.listing.specs.Ascii.{bytes}
 use Rattle.short_lists_text.specs.Text.{text_of as short_lists_text}
@@ -48,25 +47,6 @@ window_two xs ys from m =
     let e = length-take m (drop from xs) in
     let z : m - length (drop from xs) ≡ m - length (window xs from m) = omega arith in
     ap (take m) (drop_two from xs ys) ∙ take_two m (drop from xs) (drop (from - length xs) ys) ∙ ap (λ (k : ℕ). window xs from m ++ window ys (from - length xs) k) z
-
--- ── bytes put behind the first `at` of a buffer that held o ──
-
-module _ (o w u : List ℕ) (at r : ℕ) where
-  -- all of them have room
-  pub all_put : length w ≤ length o - at → Appended o at w u r → Appended o at (take (length o - at) w) u r
-  all_put h a = subst (λ (x : List ℕ). Appended o at x u r) (sym (take_all (length o - at) w h)) a
-
-  -- those behind the first `skip`
-  pub part_put : (k skip : ℕ) → Appended o at (take k (take (length w - skip) (drop skip w))) u r → Appended o at (window w skip k) u r
-  part_put k skip a =
-      let d = length-drop skip w in
-      subst (λ (x : List ℕ). Appended o at (take k x) u r) (take_all (length w - skip) (drop skip w) (omega arith)) a
-
--- there are none behind those
-pub none_put : (o w : List ℕ) (at k skip : ℕ) → at ≤ length o → length w ≤ skip → Appended o at (window w skip k) o at
-none_put o w at k skip h g =
-    let e : [] ≡ window w skip k = sym (ap (take k) (drop_of_length-le w {i = skip} g) ∙ take-nil k) in
-    subst (λ (x : List ℕ). Appended o at x o at) e (record { long = refl; next = omega arith; fits = h; text = sym (append-nil (take at o)); behind = refl })
 
 -- ── the buffer, piece by piece ──
 
@@ -124,25 +104,23 @@ filled_full l from b o at skip left f e =
     filled_whole l from b o at skip left f (rw z)
 
 -- and where nothing is left of the text
-filled_end : (l : List ℕ) (from : ℕ) (b o : List ℕ) (at skip : ℕ) (left : List ℕ) → Filled (short_lists_text l) from b o at skip left → left ≡ [] → ShortListsExported l from b o at
+pub filled_end : (l : List ℕ) (from : ℕ) (b o : List ℕ) (at skip : ℕ) (left : List ℕ) → Filled (short_lists_text l) from b o at skip left → left ≡ [] → ShortListsExported l from b o at
 filled_end l from b o at skip left f e =
     filled_whole l from b o at skip left f (ap (λ (x : List ℕ). window x skip (length b - at)) e ∙ ap (take (length b - at)) (drop-nil skip) ∙ take-nil (length b - at))
 
 -- A piece p that the search s gave, in the buffer z.
 module _ (l : List ℕ) (from : ℕ) (b o u z : List ℕ) (at skip r : ℕ) (s : Search) (p : Piece) (g : Gave s z p) (f : Filled (short_lists_text l) from b o at skip (text_left s))
     (a : Appended o at (window (take p.written z) skip (length o - at)) u r) where
-  piece_put : Filled (short_lists_text l) from b u r (skip - p.written) (text_after p)
+  pub piece_put : Filled (short_lists_text l) from b u r (skip - p.written) (text_after p)
   piece_put =
       subst (λ (k : ℕ). Filled (short_lists_text l) from b u r (skip - k) (text_after p)) (length-take-le p.written z g.fits) (filled_more f (take p.written z) (text_after p) u r g.text a)
 
   pub piece_full : r ≡ length u → ShortListsExported l from b u r
   piece_full e = filled_full l from b u r (skip - p.written) (text_after p) piece_put e
 
-  pub piece_last : p.done ≡ true → ShortListsExported l from b u r
-  piece_last d = filled_end l from b u r (skip - p.written) (text_after p) piece_put (rw (d, pick_true))
-
-  pub piece_next : p.done ≡ false → (k : ℕ) → k ≡ skip - p.written → Filled (short_lists_text l) from b u r k (text_left p.search)
-  piece_next d k e = subst (λ (j : ℕ). Filled (short_lists_text l) from b u r j (text_left p.search)) (sym e) (rw (d, pick_false) at piece_put)
+-- and the lent bytes are those of the buffer
+pub filled_there : {l : List ℕ} {from : ℕ} {b u : List ℕ} {r : ℕ} → ShortListsExported l from b u r → (o : List ℕ) → o ≡ u → ShortListsExported l from b o r
+filled_there {l} {from} {b} {u} {r} w o e = subst (λ (x : List ℕ). ShortListsExported l from b x r) (sym e) w
 
 -- ── claims ──
 

@@ -2,16 +2,16 @@
 // `RoomAlways` of specs/Boundary.
 #![tactic(auto)]
 
-ghost use Rattle.std.specs.Prelude.{◌≡◌, ◌-◌, ◌≤◌, length, take};
+ghost use Rattle.std.specs.Prelude.{◌≡◌, ◌-◌, ◌≤◌, length};
 ghost use Rattle.exports_text.specs.Boundary.{TextExported, TraceExported, RestExported, WrittenOut, ListExported, AldebaranExported, ShortListsExported};
 ghost use Rattle.exports_text.specs.Window.{window};
-ghost use Rattle.listing.specs.Printing.{Appended};
+ghost use Rattle.listing.specs.Printing.{HasRoom, Wrote};
 ghost use Rattle.list_text.specs.Message.{message_text};
 
-use list_parser::{LIST_LIMIT, MESSAGE_LIMIT, Parsed};
+use list_parser::{Bad, LIST_LIMIT, MESSAGE_LIMIT};
 use list_search::PIECE;
-use list_text::{Expected, Place};
 use list_tree::TEXT_SPACE;
+use listing::TextBuffer;
 
 //   uint64_t nevraspu_text_of_list(const uint8_t *list, size_t list_len, uint8_t *out, size_t out_len);
 // A list, any bytes at all, as text, at the start of out. The answer:
@@ -50,37 +50,28 @@ pub extern "C" fn nevraspu_rest(list: &[u8], out: &mut [u8]) -> u64
     listing::put_length(rest_list::print(list, out))
 }
 
+// kept: C's functions answer a number.
 // Bytes at the start of out, if there is room, answered by base and how many they are; else by the largest number, and out stays as it was.
+#[tactic(auto, unfolding(model::specs::Pick::pick))]
 fn write_out(out: &mut [u8], bytes: &[u8], base: u64) -> u64
     requires { (length bytes.now ≤ 65536) × (base ≤ 4294967296) }
     ensures { WrittenOut bytes.now base out.old out.new result }
 {
-    if out.len() < bytes.len() {
-        return 18446744073709551615;
+    let n = bytes.len();
+    if out.len() < n {
+        return u64::MAX;
     }
-    listing::put_bytes(out, 0, bytes);
-    base + bytes.len() as u64
-}
-
-fn message_space() -> [u8; MESSAGE_LIMIT]
-    ensures { 128 ≡ length result }
-{
-    [0; MESSAGE_LIMIT]
+    out[..n].copy_from_slice(bytes);
+    base + n as u64
 }
 
 // What is told of a bad text.
-fn write_message(out: &mut [u8], place: Place, x: Expected) -> u64
-    ensures { WrittenOut (message_text place x) 4294967296 out.old out.new result × (length (message_text place x) ≤ 128) }
+fn write_message(out: &mut [u8], bad: Bad) -> u64
+    ensures { WrittenOut (message_text bad.place bad.expected) 4294967296 out.old out.new result × (length (message_text bad.place bad.expected) ≤ 128) }
 {
-    let mut message = message_space();
-    let n = list_parser::put_message(&mut message, place, x);
+    let mut message = [0; MESSAGE_LIMIT];
+    let n = list_parser::put_message(&mut message, bad);
     write_out(out, &message[..n], 4294967296)
-}
-
-fn list_space() -> [u8; LIST_LIMIT]
-    ensures { 65536 ≡ length result }
-{
-    [0; LIST_LIMIT]
 }
 
 //   uint64_t nevraspu_list_of_text(const uint8_t *text, size_t text_len, uint8_t *out, size_t out_len);
@@ -93,17 +84,11 @@ fn list_space() -> [u8; LIST_LIMIT]
 pub extern "C" fn nevraspu_list_of_text(text: &[u8], out: &mut [u8]) -> u64
     ensures { ListExported text.now out.old out.new result }
 {
-    let mut list = list_space();
+    let mut list = [0; LIST_LIMIT];
     match list_parser::list_of_text(text, &mut list) {
-        Parsed::List(n) => write_out(out, &list[..n], 0),
-        Parsed::Bad(place, x) => write_message(out, place, x),
+        Ok(n) => write_out(out, &list[..n], 0),
+        Err(bad) => write_message(out, bad),
     }
-}
-
-fn system_space() -> [u8; TEXT_SPACE]
-    ensures { 32768 ≡ length result }
-{
-    [0; TEXT_SPACE]
 }
 
 //   uint64_t nevraspu_aldebaran(const uint8_t *input, size_t input_len, uint8_t *out, size_t out_len);
@@ -116,48 +101,19 @@ fn system_space() -> [u8; TEXT_SPACE]
 pub extern "C" fn nevraspu_aldebaran(input: &[u8], out: &mut [u8]) -> u64
     ensures { AldebaranExported input.now out.old out.new result }
 {
-    let mut text = system_space();
+    let mut text = [0; TEXT_SPACE];
     let n = list_tree::put_text(input, &mut text);
     write_out(out, &text[..n], 0)
 }
 
-// Bytes into out from at on, as many as have room: the new end.
-fn put_some(out: &mut [u8], at: usize, bytes: &[u8]) -> usize
-    requires { at ≤ length out.old }
-    ensures { Appended out.old at (take (length out.old - at) bytes.now) out.new result }
+// The bytes behind the first skip, as many as have room.
+fn put_window(out: &mut TextBuffer, bytes: &[u8], skip: usize)
+    requires { HasRoom out.old 0 }
+    ensures { Wrote out.old (window bytes.now skip (length out.old.bytes.now - out.old.end)) out.new }
 {
-    let room = out.len() - at;
-    if bytes.len() <= room {
-        return listing::put_bytes(out, at, bytes);
-    }
-    listing::put_bytes(out, at, &bytes[..room])
-}
-
-// The same of the bytes behind the first skip.
-fn put_window(out: &mut [u8], at: usize, bytes: &[u8], skip: usize) -> usize
-    requires { at ≤ length out.old }
-    ensures { Appended out.old at (window bytes.now skip (length out.old - at)) out.new result }
-{
-    if bytes.len() <= skip {
-        return at;
-    }
-    put_some(out, at, &bytes[skip..])
-}
-
-// How many bytes are still to be skipped behind n bytes.
-fn still_skipped(skip: usize, n: usize) -> usize
-    ensures { result ≡ skip - n }
-{
-    if skip <= n {
-        return 0;
-    }
-    skip - n
-}
-
-fn piece_space() -> [u8; PIECE]
-    ensures { 65536 ≡ length result }
-{
-    [0; PIECE]
+    let rest = &bytes[skip.min(bytes.len())..];
+    let n = rest.len().min(out.bytes.len() - out.end);
+    out.put(&rest[..n]);
 }
 
 //   uint64_t nevraspu_short_lists(const uint8_t *input, size_t input_len, uint64_t from, uint8_t *out, size_t out_len);
@@ -172,21 +128,18 @@ fn piece_space() -> [u8; PIECE]
 pub extern "C" fn nevraspu_short_lists(input: &[u8], from: u64, out: &mut [u8]) -> u64
     ensures { ShortListsExported input.now from out.old out.new result }
 {
-    let mut piece = piece_space();
-    let mut s = list_search::begin(input);
+    let mut text = TextBuffer { bytes: out, end: 0 };
+    let mut piece = [0; PIECE];
+    let mut next = Some(list_search::begin(input));
     let mut skip = from as usize;
-    let mut at: usize = 0;
-    loop {
+    while let Some(s) = next {
         let p = list_search::next_lines(s, &mut piece);
-        let n = p.written;
-        at = put_window(out, at, &piece[..n], skip);
-        if p.done {
-            return at as u64;
+        put_window(&mut text, &piece[..p.written], skip);
+        if text.end == text.bytes.len() {
+            return text.end as u64;
         }
-        if at == out.len() {
-            return at as u64;
-        }
-        skip = still_skipped(skip, n);
-        s = p.search;
+        skip = skip.saturating_sub(p.written);
+        next = p.next;
     }
+    text.end as u64
 }

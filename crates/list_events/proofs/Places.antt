@@ -2,12 +2,8 @@
 use Prim.Native.Nat.{ℕ, zero, suc, ◌+◌, ◌≤◌, ◌<◌}
 use native.Mathlib.Omega.{arith}
 use mathlib.Core.Path.{◌≡◌, refl, ◌∙◌, ap}
-use mathlib.Core.Bool.{Bool, true, false}
-use mathlib.Core.List.{List, map}
-use lib.Dec.{eqb}
-use lib.ListN.{length, get_or, set}
-use lib.Seq.{get_or-set_same, get_or-set_other}
-use borrow.Author.Tests.{eqb-true, eqb-false}
+use mathlib.Core.List.{map}
+use lib.ListN.{get_or}
 use Rattle.model.specs.Pick.{pick}
 use Rattle.model.specs.declared.Event.{Event}
 use Rattle.model.specs.declared.Event.TheVariants.{Crash}
@@ -37,7 +33,7 @@ at_place : (n c i : ℕ) → alphabet n ≡ map (event_by n) (up_from 0 c) → i
 unfolding event_at
 at_place n c i q h = let z : 0 + i ≡ i = omega arith in ap (λ l. get_or l i (Crash 0)) q ∙ (map_at (event_by n) 0 c i (Crash 0) h ∙ ap (event_by n) z)
 
-sizes : (n : ℕ) → 1 ≤ n → n ≤ 3 → size_of n ≡ event_count n
+pub sizes : (n : ℕ) → 1 ≤ n → n ≤ 3 → size_of n ≡ event_count n
 unfolding pick up_from without pairs_of alphabet
 sizes = of_three (λ n. size_of n ≡ event_count n) refl refl refl
 
@@ -47,15 +43,6 @@ by_place = record {
   event = λ n i a b. of_three (λ m. i < event_count m → event_at m i ≡ event_by m i) (at_place 1 7 i one_node) (at_place 2 18 i two_nodes) (at_place 3 33 i three_nodes) n a b;
 }
 
--- ── the events in an array ──
-
--- those before i stand there
-abbrev pub Filled : ℕ → List Event → ℕ → Type 0
-Filled n es i = (j : ℕ) → j < i → get_or es j (Crash 0) ≡ event_at n j
-
-pub one_filled : (n : ℕ) (es : List Event) (i : ℕ) (e : Event) → i < length es → e ≡ event_at n i → Filled n es i → Filled n (set es i e) (i + 1)
-one_filled n es i e h q f j l = by (eqb j i) refl
-  where
-    by : (b : Bool) → eqb j i ≡ b → get_or (set es i e) j (Crash 0) ≡ event_at n j
-    by true z = let y = eqb-true j i z in rw y (get_or-set_same es i e (Crash 0) h ∙ q)
-    by false z = let y = eqb-false j i z in get_or-set_other es i j e (Crash 0) y ∙ f j (omega (arith, l, y))
+-- the event at a place, as `event_by` finds it
+pub found : (n i : ℕ) → 1 ≤ n → n ≤ 3 → i < size_of n → event_at n i ≡ event_by n i
+found n i a b h = by_place.event n i a b (rw (by_place.size n a b) at h)

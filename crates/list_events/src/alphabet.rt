@@ -1,5 +1,6 @@
 // The events that may stand in a list, by their places in the alphabet, for the n of T-01.
-ghost use Rattle.std.specs.Prelude.{◌≡◌, ◌≤◌, ◌<◌, length};
+// kept: n is a u8 with a clause, as it is `n` of a Table, which may be any; `fits` tests it before a function here is called.
+ghost use Rattle.std.specs.Prelude.{◌≡◌, ◌≤◌, ◌<◌};
 ghost use Rattle.list_events.specs.Events as spec;
 
 use model::{Event, TaskNo};
@@ -12,14 +13,11 @@ fn pair_count(n: u8) -> u8
     requires { (1 ≤ n) × (n ≤ 3) }
     ensures { (result ≡ spec.pair_count n) × (result ≤ 6) }
 {
-    match n {
-        1 => 0,
-        2 => 2,
-        _ => 6,
-    }
+    n * (n - 1)
 }
 
 // How many events there are.
+#[tactic(auto, using(crate::proofs::Places::sizes))]
 pub fn event_count(n: u8) -> u8
     requires { (1 ≤ n) × (n ≤ 3) }
     ensures { (result ≡ spec.size_of n) × (result ≤ 33) }
@@ -28,6 +26,7 @@ pub fn event_count(n: u8) -> u8
 }
 
 // The event of one node with tag 0x10 + k, for k up to 6.
+#[tactic(auto, unfolding(crate::specs::Events::single, model::specs::Pick::pick))]
 fn single(k: u8, i: u8) -> Event
     ensures { result ≡ spec.single k i }
 {
@@ -51,6 +50,7 @@ fn sender(n: u8, p: u8) -> u8
 }
 
 // Its receiver.
+#[tactic(auto, unfolding(crate::specs::Events::receiver, model::specs::Pick::pick))]
 fn receiver(n: u8, p: u8) -> u8
     requires { (2 ≤ n) × (n ≤ 3) × (p < 6) }
     ensures { result ≡ spec.receiver n p }
@@ -63,6 +63,7 @@ fn receiver(n: u8, p: u8) -> u8
 }
 
 // Event i, from 0 on.
+#[tactic(auto, using(crate::proofs::Places::sizes, crate::proofs::Places::found), unfolding(crate::specs::Events::event_by, model::specs::Pick::pick))]
 fn event_at(n: u8, i: u8) -> Event
     requires { (1 ≤ n) × (n ≤ 3) × (i < spec.size_of n) }
     ensures { result ≡ spec.event_at n i }
@@ -80,24 +81,14 @@ fn event_at(n: u8, i: u8) -> Event
     Event::Lose(sender(n, q), receiver(n, q))
 }
 
-// What stands where there is no event.
-fn no_events() -> [Event; MOST]
-    ensures { length result ≡ 33 }
-{
-    [Event::Crash(0); MOST]
-}
-
 // All of them, in order.
 pub fn events(n: u8) -> [Event; MOST]
     requires { (1 ≤ n) × (n ≤ 3) }
     ensures { spec.Holds n result }
 {
-    let count = event_count(n);
-    let mut es = no_events();
-    let mut i: u8 = 0;
-    while i < count {
+    let mut es = [Event::Crash(0); MOST];
+    for i in 0..event_count(n) {
         es[i as usize] = event_at(n, i);
-        i += 1;
     }
     es
 }

@@ -12,13 +12,12 @@ pub use alphabet::{MOST, event_count, events};
 pub use text::put_event;
 
 // Two bytes: n from 1 to 3, and a length from 0 to most.
+#[tactic(auto, unfolding(short_lists_text::specs::Text::fits_to))]
 pub fn fits(input: &[u8], most: u8) -> bool
     ensures { result ≡ fits_to most input.now }
 {
-    if input.len() != 2 {
-        return false;
+    match input {
+        [n, length] => (1 <= *n) & (*n <= 3) & (*length <= most),
+        _ => false,
     }
-    let n = input[0];
-    let length = input[1];
-    (1 <= n) & (n <= 3) & (length <= most)
 }

@@ -3,4 +3,3 @@ pub mod Names
 pub mod Places
 pub mod Fillings
 pub mod Answers
-pub mod Short

@@ -1,52 +1,48 @@
 // What is told of a bad text.
 ghost use Rattle.std.specs.Prelude.{◌+◌, ◌≤◌, length};
-ghost use Rattle.listing.specs.Printing.{Appended};
+ghost use Rattle.listing.specs.Printing.{Appended, HasRoom, Wrote};
 ghost use Rattle.list_text.specs.Message.{expected_text, message_text};
 
-use list_text::{Expected, Place};
-use listing::{put_bytes, put_number};
+use crate::Bad;
+use list_text::Expected;
+use listing::TextBuffer;
 
 // No message is longer.
 pub const MESSAGE_LIMIT: usize = 128;
 
 // What was expected.
-fn put_expected(out: &mut [u8], at: usize, x: Expected) -> usize
-    requires { at + 80 ≤ length out.old }
-    ensures { Appended out.old at (expected_text x) out.new result × (result ≤ at + 80) }
+#[tactic(auto, unfolding(list_text::specs::Message::expected_text))]
+fn put_expected(out: &mut TextBuffer, x: Expected)
+    requires { HasRoom out.old 80 }
+    ensures { Wrote out.old (expected_text x) out.new × (out.new.end ≤ out.old.end + 80) }
 {
     match x {
-        Expected::Opening => put_bytes(out, at, b"cabinets or stand"),
-        Expected::Number => put_bytes(out, at, b"a number from 0 to 255"),
-        Expected::Task => put_bytes(out, at, b"a number from 0 to 65535"),
-        Expected::Name => put_bytes(
-            out,
-            at,
+        Expected::Opening => out.put(b"cabinets or stand"),
+        Expected::Number => out.put(b"a number from 0 to 255"),
+        Expected::Task => out.put(b"a number from 0 to 65535"),
+        Expected::Name => out.put(
             b"an event: crash, recover, check, timeout, tick, expire, finish, deliver or lose",
         ),
-        Expected::Separator => put_bytes(out, at, b"a comma or the end of the line"),
-        Expected::EndOfList => put_bytes(
-            out,
-            at,
+        Expected::Separator => out.put(b"a comma or the end of the line"),
+        Expected::EndOfList => out.put(
             b"the end of the text before this event: a list has at most 65536 bytes",
         ),
-        Expected::EndOfText => put_bytes(
-            out,
-            at,
-            b"the end of the text: a text has at most 1048576 bytes",
-        ),
+        Expected::EndOfText => out.put(b"the end of the text: a text has at most 1048576 bytes"),
     }
 }
 
 // The line and column, and what was expected there, at the start of out: how many bytes that are.
-pub fn put_message(out: &mut [u8; MESSAGE_LIMIT], place: Place, x: Expected) -> usize
-    ensures { Appended out.old 0 (message_text place x) out.new result }
+#[tactic(auto, using(listing::proofs::Decimal::decimal_32_long))]
+pub fn put_message(out: &mut [u8; MESSAGE_LIMIT], bad: Bad) -> usize
+    ensures { Appended out.old 0 (message_text bad.place bad.expected) out.new result }
 {
-    let buf: &mut [u8] = out;
-    let a = put_bytes(buf, 0, b"line ");
-    let b = put_number(buf, a, place.line);
-    let c = put_bytes(buf, b, b", column ");
-    let d = put_number(buf, c, place.column);
-    let e = put_bytes(buf, d, b": expected ");
-    let f = put_expected(buf, e, x);
-    put_bytes(buf, f, b"\n")
+    let mut text = TextBuffer { bytes: out, end: 0 };
+    text.put(b"line ");
+    text.put_number(bad.place.line as u64);
+    text.put(b", column ");
+    text.put_number(bad.place.column as u64);
+    text.put(b": expected ");
+    put_expected(&mut text, bad.expected);
+    text.put(b"\n");
+    text.end
 }

@@ -8,7 +8,9 @@ use mathlib.Core.List.{List, [], ◌∷◌, ◌++◌, append_assoc, append-nil}
 use lib.Dec.{eqb}
 use lib.ListN.{length, take, get_or, length-append}
 use lib.Seq.{length-take-le}
-use borrow.Author.Tests.{ne_eqb}
+use borrow.Author.Tests.{ne_eqb, clash}
+use Rattle.std.specs.Prelude.{Option, None, Some, IfSome, IsSome}
+use Rattle.std.specs.Option.{unwrap_or}
 use Rattle.model.specs.Range.{TwoPairs}
 use Rattle.model.specs.Limits.{tower}
 use Rattle.model.specs.Pick.{pick_true, pick_false}
@@ -18,16 +20,16 @@ use Rattle.machine.specs.Stepped.{starting_table}
 use Rattle.packed.proofs.Turns.{same_start}
 use Rattle.model.proofs.InRange.{stays_in_range}
 use Rattle.listing.specs.Ascii.{bytes}
-use Rattle.listing.specs.Printing.{Appended}
+use Rattle.listing.specs.Printing.{Wrote}
+use Rattle.listing.specs.declared.buffer.TextBuffer.{TextBuffer}
 use Rattle.packed.specs.Seen.{seen_waiting}
 use Rattle.short_lists_text.specs.Text.{count_line, fits, text_of}
 use Rattle.short_lists_text.proofs.Few.{few_lists}
 use Rattle.short_lists_text.proofs.Refuses.{fits_are, stopped}
 use Rattle.list_search.specs.declared.Search.{Search}
-use Rattle.list_search.specs.declared.Piece.{Piece}
 use Rattle.list_search.specs.Stack.{Frame, frame, path, lists_left, stack_text}
 use Rattle.list_search.specs.Line.{beginning}
-use Rattle.list_search.specs.Search.{no_level, frame_of, frames_of, stack_of, missing, text_left, SoundLevel, Going, Sound, First, Begun, Gave, Call, written_by, Calls, search_after, EndsLine, AllPieces}
+use Rattle.list_search.specs.Search.{no_level, frame_of, frames_of, stack_of, missing, text_left, text_from, SoundLevel, Going, Sound, First, Begun, GaveInto, Call, written_by, Calls, search_after, EndsLine, AllPieces}
 use Rattle.list_search.proofs.Stack.{all_left, whole_text, left_given, left_none, text_given, text_over}
 use Rattle.list_search.proofs.Lines.{line_empty}
 use Rattle.list_search.proofs.Loop.{text_of_lem, ends_after, count_ends}
@@ -148,39 +150,40 @@ module _ (s : Search) (h : ℕ) (c : Going s h) (z : s.length ≡ 0) where
       omega (arith, d, e)
 
 -- the whole text is one piece
-pub gave_whole : (s : Search) → Sound s → (o x o' : List ℕ) (r : ℕ) → text_left s ≡ x → Appended o 0 x o' r → 1 ≤ length x → EndsLine x → Gave s o' (record { written = r; done = true; search = s })
-gave_whole s h o x o' r q w l e = record {
-  text = rw pick_true (q ∙ sym w.text ∙ sym (append-nil (take r o')));
-  fits = w.fits;
-  some = let n = w.next in omega (arith, n, l);
-  lines = subst EndsLine (sym w.text) e;
-  sound = h;
-}
-
-pub not_refused : (s : Search) → Sound s → (s.n ≡ 0 → ⊥) → Going s (s.height - 1)
-not_refused s (inl q) d = absurd (d q)
-not_refused s (inr g) d = g
+pub gave_whole : (s : Search) {b o : TextBuffer} (x : List ℕ) → text_left s ≡ x → b.end ≡ 0 → Wrote b x o → 1 ≤ length x → EndsLine x → GaveInto s b (record { written = o.end; next = None }) o
+gave_whole s {b} {o} x q z w l e =
+    let a = rw z at w.appended in
+    record {
+      same = w.same;
+      gave = record {
+        text = q ∙ sym a.text ∙ sym (append-nil (take o.end o.bytes.now));
+        fits = a.fits;
+        some = let n = a.next in omega (arith, n, l);
+        lines = subst EndsLine (sym a.text) e;
+        sound = tt;
+      };
+    }
 
 -- ── the pieces put together ──
 
--- after a piece less is left
-pub less_left : (s : Search) (o : List ℕ) (p : Piece) → Gave s o p → p.done ≡ false → length (text_left p.search) < length (text_left s)
-less_left s o p g d =
-    let e = ap length (rw (d, pick_false) at g.text) in
-    let a = length-append (take p.written o) (text_left p.search) in
-    let w : length (take p.written o) ≡ p.written = length-take-le p.written o g.fits in
-    let i = g.some in
-    omega (arith, e, a, w, i)
+-- of a piece that gives a search
+next_text : (o : Option Search) (s : Search) → IsSome o → text_from o ≡ text_left (unwrap_or o s)
+next_text None s i = absurd (clash i)
+next_text (Some n) s i = refl
+
+next_sound : (o : Option Search) (s : Search) → IsSome o → IfSome o Sound → Sound (unwrap_or o s)
+next_sound None s i h = absurd (clash i)
+next_sound (Some n) s i h = h
 
 sound_again : (s : Search) (cs : List Call) → Sound s → Calls s cs → Sound (search_after s cs)
 sound_again s [] h a = h
-sound_again s (c ∷ cs) h a = sound_again c.piece.search cs a.0.sound a.2
+sound_again s (c ∷ cs) h a = sound_again (unwrap_or c.piece.next s) cs (next_sound c.piece.next s a.1 a.0.sound) a.2
 
 part_of : (s : Search) (cs : List Call) → Calls s cs → text_left s ≡ written_by cs ++ text_left (search_after s cs)
 part_of s [] a = refl
 part_of s (c ∷ cs) a =
     let w = take c.piece.written c.buffer in
-    (rw (a.1, pick_false) at a.0.text) ∙ ap (λ l. w ++ l) (part_of c.piece.search cs a.2) ∙ sym (append_assoc w (written_by cs) (text_left (search_after s (c ∷ cs))))
+    a.0.text ∙ ap (λ l. w ++ l) (next_text c.piece.next s a.1 ∙ part_of (unwrap_or c.piece.next s) cs a.2) ∙ sym (append_assoc w (written_by cs) (text_left (search_after s (c ∷ cs))))
 
 written_more : (cs : List Call) (c : Call) → written_by (cs ++ (c ∷ [])) ≡ written_by cs ++ take c.piece.written c.buffer
 written_more [] c = append-nil (take c.piece.written c.buffer)
@@ -189,14 +192,14 @@ written_more (d ∷ cs) c = rw (written_more cs c, append_assoc)
 each_writes : (s : Search) (cs : List Call) → Calls s cs → length cs ≤ length (written_by cs)
 each_writes s [] a = omega arith
 each_writes s (c ∷ cs) a =
-    let i = each_writes c.piece.search cs a.2 in
+    let i = each_writes (unwrap_or c.piece.next s) cs a.2 in
     let w : length (take c.piece.written c.buffer) ≡ c.piece.written = length-take-le c.piece.written c.buffer a.0.fits in
     let o = a.0.some in
     simp length-append (omega (arith, i, w, o))
 
 pub pieces_make_text : AllPieces
 pieces_make_text l s b = record {
-  whole = λ cs c a g d. written_more cs c ∙ ap (λ x. written_by cs ++ x) (sym (append-nil _) ∙ sym (rw (d, pick_true) at g.text)) ∙ sym (part_of s cs a) ∙ b.text;
+  whole = λ cs c a g d. written_more cs c ∙ ap (λ x. written_by cs ++ x) (sym (append-nil _) ∙ sym (rw d at g.text)) ∙ sym (part_of s cs a) ∙ b.text;
   part = λ cs a. sym b.text ∙ part_of s cs a;
   again = λ cs a. sound_again s cs b.sound a;
   ends = λ cs a. let e = ap length (sym b.text ∙ part_of s cs a) in let w = each_writes s cs a in let p = length-append (written_by cs) (text_left (search_after s cs)) in omega (arith, e, w, p);

@@ -1,7 +1,7 @@
 -- What the search's loop keeps, turn by turn. The topmost level stands in its locals: t.
 use Prim.Native.Nat.{ℕ, zero, suc, ◌+◌, ◌-◌, ◌%◌, ◌^◌, ◌≤◌, ◌<◌}
 use native.Mathlib.Omega.{arith}
-use mathlib.Core.Bool.{true, false}
+use mathlib.Core.Bool.{false}
 use mathlib.Core.Logic.{◌⊎◌, inl, inr}
 use mathlib.Core.Path.{◌≡◌, refl, sym, ◌∙◌, ap, subst}
 use mathlib.Core.List.{List, [], ◌∷◌, ◌++◌, append_assoc, append-nil}
@@ -9,16 +9,19 @@ use lib.Dec.{eqb}
 use lib.ListN.{length, take, get_or, set, length-set, length-append}
 use lib.Seq.{get_or-set_same, get_or-set_other}
 use borrow.Author.Tests.{le-leb, lt-leb, ne_eqb}
+use Rattle.std.specs.Prelude.{None, Some, Ok, Err}
 use Rattle.model.specs.Range.{TwoPairs}
 use Rattle.model.specs.Limits.{tower}
-use Rattle.model.specs.Pick.{pick_true, pick_false}
+use Rattle.model.specs.Pick.{pick_false}
 use Rattle.model.specs.Counts.{no_counts}
 use Rattle.model.specs.State.{State, counts_of, counts_aside}
-use Rattle.model.specs.Answers.{answer_number, is_accepted}
+use Rattle.model.specs.Answers.{refusal_number}
 use Rattle.model.specs.Step.{Result, refused, accepted, step, actor, sent, pair_at_end, effect, reaction_to}
 use Rattle.model.specs.declared.Mark.{Mark}
 use Rattle.model.specs.declared.Node.{Node}
 use Rattle.model.specs.declared.Event.{Event}
+use Rattle.model.specs.declared.Reaction.{Reaction}
+use Rattle.model.specs.declared.Refusal.{Refusal}
 use Rattle.model.proofs.Waiting.{waiting_in}
 use Rattle.model.proofs.Fields.{in_range_pair}
 use Rattle.model.proofs.Aside.{waiting_small, waiting_below, in_range_base}
@@ -39,7 +42,7 @@ use Rattle.list_search.specs.declared.Level.{Level}
 use Rattle.list_search.specs.declared.Search.{Search}
 use Rattle.list_search.specs.Stack.{Frame, frame, path, lists_left, stack_text}
 use Rattle.list_search.specs.Line.{beginning}
-use Rattle.list_search.specs.Search.{no_level, frame_of, frames_of, text_left, SoundLevel, SoundBelow, Going, Sound, EndsLine, Gave}
+use Rattle.list_search.specs.Search.{no_level, frame_of, frames_of, text_left, SoundLevel, SoundBelow, Going, EndsLine, Gave}
 use Rattle.list_search.proofs.Stack.{turns_left, text_same, text_over, text_given, left_none, gone, passed_by, gone_up, gave_one, path_passed}
 use Rattle.list_search.proofs.Lines.{beginning_more, line_ends}
 
@@ -89,11 +92,6 @@ ReadyLevel n t = Ready n tower t.nodes t.words t.waiting (counts_of (queue t.wor
 
 pub ready : (n : ℕ) (p : List Event) (t : Level) → SoundLevel n p t → ReadyLevel n t
 ready n p t s = record { words = s.words; nodes = s.nodes; range = s.range }
-
--- the levels stand at the same text with one level less
-below_one : (n : ℕ) (ls : List Level) (h : ℕ) → frames_of n ls (suc h) ≡ frame_of n (get_or ls h no_level) ∷ frames_of n ls h
-unfolding frames_of
-below_one n ls h = refl
 
 module _ {x o : List ℕ} {n len : ℕ} {ls : List Level} {g at : ℕ} where
   -- ── all events were tried ──
@@ -301,9 +299,9 @@ text_of_lem s h c =
     let m : s.length + 1 - suc h ≡ s.length - h = omega arith in
     rw (z, pick_false, y, m)
 
-pub loop_starts : (s : Search) (o : List ℕ) (h : ℕ) → Going s h → 1 ≤ s.length → length o ≡ 65536 → Kept (text_left s) o s.n s.length s.levels h (get_or s.levels h no_level) s.given 0
+pub loop_starts : (s : Search) (o : List ℕ) (h at : ℕ) → Going s h → 1 ≤ s.length → at ≡ 0 → length o ≡ 65536 → Kept (text_left s) o s.n s.length s.levels h (get_or s.levels h no_level) s.given at
 unfolding frames_of
-loop_starts s o h c l z =
+loop_starts s o h at c l none z =
     let y : s.height ≡ suc h = omega (arith, c.height) in
     let m : s.length + 1 - suc h ≡ s.length - h = omega arith in
     record {
@@ -316,8 +314,8 @@ loop_starts s o h c l z =
       top = c.top;
       count = rw (y, m) at c.count;
       size = z;
-      space = omega arith;
-      text = text_of_lem s h c;
+      space = omega (arith, none);
+      text = rw none (text_of_lem s h c);
     }
   where
     under : (h < s.length) ⊎ ((s.length ≡ 0) × (h ≡ 0)) → h < s.length
@@ -332,13 +330,13 @@ unfolding count_line row
 count_ends k = record { before = bytes "lists" ++ (bytes " " ++ decimal k); is = rw append_assoc }
 
 -- the last piece
-pub gave_last : (s : Search) → Sound s → (o : List ℕ) (g at : ℕ) (o' : List ℕ) (r : ℕ) → text_left s ≡ take at o ++ count_line g → Appended o at (count_line g) o' r → at < r → Gave s o' (record { written = r; done = true; search = s })
-gave_last s h o g at o' r x w l = record {
-  text = rw pick_true (x ∙ sym w.text ∙ sym (append-nil (take r o')));
+pub gave_last : (s : Search) (o : List ℕ) (g at : ℕ) (o' : List ℕ) (r : ℕ) → text_left s ≡ take at o ++ count_line g → Appended o at (count_line g) o' r → at < r → Gave s o' (record { written = r; next = None })
+gave_last s o g at o' r x w l = record {
+  text = x ∙ sym w.text ∙ sym (append-nil (take r o'));
   fits = w.fits;
   some = omega (arith, l);
   lines = subst EndsLine (sym w.text) (ends_after (take at o) (count_line g) (count_ends g));
-  sound = h;
+  sound = tt;
 }
 
 -- a piece behind which more comes: the topmost level is stored, and the search goes on with it
@@ -371,22 +369,14 @@ module _ {x o : List ℕ} {n len : ℕ} {ls : List Level} {g at h : ℕ} {t : Le
       }
 
   gave_more : (o' : List ℕ) (r : ℕ) → Appended o at (take t.end t.line ++ (event_text (event_at n t.tried) ++ bytes "\n")) o' r → (s : Search) → x ≡ text_left s → at < r
-      → Gave s o' (record { written = r; done = false; search = goes_on })
+      → Gave s o' (record { written = r; next = Some goes_on })
   gave_more o' r w s c l = record {
-    text = rw pick_false (sym c ∙ given_text k q u m z last w ∙ ap (λ y. take r o' ++ y) (sym (text_of_lem goes_on h going ∙ rw (stays, stored))));
+    text = sym c ∙ given_text k q u m z last w ∙ ap (λ y. take r o' ++ y) (sym (text_of_lem goes_on h going ∙ rw (stays, stored)));
     fits = w.fits;
     some = omega (arith, l);
     lines = subst EndsLine (sym w.text) (ends_after (take at o) _ (ends_after (take t.end t.line) _ (record { before = event_text (event_at n t.tried); is = refl })));
     sound = let i : h + 1 - 1 ≡ h = omega arith in inr (subst (Going goes_on) (sym i) going);
   }
-
--- the topmost level is one of the seven
-pub top_place : (s : Search) (h : ℕ) → Going s h → h < 7
-top_place s h c = by c.below
-  where
-    by : (h < s.length) ⊎ ((s.length ≡ 0) × (h ≡ 0)) → h < 7
-    by (inl q) = omega (arith, q, c.long)
-    by (inr q) = omega (arith, q.1)
 
 -- ── as the code has it; c: how many events there are ──
 
@@ -428,9 +418,10 @@ module _ {x o : List ℕ} {n len : ℕ} {ls : List Level} {g at h : ℕ} {t : Le
     rd : ReadyLevel n t
     rd = ready n (path (frames_of n ls h)) t k.top
 
-    module _ (no : is_accepted r.verdict.answer ≡ false) where
-      refusal : step before (event_at n t.tried) ≡ refused (answer_number r.verdict.answer)
-      refusal = same_step _ _ _ _ (he under) (refused_step _ tower _ _ _ _ _ _ rd e i hi b r j no)
+    -- it is refused by y
+    module _ (y : Refusal) (no : r.verdict ≡ Err y) where
+      refusal : step before (event_at n t.tried) ≡ refused (refusal_number y)
+      refusal = same_step _ _ _ _ (he under) (refused_step _ tower _ _ _ _ _ _ rd e i hi b r j y no)
 
       pub turned_down : Kept x o n len ls h (onward t) g at
       turned_down = refused_kept k under _ refusal
@@ -438,16 +429,17 @@ module _ {x o : List ℕ} {n len : ℕ} {ls : List Level} {g at h : ℕ} {t : Le
       pub turned_less : turns_of n len ls h (onward t) < turns_of n len ls h t
       turned_less = refused_less k under _ refusal
 
-    module _ (yes : is_accepted r.verdict.answer ≡ true) where
-      pub room_for : Room r.verdict.reaction.outgoing (left_of t.waiting r.place)
-      room_for = has_room _ tower _ _ _ _ _ _ rd e i hi b r j yes
+    -- or y is what its node does
+    module _ (y : Reaction) (yes : r.verdict ≡ Ok y) where
+      pub room_for : Room y.outgoing (left_of t.waiting r.place)
+      room_for = has_room _ tower _ _ _ _ _ _ rd e i hi b r j y yes
 
       -- 17 is not met
-      not_at_end : pair_at_end before.sent r.verdict.reaction.outgoing ≡ false
-      not_at_end = end_below _ tower _ _ _ _ _ _ rd e i hi b r j yes (waiting_below before.rule n tower before.nodes before.queue (in_range_pair before k.top.range) (in_range_base before k.top.range).0 (in_range_base before k.top.range).1)
+      not_at_end : pair_at_end before.sent y.outgoing ≡ false
+      not_at_end = end_below _ tower _ _ _ _ _ _ rd e i hi b r j y yes (waiting_below before.rule n tower before.nodes before.queue (in_range_pair before k.top.range) (in_range_base before k.top.range).0 (in_range_base before k.top.range).1)
 
       taken : step before (event_at n t.tried) ≡ accepted (effect before e) (reaction_to before e).mark
-      taken = same_step _ _ _ _ (he under) (step_accepts _ tower _ _ _ _ _ _ rd e i hi b r j yes not_at_end)
+      taken = same_step _ _ _ _ (he under) (step_accepts _ tower _ _ _ _ _ _ rd e i hi b r j y yes not_at_end)
 
       -- as the last of a list
       module _ (l : h + 1 ≡ len) where
@@ -467,32 +459,32 @@ module _ {x o : List ℕ} {n len : ℕ} {ls : List Level} {g at h : ℕ} {t : Le
           pub listed : p ≤ 65408 → Kept x o' n len ls h (onward t) (g + 1) p
           listed q = given_kept k under _ _ taken last line_of q
 
-          pub listed_more : (s : Search) → x ≡ text_left s → at < p → Gave s o' (record { written = p; done = false; search = record { n = n; length = len; given = g + 1; height = h + 1; levels = set ls h (onward t) } })
+          pub listed_more : (s : Search) → x ≡ text_left s → at < p → Gave s o' (record { written = p; next = Some (record { n = n; length = len; given = g + 1; height = h + 1; levels = set ls h (onward t) }) })
           listed_more s q z = gave_more k under _ _ taken last o' p line_of s q z
 
       -- as one of others: v is the level of its table
-      module _ (l : h + 1 ≡ len → ⊥) (us : List ℕ) (w : ℕ) (q : queue us w ≡ without r.place (queue t.words t.waiting) ++ sent r.verdict.reaction.outgoing) (z : length us ≡ 256)
+      module _ (l : h + 1 ≡ len → ⊥) (us : List ℕ) (w : ℕ) (q : queue us w ≡ without r.place (queue t.words t.waiting) ++ sent y.outgoing) (z : length us ≡ 256)
           {line : List ℕ} {end : ℕ} (a : Appended t.line t.end (event_text e ++ bytes ", ") line end) where
         abbrev v : Level
-        v = record { nodes = set t.nodes i r.verdict.reaction.node; words = us; waiting = w; tried = 0; line = line; end = end }
+        v = record { nodes = set t.nodes i y.node; words = us; waiting = w; tried = 0; line = line; end = end }
 
         more : suc h < len
         more = omega (arith, l, k.below)
 
         -- the state after it, with its counts set aside
         state_above : seen_waiting n tower v.nodes us w ≡ counts_aside (effect before e)
-        state_above = ap counts_aside (next_is _ tower _ _ _ _ _ _ rd e i hi b r j yes not_at_end us w q)
+        state_above = ap counts_aside (next_is _ tower _ _ _ _ _ _ rd e i hi b r j y yes not_at_end us w q)
 
         ready_above : ReadyLevel n v
         ready_above =
-            let y = ready_again _ tower _ _ _ _ _ _ rd e i hi b r j yes not_at_end us w q z in
-            record { words = y.words; nodes = y.nodes; range = waiting_in TwoPairs n tower _ (queue us w) refl refl (in_range_base _ y.range).1 }
+            let z = ready_again _ tower _ _ _ _ _ _ rd e i hi b r j y yes not_at_end us w q z in
+            record { words = z.words; nodes = z.nodes; range = waiting_in TwoPairs n tower _ (queue us w) refl refl (in_range_base _ z.range).1 }
 
         longer : Appended t.line t.end (event_text (event_at n t.tried) ++ bytes ", ") line end
         longer = rw (he under) at a
 
         pub raised : end ≤ t.end + 18 → Kept x o n len (set ls h (onward t)) (h + 1) v g at
-        raised y = pushed k under _ _ taken more v refl state_above ready_above longer y
+        raised f = pushed k under _ _ taken more v refl state_above ready_above longer f
 
         pub raised_less : turns_of n len (set ls h (onward t)) (h + 1) v < turns_of n len ls h t
         raised_less = pushed_less k under _ _ taken more v refl state_above ready_above longer

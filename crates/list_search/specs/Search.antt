@@ -1,11 +1,13 @@
 -- What a search still gives, and what `begin` and `next_lines` promise.
-use Rattle.std.specs.Prelude.{ℕ, zero, suc, ◌+◌, ◌-◌, ◌*◌, ◌^◌, ◌≤◌, ◌<◌, true, false, ◌≡◌, ◌⊎◌, List, [], ◌∷◌, ◌++◌, eqb, length, take, get_or}
+use Rattle.std.specs.Prelude.{ℕ, zero, suc, ◌+◌, ◌-◌, ◌*◌, ◌^◌, ◌≤◌, ◌<◌, true, ◌≡◌, ◌⊎◌, Option, None, Some, IfSome, IsSome, List, [], ◌∷◌, ◌++◌, eqb, length, take, get_or}
+use Rattle.std.specs.Option.{unwrap_or}
 use Rattle.model.specs.Limits.{tower}
 use Rattle.model.specs.Pick.{pick}
 use Rattle.model.specs.State.{start, in_range}
 use Rattle.model.specs.declared.Event.{Event}
 use Rattle.packed.specs.Seen.{seen_waiting}
 use Rattle.listing.specs.Ascii.{bytes}
+use Rattle.listing.specs.declared.buffer.TextBuffer.{TextBuffer}
 use Rattle.short_lists_text.specs.Text.{refusal_text, text_of}
 use Rattle.list_events.specs.Events.{size_of}
 use Rattle.list_search.specs.declared.Level.{Level}
@@ -105,8 +107,12 @@ pub record Begun (l : List ℕ) (s : Search) : Type 0 where
   pub text : text_left s ≡ text_of l
 
 -- the text that comes after a piece: none after the last
+abbrev pub text_from : Option Search → List ℕ
+text_from None = []
+text_from (Some s) = text_left s
+
 abbrev pub text_after : Piece → List ℕ
-text_after p = pick p.done [] (text_left p.search)
+text_after p = text_from p.next
 
 -- the last byte of x ends a line
 pub record EndsLine (x : List ℕ) : Type 0 where
@@ -123,8 +129,18 @@ pub record Gave (s : Search) (o : List ℕ) (p : Piece) : Type 0 where
   pub some : 1 ≤ p.written
   -- and no line is parted: a line of the text has no 0x0A but its last byte
   pub lines : EndsLine (take p.written o)
-  -- the search can be called again
-  pub sound : Sound p.search
+  -- the search that it gives can be called
+  pub sound : IfSome p.next Sound
+
+-- nothing is written in the buffer, which has the room for a piece
+abbrev pub Unwritten : TextBuffer → Type 0
+Unwritten b = (b.end ≡ 0) × (length b.bytes.now ≡ 65536)
+
+-- the same of what was such a buffer, b, and is o
+pub record GaveInto (s : Search) (b : TextBuffer) (p : Piece) (o : TextBuffer) : Type 0 where
+  -- the same lent bytes
+  pub same : o.bytes.ghost_name ≡ b.bytes.ghost_name
+  pub gave : Gave s o.bytes.now p
 
 -- ── calls one after another ──
 
@@ -138,20 +154,20 @@ abbrev pub written_by : List Call → List ℕ
 written_by [] = []
 written_by (c ∷ cs) = take c.piece.written c.buffer ++ written_by cs
 
--- calls from the search s on, each with the search that the one before gave, none of which said that it is done
+-- calls from the search s on, each with the search that the one before gave, the last of which gave one too
 abbrev pub Calls : Search → List Call → Type 0
 Calls s [] = Unit {0}
-Calls s (c ∷ cs) = Gave s c.buffer c.piece × (c.piece.done ≡ false) × Calls c.piece.search cs
+Calls s (c ∷ cs) = Gave s c.buffer c.piece × IsSome c.piece.next × Calls (unwrap_or c.piece.next s) cs
 
 -- the search after them
 abbrev pub search_after : Search → List Call → Search
 search_after s [] = s
-search_after s (c ∷ cs) = search_after c.piece.search cs
+search_after s (c ∷ cs) = search_after (unwrap_or c.piece.next s) cs
 
 -- The pieces of the text of the input l, from the search s on. Each call comes back: only functions that end are accepted by the check.
 pub record PiecesMakeText (l : List ℕ) (s : Search) : Type 0 where
-  -- the calls up to the one that says that it is done have written the text, whole
-  pub whole : (cs : List Call) (c : Call) → Calls s cs → Gave (search_after s cs) c.buffer c.piece → c.piece.done ≡ true → written_by (cs ++ (c ∷ [])) ≡ text_of l
+  -- the calls up to the one that gives no search have written the text, whole
+  pub whole : (cs : List Call) (c : Call) → Calls s cs → Gave (search_after s cs) c.buffer c.piece → c.piece.next ≡ None → written_by (cs ++ (c ∷ [])) ≡ text_of l
   -- up to any other they have written a part of it, and what is left is what the search still gives
   pub part : (cs : List Call) → Calls s cs → text_of l ≡ written_by cs ++ text_left (search_after s cs)
   -- and the search can be called again

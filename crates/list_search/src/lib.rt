@@ -7,9 +7,10 @@ mod line;
 ghost use Rattle.std.specs.Prelude.{◌≡◌, ◌-◌, ◌≤◌, length};
 ghost use Rattle.model.specs.Limits.{tower};
 ghost use Rattle.packed.specs.Packed.{Rulable, Ruled};
-ghost use Rattle.list_search.specs.Search.{Lowest, First, Going, Sound, Begun, Gave};
+ghost use Rattle.list_search.specs.Search.{Lowest, First, Going, Sound, Begun, Gave, Unwritten, GaveInto};
 
 use line::LINE;
+use listing::TextBuffer;
 use model::{Event, Node};
 use packed::{Ruling, WORDS};
 
@@ -21,6 +22,7 @@ pub const PIECE: usize = 65536;
 
 // A table on the way to lists, its messages as words and without its counts, on which no short list depends; how many events of the alphabet were tried on it; and the
 // beginning of the line of every list through it, which is the first end bytes of line.
+// kept: line and its end, which only `extend` and one slice use, so that a type for the two is no plainer; words and how many of them wait, since packed's promises take them so (`queue`)
 #[derive(Clone, Copy)]
 struct Level {
     nodes: [Node; 16],
@@ -32,39 +34,39 @@ struct Level {
 }
 
 // A search for lists of a length among n nodes, of which some were given; n is 0 where the input is refused. Only `begin` and `next_lines` make one.
+// kept: 0 and no Option: a refused input is a search too, which gives its line; with an Option of the rest each function would take it apart first.
 #[derive(Clone, Copy)]
 pub struct Search {
     n: u8,
     length: usize,
     given: u32,
     // how many levels of the stack are used, the lowest first
+    // kept: height beside levels: a type for the stack would have these two fields, as this one has, and is no plainer
     height: usize,
     levels: [Level; LEVELS],
 }
 
-// So many bytes were written. Where they are not the last of the text, search goes on with the next.
+// So many bytes were written. Where they are not the last of the text, next goes on with the next.
 #[derive(Clone, Copy)]
 pub struct Piece {
     pub written: usize,
-    pub done: bool,
-    pub search: Search,
+    pub next: Option<Search>,
 }
 
 // The judgement of an event by the tower's limit of messages.
 fn rule_in_tower(q: &[u32; WORDS], n: u8, waiting: u8, c: Node, e: Event) -> Ruling
-    requires { (length q.now ≡ 256) × (waiting ≤ 64) × Rulable q.now n waiting c e }
+    requires { (waiting ≤ 64) × Rulable q.now n waiting c e }
     ensures { Ruled q.now n tower.messages waiting c e result }
 {
-    let limits = predicates::tower();
-    packed::rule(q, n, limits.messages, waiting, c, e)
+    packed::rule(q, n, predicates::tower().messages, waiting, c, e)
 }
 
-// The next lines of a search in which an event is missing behind the topmost table. That table stands in this function's own locals, and the functions that it
+// The next lines of a search in which an event is missing behind the topmost table. That table stands in this function's own local, and the functions that it
 // calls take a node, a message and numbers: a table is copied only where an event is accepted that is not a list's last, where the search goes back to the table
 // below, and with the search at both ends of a piece.
-fn lines_on(s: Search, out: &mut [u8]) -> Piece
-    requires { Going s (s.height - 1) × (1 ≤ s.length) × (length out.old ≡ 65536) }
-    ensures { Gave s out.new result }
+fn lines_on(s: Search, out: &mut TextBuffer) -> Piece
+    requires { Going s (s.height - 1) × (1 ≤ s.length) × Unwritten out.old }
+    ensures { GaveInto s out.old result out.new }
 {
     let n = s.n;
     let length = s.length;
@@ -73,132 +75,96 @@ fn lines_on(s: Search, out: &mut [u8]) -> Piece
     let mut levels = s.levels;
     // how many levels stand below the topmost
     let mut height = s.height - 1;
-    let top = levels[height];
-    let mut nodes = top.nodes;
-    let mut words = top.words;
-    let mut waiting = top.waiting;
-    let mut tried = top.tried;
-    let mut line = top.line;
-    let mut end = top.end;
+    let mut top = levels[height];
     let mut given = s.given;
-    let mut at: usize = 0;
+    // kept: a loop by hand: it goes up and down the stack, which no iterator does
     loop {
-        if tried == count {
+        if top.tried == count {
             if height == 0 {
+                line::put_count(out, given);
                 return Piece {
-                    written: line::put_count(out, at, given),
-                    done: true,
-                    search: s,
+                    written: out.end,
+                    next: None,
                 };
             }
             height -= 1;
-            let below = levels[height];
-            nodes = below.nodes;
-            words = below.words;
-            waiting = below.waiting;
-            tried = below.tried;
-            line = below.line;
-            end = below.end;
+            top = levels[height];
             continue;
         }
-        let e = events[tried as usize];
-        tried += 1;
+        let e = events[top.tried as usize];
+        top.tried += 1;
         let i = packed::seat(e);
-        let c = nodes[i];
-        let ruling = rule_in_tower(&words, n, waiting, c, e);
-        let verdict = ruling.verdict;
-        let answer = verdict.answer;
-        if !predicates::is_accepted(answer) {
+        let c = top.nodes[i];
+        let ruling = rule_in_tower(&top.words, n, top.waiting, c, e);
+        let Ok(reaction) = ruling.verdict else {
             continue;
-        }
+        };
         if height + 1 == length {
-            at = line::put_line(out, at, &line, end, e);
+            line::put_line(out, &top.line[..top.end], e);
             given += 1;
-            if at <= PIECE - LINE {
+            if out.end <= PIECE - LINE {
                 continue;
             }
-            levels[height] = Level {
-                nodes: nodes,
-                words: words,
-                waiting: waiting,
-                tried: tried,
-                line: line,
-                end: end,
-            };
+            levels[height] = top;
             return Piece {
-                written: at,
-                done: false,
-                search: Search {
-                    n: n,
-                    length: length,
-                    given: given,
+                written: out.end,
+                next: Some(Search {
+                    n,
+                    length,
+                    given,
                     height: height + 1,
-                    levels: levels,
-                },
+                    levels,
+                }),
             };
         }
-        levels[height] = Level {
-            nodes: nodes,
-            words: words,
-            waiting: waiting,
-            tried: tried,
-            line: line,
-            end: end,
-        };
+        levels[height] = top;
         height += 1;
-        let reaction = verdict.reaction;
-        let node = reaction.node;
         let outgoing = reaction.outgoing;
-        nodes[i] = node;
-        waiting = packed::exchange(&mut words, ruling.place, waiting, outgoing);
-        end = line::extend(&mut line, end, e);
-        tried = 0;
+        top.nodes[i] = reaction.node;
+        top.waiting = packed::exchange(&mut top.words, ruling.place, top.waiting, outgoing);
+        top.end = line::extend(&mut top.line, top.end, e);
+        top.tried = 0;
     }
 }
 
 // An input that is refused: its line, alone.
-fn refused(s: Search, out: &mut [u8; PIECE]) -> Piece
-    requires { s.n ≡ 0 }
-    ensures { Gave s out.new result }
+fn refused(s: Search, out: &mut TextBuffer) -> Piece
+    requires { (s.n ≡ 0) × Unwritten out.old }
+    ensures { GaveInto s out.old result out.new }
 {
+    out.put(b"stopped 0 16\n");
     Piece {
-        written: listing::put_bytes(out, 0, b"stopped 0 16\n"),
-        done: true,
-        search: s,
+        written: out.end,
+        next: None,
     }
 }
 
 // Lists of no events: there is one, an empty line.
-fn empty_list(s: Search, out: &mut [u8; PIECE]) -> Piece
-    requires { Going s (s.height - 1) × (s.length ≡ 0) }
-    ensures { Gave s out.new result }
+fn empty_list(s: Search, out: &mut TextBuffer) -> Piece
+    requires { Going s (s.height - 1) × (s.length ≡ 0) × Unwritten out.old }
+    ensures { GaveInto s out.old result out.new }
 {
-    let p = listing::put_bytes(out, 0, b"\n");
+    out.put(b"\n");
+    line::put_count(out, s.given + 1);
     Piece {
-        written: line::put_count(out, p, s.given + 1),
-        done: true,
-        search: s,
+        written: out.end,
+        next: None,
     }
 }
 
-// The next whole lines of the text that s still gives, at the start of out: to be called with the search that the call before gave, until one says that it is done.
+// The next whole lines of the text that s still gives, at the start of out: to be called with the search that the call before gave, until one gives none.
 pub fn next_lines(s: Search, out: &mut [u8; PIECE]) -> Piece
     requires { Sound s }
     ensures { Gave s out.new result }
 {
+    let mut text = TextBuffer { bytes: out, end: 0 };
     if s.n == 0 {
-        return refused(s, out);
+        return refused(s, &mut text);
     }
     if s.length == 0 {
-        return empty_list(s, out);
+        return empty_list(s, &mut text);
     }
-    lines_on(s, out)
-}
-
-fn blank_line() -> [u8; LINE]
-    ensures { length result ≡ 128 }
-{
-    [0; LINE]
+    lines_on(s, &mut text)
 }
 
 // The starting table of n nodes in the tower, on which no event was tried.
@@ -206,14 +172,13 @@ fn lowest(n: u8) -> Level
     ensures { Lowest n result }
 {
     let begun = machine::starting(n, predicates::tower());
-    let t = begun.table;
-    let nodes = t.nodes;
+    let nodes = begun.table.nodes;
     Level {
-        nodes: nodes,
+        nodes,
         words: packed::none(),
         waiting: 0,
         tried: 0,
-        line: blank_line(),
+        line: [0; LINE],
         end: 0,
     }
 }
@@ -222,17 +187,17 @@ fn lowest(n: u8) -> Level
 fn first(n: u8, length: usize) -> Search
     ensures { First n length result }
 {
-    let l = lowest(n);
     Search {
-        n: n,
-        length: length,
+        n,
+        length,
         given: 0,
         height: 1,
-        levels: [l; LEVELS],
+        levels: [lowest(n); LEVELS],
     }
 }
 
 // The search for the text of any input.
+#[tactic(auto, using(short_lists_text::proofs::Refuses::two_bytes, crate::proofs::Ends::begun_refused, crate::proofs::Ends::begun_fits))]
 pub fn begin(input: &[u8]) -> Search
     ensures { Begun input.now result }
 {
@@ -240,7 +205,5 @@ pub fn begin(input: &[u8]) -> Search
     if !list_events::fits(input, 7) {
         return first(0, 0);
     }
-    let n = input[0];
-    let length = input[1];
-    first(n, length as usize)
+    first(input[0], input[1] as usize)
 }

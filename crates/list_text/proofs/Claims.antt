@@ -9,8 +9,7 @@ use Rattle.model.specs.declared.Limits.{Limits}
 use Rattle.model.specs.declared.Event.{Event}
 use Rattle.event_list.specs.declared.Stop.{Stop}
 use Rattle.event_list.specs.declared.Stop.TheVariants.{WrongCount}
-use Rattle.event_list.specs.declared.First.{First}
-use Rattle.event_list.specs.Format.{max_bytes, tag_at, limits_of, nodes_of, Ending, complete, Reading, Listed, failed, begun, reading}
+use Rattle.event_list.specs.Format.{First, max_bytes, tag_at, limits_of, nodes_of, Ending, complete, Reading, Listed, failed, begun, reading}
 use Rattle.listing.specs.Printing.{joined}
 use Rattle.run_list.specs.Text.{ending_lines}
 use Rattle.list_text.specs.Text.{opening_line, event_line, shown_lines, list_lines, list_text}

@@ -7,15 +7,13 @@ use mathlib.Core.Logic.{⊎_elim}
 use mathlib.Core.List.{List, [], ◌∷◌, ◌++◌, append_assoc, append-nil, map}
 use lib.ListN.{length, get_or, take, drop}
 use lib.Seq.{length-take-le, take-take}
-use lib.Dec.{eqb}
 use borrow.Author.Tests.{le-ltb, lt-leb, eqb-true, not-false}
+use Rattle.std.specs.Prelude.{Some, Err, None, Ok}
 use Rattle.model.specs.Pick.{pick, by_test}
 use Rattle.model.specs.declared.Limits.{Limits}
 use Rattle.model.specs.declared.Event.{Event}
 use Rattle.event_list.specs.declared.Stop.{Stop}
-use Rattle.event_list.specs.declared.Next.{Next}
-use Rattle.event_list.specs.declared.First.{First}
-use Rattle.event_list.specs.Format.{max_bytes, tag_at, length_at, contents_at, behind, first_tag, length_of, cut_short, checked, next_at, limits_of, nodes_of, first_of, stop_number, Ending, complete, stopped, Reading, onward, read_from, rest, Listed, failed, begun, listed, reading}
+use Rattle.event_list.specs.Format.{First, Next, max_bytes, tag_at, length_at, contents_at, behind, first_tag, length_of, cut_short, checked, next_at, limits_of, nodes_of, first_of, stop_number, Ending, complete, stopped, Reading, onward, read_from, rest, Listed, failed, begun, listed, reading}
 use Rattle.event_list.proofs.Fields.{next_end}
 use Rattle.event_list.proofs.Reading.{rest_step, next_past, reading_begun, first_good, reads_all}
 use Rattle.listing.specs.Ascii.{bytes}
@@ -29,11 +27,9 @@ use Rattle.short_lists_text.proofs.Counts.{joined_last}
 use Rattle.list_text.specs.Text.{opening_line, event_line, shown_lines, list_lines, list_text}
 use Rattle.list_text.specs.Words.{AllBytes, is_skipped, past_skipped, word_at, same}
 use Rattle.list_text.specs.Script as Script
-use Rattle.list_text.specs.Script.{event_field, opening_tag, opening_at, event_named, event_at, event_from, separated_at, part_at, Said, wrong, said, before, said_from, script_of, Outcome, bad, list, outcome, list_of}
+use Rattle.list_text.specs.Script.{due, event_field, opening_tag, opening_at, event_named, event_at, event_from, separated_at, part_at, Said, wrong, said, before, said_from, script_of, Outcome, bad, list, outcome, list_of}
 use Rattle.list_text.specs.Claims.{DamageShown, FitsBytes, IsFirstTag}
 use Rattle.list_text.specs.declared.Expected.TheVariants as Expected
-use Rattle.list_text.specs.declared.Opening.TheVariants as Opening
-use Rattle.list_text.specs.declared.Part.TheVariants as Part
 use Rattle.list_text.proofs.Parts.{says_all}
 use Rattle.list_text.proofs.Found.{Stops, IsWord, is_word, behind_one, byte_is, byte_inside, word_is, blank_none, skip_none, skip_line_end, behind_line_end}
 use Rattle.list_text.proofs.Found as Found
@@ -98,15 +94,15 @@ unfolding first_of pick
 cut_first l b h f i =
     let m = cut_long l b 0 h f in
     rw (le-ltb max_bytes (length (take b l)) (omega arith), le-ltb max_bytes (length l) i, cut_contents l b 0 h f, cut_tag l b 0 h f)
-    (cut_checked l b 0 h f first_tag length_of First.Stopped (nodes_of (limits_of (tag_at l 0)) (get_or (contents_at l 0) 0 0)))
+    (cut_checked l b 0 h f first_tag length_of Err (nodes_of (limits_of (tag_at l 0)) (get_or (contents_at l 0) 0 0)))
 
 -- ── the list up to where it stops ──
 
 -- The next field starts behind this one.
 abbrev StartsBehind : List ℕ → ℕ → Next → Type 0
-StartsBehind l at Next.Done = Unit {0}
-StartsBehind l at (Next.Stopped s) = Unit {0}
-StartsBehind l at (Next.Got e p) = p ≡ behind l at
+StartsBehind l at (Ok None) = Unit {0}
+StartsBehind l at (Err s) = Unit {0}
+StartsBehind l at (Ok (Some (e, p))) = p ≡ behind l at
 
 starts_behind : (l : List ℕ) (at : ℕ) → StartsBehind l at (next_at l at)
 unfolding next_at checked
@@ -125,12 +121,12 @@ cut_from (suc k) l at b s h q = by (next_at l at) refl (starts_behind l at) (λ 
   where
     by : (x : Next) → x ≡ next_at l at → StartsBehind l at x → ((p : ℕ) → (read_from k l p).ending ≡ stopped b s → ReadsTo l b p (read_from k l p).events) →
         (onward at x (read_from k l)).ending ≡ stopped b s → ReadsTo l b at (onward at x (read_from k l)).events
-    by Next.Done i g r c = let z : ◌≡◌ {A = ℕ} 0 1 = cc in absurd (omega arith)
-    by (Next.Stopped v) i g r c =
+    by (Ok None) i g r c = let z : ◌≡◌ {A = ℕ} 0 1 = cc in absurd (omega arith)
+    by (Err v) i g r c =
         let z : at ≡ b = cc in
         let m = length-take-le b l h in
         (omega arith, rest_step (take b l) at ∙ rw (next_end (take b l) at (omega arith)))
-    by (Next.Got e p) i g r c =
+    by (Ok (Some (e, p))) i g r c =
         let y = r p c in
         let n = y.0 in
         let o = next_past l at i refl in
@@ -138,8 +134,8 @@ cut_from (suc k) l at b s h q = by (next_at l at) refl (starts_behind l at) (λ 
 
 -- A good first field has no more than four bytes.
 abbrev FirstShort : List ℕ → First → Type 0
-FirstShort l (First.Stopped s) = Unit {0}
-FirstShort l (First.Nodes n lim) = behind l 0 ≤ 4
+FirstShort l (Err s) = Unit {0}
+FirstShort l (Ok (n, lim)) = behind l 0 ≤ 4
 
 one_length : (t : ℕ) → first_tag t ≡ true → length_of t ≡ 1
 unfolding length_of pick
@@ -168,8 +164,8 @@ unfolding reading rest
 cut_reads l n lim r b s e q = by (first_of l) refl (first_short l) e
   where
     by : (x : First) → x ≡ first_of l → FirstShort l x → listed l x ≡ begun n lim r → Cut l n lim r.events b
-    by (First.Stopped v) i g w = let z : ◌≡◌ {A = ℕ} 0 1 = cc in absurd (omega arith)
-    by (First.Nodes m k) i g w =
+    by (Err v) i g w = let z : ◌≡◌ {A = ℕ} 0 1 = cc in absurd (omega arith)
+    by (Ok (m, k)) i g w =
         let good = first_good l i refl in
         let p : begun m k (rest l 4) ≡ begun n lim r = sym (reading_begun l i refl) ∙ e in
         let x : m ≡ n = cc in
@@ -179,7 +175,7 @@ cut_reads l n lim r b s e q = by (first_of l) refl (first_short l) e
         let h : b < length l = reads_all.before l 4 b s c in
         let u = cut_from (length l) l 4 b s (omega arith) c in
         let d = u.0 in
-        let f : First.Nodes m k ≡ first_of (take b l) = i ∙ sym (cut_first l b (omega arith) (omega arith) good.1) in
+        let f : Ok (m, k) ≡ first_of (take b l) = i ∙ sym (cut_first l b (omega arith) (omega arith) good.1) in
         record {
           reads = reading_begun (take b l) f refl ∙ rw (x, y, u.1, ap (λ v. v.events) z);
           tag = cut_tag l b 0 (omega arith) (omega arith);
@@ -209,7 +205,7 @@ stopped_word : (t : List ℕ) (at : ℕ) (b r : ℕ) → drop at t ≡ stopped_l
 stopped_word t at b r d = let x = stopped_starts b r in word_is t at (bytes "stopped") (32 ∷ x.0) (d ∙ x.1) (is_word (bytes "stopped") refl) refl
 
 -- It is no event.
-stopped_part : (t : List ℕ) (at b r : ℕ) → drop at t ≡ 10 ∷ stopped_line b r → part_at t at ≡ Part.Wrong (at + 1) Expected.Name
+stopped_part : (t : List ℕ) (at b r : ℕ) → drop at t ≡ 10 ∷ stopped_line b r → part_at t at ≡ Err (due (at + 1) Expected.Name)
 unfolding part_at separated_at event_from event_at event_named same pick
 stopped_part t at b r d =
     let x = stopped_starts b r in
@@ -226,7 +222,7 @@ stopped_part t at b r d =
     )
 
 -- It is no opening.
-stopped_opening : (b r : ℕ) → opening_at (stopped_line b r) (past_skipped (stopped_line b r) 0) ≡ Opening.Wrong 0 Expected.Opening
+stopped_opening : (b r : ℕ) → opening_at (stopped_line b r) (past_skipped (stopped_line b r) 0) ≡ Err (due 0 Expected.Opening)
 unfolding opening_at opening_tag same pick
 stopped_opening b r =
     let t = stopped_line b r in
@@ -288,23 +284,23 @@ module _ (n : ℕ) (es : List Event) (b r : ℕ) (h : n < 256) (f : All FitsByte
   abbrev tail : List ℕ
   tail = joined (map event_line es) ++ stopped_line b r
 
-  opened_bad : (w : List ℕ) (u : ℕ) → IsWord w → Stops (is_skipped false) (w ++ (32 ∷ (decimal n ++ (10 ∷ tail)))) → opening_tag w ≡ u → eqb u 0 ≡ false → IsBad (list_of (w ++ (32 ∷ (decimal n ++ (10 ∷ tail)))))
+  opened_bad : (w : List ℕ) (u : ℕ) → IsWord w → Stops (is_skipped false) (w ++ (32 ∷ (decimal n ++ (10 ∷ tail)))) → opening_tag w ≡ Some u → IsBad (list_of (w ++ (32 ∷ (decimal n ++ (10 ∷ tail)))))
   unfolding list_of script_of
-  opened_bad w u a k g z =
+  opened_bad w u a k g =
       let t = w ++ (32 ∷ (decimal n ++ (10 ∷ tail))) in
       let p = 0 + length w + 1 + length (decimal n) in
       let d = Found.behind t 0 w (32 ∷ (decimal n ++ (10 ∷ tail))) refl in
       let q = Found.behind t (0 + length w + 1) (decimal n) (10 ∷ tail) (behind_one t (0 + length w) 32 (decimal n ++ (10 ∷ tail)) d) in
       by_test (λ (x : Script.Script). IsBad (outcome t x)) (λ _. tt)
-      (λ _. rw (opens w u n (10 ∷ tail) a k g z h refl) (events_bad u n t (said_from t p (max_bytes - 4)) (tail_said b r es f t p (max_bytes - 4) q)))
+      (λ _. rw (opens w u n (10 ∷ tail) a k g h refl) (events_bad u n t (said_from t p (max_bytes - 4)) (tail_said b r es f t p (max_bytes - 4) q)))
 
   cabinets_bad : IsBad (list_of (opening_line 0x01 n ++ tail))
   unfolding opening_line opening_tag same pick
-  cabinets_bad = subst (λ (t : List ℕ). IsBad (list_of t)) (sym (cabinets_opens n tail)) (opened_bad (bytes "cabinets") 1 (is_word (bytes "cabinets") refl) refl refl refl)
+  cabinets_bad = subst (λ (t : List ℕ). IsBad (list_of t)) (sym (cabinets_opens n tail)) (opened_bad (bytes "cabinets") 1 (is_word (bytes "cabinets") refl) refl refl)
 
   stand_bad : IsBad (list_of (opening_line 0x02 n ++ tail))
   unfolding opening_line opening_tag same pick
-  stand_bad = subst (λ (t : List ℕ). IsBad (list_of t)) (sym (stand_opens n tail)) (opened_bad (bytes "stand") 2 (is_word (bytes "stand") refl) refl refl refl)
+  stand_bad = subst (λ (t : List ℕ). IsBad (list_of t)) (sym (stand_opens n tail)) (opened_bad (bytes "stand") 2 (is_word (bytes "stand") refl) refl refl)
 
   lines_bad : (u : ℕ) → IsFirstTag u → IsBad (list_of (joined (opening_line u n ∷ map event_line es) ++ stopped_line b r))
   unfolding joined

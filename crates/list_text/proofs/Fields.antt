@@ -9,13 +9,12 @@ use lib.ListN.{length, get_or, take, drop, length-append, length-drop, take-appe
 use lib.Seq.{length-take-le, take-append_seam, drop-append_seam, drop-cons, drop-drop, get_or-drop}
 use lib.Dec.{eqb, ltb}
 use borrow.Author.Tests.{le-ltb, lt-leb, leb-true, ltb-false, eq-eqb, eqb-true, not-false}
+use Rattle.std.specs.Prelude.{Some, None, Ok, Err}
 use Rattle.model.specs.Pick.{pick, by_test}
 use Rattle.model.specs.declared.Limits.{Limits}
 use Rattle.model.specs.declared.Event.{Event}
 use Rattle.model.specs.declared.Event.TheVariants.{Crash, Recover, Check, Timeout, Tick, Expire, Finish, Deliver, Lose}
-use Rattle.event_list.specs.declared.Next.{Next}
-use Rattle.event_list.specs.declared.First.{First}
-use Rattle.event_list.specs.Format.{max_bytes, two_bytes, tag_at, length_at, contents_at, behind, first_tag, limits_of, event_tag, length_of, cut_short, checked, event_of, next_at, nodes_of, first_of, complete, Reading, onward, read_from, rest, begun, listed, reading}
+use Rattle.event_list.specs.Format.{First, Next, max_bytes, two_bytes, tag_at, length_at, contents_at, behind, first_tag, limits_of, event_tag, length_of, cut_short, checked, event_of, next_at, nodes_of, first_of, complete, Reading, onward, read_from, rest, begun, listed, reading}
 use Rattle.event_list.proofs.Fields.{uncut, next_end}
 use Rattle.event_list.proofs.Reading.{rest_step}
 use Rattle.short_lists_text.specs.Rows.{All, concat_map}
@@ -72,7 +71,7 @@ module _ (l : List ℕ) (at : ℕ) (e : Event) (s : List ℕ) (p : drop at l ≡
   unfolding event_field
   event_behind = let k = event_length in omega arith
 
-  next_event : next_at l at ≡ Next.Got e (at + length (event_field e))
+  next_event : next_at l at ≡ Ok (Some (e, at + length (event_field e)))
   unfolding next_at checked pick
   next_event =
       rw (
@@ -116,8 +115,8 @@ first_opening u n es o h =
 -- Behind it, at offset 4, the events are read.
 listed_opened : (u n : ℕ) (es : List Event) (x : First) → listed (list_bytes u n es) x ≡ opened x es
 unfolding list_bytes
-listed_opened u n es (First.Stopped s) = refl
-listed_opened u n es (First.Nodes m lim) = ap (begun m lim) (rest_events (list_bytes u n es) 4 es refl)
+listed_opened u n es (Err s) = refl
+listed_opened u n es (Ok (m, lim)) = ap (begun m lim) (rest_events (list_bytes u n es) 4 es refl)
 
 pub fields_read : (u n : ℕ) (es : List Event) → IsFirstTag u → length (list_bytes u n es) ≤ max_bytes → reading (list_bytes u n es) ≡ opened (nodes_of (limits_of u) n) es
 unfolding reading
@@ -147,7 +146,7 @@ fields_bytes u n es o h f = (opening_byte u o, (omega arith, (omega arith, (h, a
 
 -- ── the bytes of a field that is there whole ──
 
-all_drop : (P : ℕ → Type 0) (k : ℕ) (l : List ℕ) → All P l → All P (drop k l)
+pub all_drop : (P : ℕ → Type 0) (k : ℕ) (l : List ℕ) → All P l → All P (drop k l)
 all_drop P zero l a = a
 all_drop P (suc k) [] a = tt
 all_drop P (suc k) (x ∷ l) a = all_drop P k l a.1
@@ -196,9 +195,9 @@ module _ (l : List ℕ) (at k : ℕ) (h : behind l at ≤ length l) (e : length_
 
 -- what is known of the bytes from an offset on, by what stands there
 abbrev NextBytes : List ℕ → ℕ → Next → Type 0
-NextBytes l at Next.Done = length l ≤ at
-NextBytes l at (Next.Stopped s) = Unit {0}
-NextBytes l at (Next.Got e p) = (drop at l ≡ event_field e ++ drop p l) × FitsBytes e × (at < p)
+NextBytes l at (Ok None) = length l ≤ at
+NextBytes l at (Err s) = Unit {0}
+NextBytes l at (Ok (Some (e, p))) = (drop at l ≡ event_field e ++ drop p l) × FitsBytes e × (at < p)
 
 next_bytes : (l : List ℕ) (at : ℕ) → AllBytes l → NextBytes l at (next_at l at)
 unfolding next_at checked event_field
@@ -208,7 +207,7 @@ next_bytes l at b =
     (λ m. by_test (NextBytes l at) (λ u. tt) (λ u. by_test (NextBytes l at) (λ t. tt) (λ t. by_test (NextBytes l at) (λ w. tt) (λ w. got u t w))))
   where
     got : cut_short l at ≡ false → not (event_tag (tag_at l at)) ≡ false → not (eqb (length_at l at) (length_of (tag_at l at))) ≡ false →
-        NextBytes l at (Next.Got (event_of (tag_at l at) (contents_at l at)) (behind l at))
+        NextBytes l at (Ok (Some (event_of (tag_at l at) (contents_at l at), behind l at)))
     got u t w =
         let h = uncut l at u in
         let d = eqb-true (length_at l at) (length_of (tag_at l at)) (not-false _ w) in
@@ -228,9 +227,9 @@ read_bytes (suc k) l at b h c = by (next_at l at) (next_bytes l at b) (λ p. rea
   where
     by : (x : Next) → NextBytes l at x → ((p : ℕ) → length l ≤ p + k → (read_from k l p).ending ≡ complete → BytesOf l p (read_from k l p).events) →
         (onward at x (read_from k l)).ending ≡ complete → BytesOf l at (onward at x (read_from k l)).events
-    by Next.Done g r q = (drop_of_length-le l g, tt)
-    by (Next.Stopped s) g r q = let z : ◌≡◌ {A = ℕ} 0 1 = cc in absurd (omega arith)
-    by (Next.Got e p) g r q = let z = r p (omega arith) q in (g.0 ∙ ap (λ s. event_field e ++ s) z.0, (g.1, z.1))
+    by (Ok None) g r q = (drop_of_length-le l g, tt)
+    by (Err s) g r q = let z : ◌≡◌ {A = ℕ} 0 1 = cc in absurd (omega arith)
+    by (Ok (Some (e, p))) g r q = let z = r p (omega arith) q in (g.0 ∙ ap (λ s. event_field e ++ s) z.0, (g.1, z.1))
 
 rest_bytes : (l : List ℕ) (at : ℕ) → AllBytes l → (rest l at).ending ≡ complete → BytesOf l at (rest l at).events
 unfolding rest
@@ -240,8 +239,8 @@ rest_bytes l at b c = read_bytes (length l) l at b (omega arith) c
 
 -- what is known of a list by what its first field says
 abbrev FirstBytes : List ℕ → First → Type 0
-FirstBytes l (First.Stopped s) = Unit {0}
-FirstBytes l (First.Nodes n lim) = IsFirstTag (tag_at l 0) × (n < 256) × (l ≡ opening_field (tag_at l 0) n ++ drop (behind l 0) l) × (length l ≤ max_bytes)
+FirstBytes l (Err s) = Unit {0}
+FirstBytes l (Ok (n, lim)) = IsFirstTag (tag_at l 0) × (n < 256) × (l ≡ opening_field (tag_at l 0) n ++ drop (behind l 0) l) × (length l ≤ max_bytes)
 
 either_tag : (t : ℕ) → first_tag t ≡ true → IsFirstTag t
 either_tag t e = by (eqb t 0x01) (eqb t 0x02) refl refl e
@@ -256,7 +255,7 @@ one_byte [] e a = absurd (omega arith)
 one_byte (x ∷ []) e a = (a.0, refl)
 one_byte (x ∷ y ∷ c) e a = absurd (omega arith)
 
-nodes_bytes : (l : List ℕ) (n : ℕ) (lim : Limits) → FirstBytes l (First.Nodes n lim) → FirstBytes l (nodes_of lim n)
+nodes_bytes : (l : List ℕ) (n : ℕ) (lim : Limits) → FirstBytes l (Ok (n, lim)) → FirstBytes l (nodes_of lim n)
 unfolding nodes_of
 nodes_bytes l n lim g = by_test (FirstBytes l) (λ _. tt) (λ _. g)
 
@@ -290,8 +289,8 @@ unfolding reading list_bytes
 fields_only l n lim r b e c = by (first_of l) (first_bytes l b) e
   where
     by : (x : First) → FirstBytes l x → listed l x ≡ begun n lim r → FieldsOnly l n r
-    by (First.Stopped s) g q = let z : ◌≡◌ {A = ℕ} 0 1 = cc in absurd (omega arith)
-    by (First.Nodes m k) g q =
+    by (Err s) g q = let z : ◌≡◌ {A = ℕ} 0 1 = cc in absurd (omega arith)
+    by (Ok (m, k)) g q =
         let i : m ≡ n = cc in
         let p : rest l (behind l 0) ≡ r = cc in
         let z : BytesOf l (behind l 0) r.events = rw p at (rest_bytes l (behind l 0) b (ap (λ s. s.ending) p ∙ c)) in

@@ -3,13 +3,12 @@ use Prim.Native.Nat.{ℕ, zero, suc, ◌+◌, ◌≤◌, ◌<◌}
 use native.Mathlib.Omega.{arith}
 use mathlib.Core.Path.{◌≡◌, refl}
 use mathlib.Core.List.{List, [], ◌∷◌, ◌++◌, map}
-use lib.ListN.{length, get_or, take, drop, length-append}
+use lib.ListN.{length, get_or, drop, length-append}
+use Rattle.std.specs.Prelude.{Some, None, Ok, Err}
 use Rattle.model.specs.Pick.{by_test}
 use Rattle.model.proofs.InRange.{start_small}
 use Rattle.event_list.specs.declared.Stop.{Stop}
-use Rattle.event_list.specs.declared.Next.{Next}
-use Rattle.event_list.specs.declared.First.{First}
-use Rattle.event_list.specs.Format.{stop_number, tag_at, length_at, contents_at, event_of, checked, next_at, first_of, Ending, complete, stopped, onward, read_from, rest}
+use Rattle.event_list.specs.Format.{First, Next, stop_number, tag_at, length_at, contents_at, event_of, checked, next_at, first_of, Ending, complete, stopped, onward, read_from, rest}
 use Rattle.event_list.proofs.Reading.{reading_failed, reading_begun, first_good, reads_all}
 use Rattle.listing.specs.Lines.{row, stopped_line}
 use Rattle.listing.specs.Printing.{joined}
@@ -22,18 +21,9 @@ use Rattle.list_text.specs.Text.{stand_line, opening_line, event_line, list_line
 use Rattle.list_text.specs.Words.{AllBytes}
 use Rattle.list_text.specs.Claims.{FitsBytes}
 use Rattle.list_text.proofs.Lengths.{lines_long}
+use Rattle.list_text.proofs.Fields.{all_drop, all_take}
 
 -- ── a list of bytes ──
-
-all_take : (P : ℕ → Type 0) (k : ℕ) (l : List ℕ) → All P l → All P (take k l)
-all_take P zero l a = tt
-all_take P (suc k) [] a = tt
-all_take P (suc k) (b ∷ l) a = (a.0, all_take P k l a.1)
-
-all_drop : (P : ℕ → Type 0) (k : ℕ) (l : List ℕ) → All P l → All P (drop k l)
-all_drop P zero l a = a
-all_drop P (suc k) [] a = tt
-all_drop P (suc k) (b ∷ l) a = all_drop P k l a.1
 
 -- also past the end, where 0 is read
 byte_at : (c : List ℕ) (k : ℕ) → AllBytes c → get_or c k 0 < 256
@@ -60,9 +50,9 @@ event_fits t c a =
 
 -- what is known of a field
 abbrev FieldFits : Next → Type 0
-FieldFits Next.Done = Unit {0}
-FieldFits (Next.Stopped s) = Unit {0}
-FieldFits (Next.Got e next) = FitsBytes e
+FieldFits (Ok None) = Unit {0}
+FieldFits (Err s) = Unit {0}
+FieldFits (Ok (Some (e, next))) = FitsBytes e
 
 field_fits : (l : List ℕ) (at : ℕ) → AllBytes l → FieldFits (next_at l at)
 unfolding next_at checked
@@ -76,9 +66,9 @@ from_fit zero l at a = tt
 from_fit (suc k) l at a = by (next_at l at) (field_fits l at a) (λ n. from_fit k l n a)
   where
     by : (x : Next) → FieldFits x → ((n : ℕ) → All FitsBytes (read_from k l n).events) → All FitsBytes (onward at x (read_from k l)).events
-    by Next.Done f g = tt
-    by (Next.Stopped s) f g = tt
-    by (Next.Got e n) f g = (f, g n)
+    by (Ok None) f g = tt
+    by (Err s) f g = tt
+    by (Ok (Some (e, n))) f g = (f, g n)
 
 pub rest_fits : (l : List ℕ) (at : ℕ) → AllBytes l → All FitsBytes (rest l at).events
 unfolding rest
@@ -107,8 +97,8 @@ unfolding list_lines
 list_text_fits l a = by (first_of l) refl
   where
     by : (x : First) → x ≡ first_of l → length (joined (list_lines l)) ≤ list_text_limit
-    by (First.Stopped s) i = let h = stopped_long 0 (stop_number s) (omega arith) (stop_small s) in rw (reading_failed l i refl, joined_one (stopped_line 0 (stop_number s))) (omega arith)
-    by (First.Nodes n lim) i =
+    by (Err s) i = let h = stopped_long 0 (stop_number s) (omega arith) (stop_small s) in rw (reading_failed l i refl, joined_one (stopped_line 0 (stop_number s))) (omega arith)
+    by (Ok (n, lim)) i =
         let g = first_good l i refl in
         let r = rest l 4 in
         let e = reads_all.few l 4 g.0 in

@@ -8,6 +8,7 @@ use lib.ListN.{length, get_or, drop, length-append, length-drop}
 use lib.Seq.{take-append_seam, drop-append_seam, drop-drop, get_or-drop}
 use lib.Dec.{eqb, leb}
 use borrow.Author.Tests.{lt-leb, le-leb, ne_eqb}
+use Rattle.std.specs.Prelude.{Some, None, Ok}
 use Rattle.model.specs.Pick.{pick}
 use Rattle.model.specs.declared.Event.{Event}
 use Rattle.model.specs.declared.Event.TheVariants.{Crash, Recover, Check, Timeout, Tick, Expire, Finish, Deliver, Lose}
@@ -23,9 +24,6 @@ use Rattle.short_lists_text.proofs.Spaced.{spaced_one, spaced_two, one_long, two
 use Rattle.list_text.specs.Words.{is_digit, is_blank, is_word_byte, is_skipped, span, past, skipped, past_skipped, word_at, same, value_up_to, number_at}
 use Rattle.list_text.specs.Script.{event_named, second_most, event_of_two, numbers_at, event_at, event_from, separated_at, part_at}
 use Rattle.list_text.specs.Claims.{AllDigits, FitsBytes}
-use Rattle.list_text.specs.declared.Value.{Value}
-use Rattle.list_text.specs.declared.Number.{Number}
-use Rattle.list_text.specs.declared.Part.{Part}
 use Rattle.list_text.proofs.Numbers.{numbers_read}
 
 -- ── offsets ──
@@ -135,19 +133,19 @@ digits_stop (b ∷ w) s h a = rw (unequal b 32 a.0 (omega arith), unequal b 9 a.
 
 -- ── numbers ──
 
-decimal_value : (most x : ℕ) → x ≤ most → x < 2 ^ 64 → value_up_to most (decimal x) ≡ Value.Is x
+decimal_value : (most x : ℕ) → x ≤ most → x < 2 ^ 64 → value_up_to most (decimal x) ≡ Some x
 decimal_value most x h k =
     let d = decimal_denotes x k in
     let v = d.value in
     let a : AllDigits (decimal x) = record { some = d.some; each = all_weaken (λ b. (48 ≤ b) × (b ≤ 57)) (λ b. is_digit b ≡ true) (decimal x) digit_is (digits_each x) } in
-    numbers_read.is most (decimal x) a (omega arith) ∙ ap (λ (y : ℕ). Value.Is y) v
+    numbers_read.is most (decimal x) a (omega arith) ∙ ap Some v
 
-pub number_is : (most : ℕ) (t : List ℕ) (at x : ℕ) (s : List ℕ) → drop at t ≡ 32 ∷ (decimal x ++ s) → x ≤ most → x < 2 ^ 64 → Stops is_word_byte s → number_at most t at ≡ Number.Found x (at + 1 + length (decimal x))
+pub number_is : (most : ℕ) (t : List ℕ) (at x : ℕ) (s : List ℕ) → drop at t ≡ 32 ∷ (decimal x ++ s) → x ≤ most → x < 2 ^ 64 → Stops is_word_byte s → number_at most t at ≡ Ok (x, at + 1 + length (decimal x))
 unfolding number_at
 number_is most t at x s e h k p =
     let d = behind_one t at 32 (decimal x ++ s) e in
-    rw (blank_one t at (decimal x ++ s) e (digits_stop (decimal x) s (decimal_denotes x k).some (digits_each x)), word_is t (at + 1) (decimal x) s d (decimal_word x) p, decimal_value most x h k)
-    (ap (λ (y : ℕ). Number.Found x y) (past_is is_word_byte t (at + 1) (decimal x) s d (decimal_word x) p))
+    rw (blank_one t at (decimal x ++ s) e (digits_stop (decimal x) s (decimal_denotes x k).some (digits_each x)), word_is t (at + 1) (decimal x) s d (decimal_word x) p, decimal_value most x h k, past_is is_word_byte t (at + 1) (decimal x) s d (decimal_word x) p)
+    refl
 
 -- ── events ──
 
@@ -161,23 +159,23 @@ is_word [] h = tt
 is_word (b ∷ w) h = (both_left (is_word_byte b) (all_word_bytes w) h, is_word w (both_right (is_word_byte b) (all_word_bytes w) h))
 
 -- The name w of an event with tag u, and its number.
-one_at : (t : List ℕ) (at : ℕ) (w : List ℕ) (u i : ℕ) (s : List ℕ) → drop at t ≡ w ++ (32 ∷ (decimal i ++ s)) → IsWord w → event_named w ≡ u → eqb u 0 ≡ false → leb u 0x15 ≡ true → i < 256 → Stops is_word_byte s →
-    event_at t at ≡ Part.Found (event_of u (i ∷ [])) (at + length w + 1 + length (decimal i))
+one_at : (t : List ℕ) (at : ℕ) (w : List ℕ) (u i : ℕ) (s : List ℕ) → drop at t ≡ w ++ (32 ∷ (decimal i ++ s)) → IsWord w → event_named w ≡ Some u → leb u 0x15 ≡ true → i < 256 → Stops is_word_byte s →
+    event_at t at ≡ Ok (Some (event_of u (i ∷ []), at + length w + 1 + length (decimal i)))
 unfolding event_at numbers_at pick
-one_at t at w u i s e a n z o h p =
+one_at t at w u i s e a n o h p =
     let d = behind t at w (32 ∷ (decimal i ++ s)) e in
-    rw (word_is t at w (32 ∷ (decimal i ++ s)) e a refl, n, z, o, past_is is_word_byte t at w (32 ∷ (decimal i ++ s)) e a refl, number_is 255 t (at + length w) i s d (omega arith) (omega arith) p)
+    rw (word_is t at w (32 ∷ (decimal i ++ s)) e a refl, n, o, past_is is_word_byte t at w (32 ∷ (decimal i ++ s)) e a refl, number_is 255 t (at + length w) i s d (omega arith) (omega arith) p)
 
 -- With two numbers.
-two_at : (t : List ℕ) (at : ℕ) (w : List ℕ) (u i x : ℕ) (s : List ℕ) → drop at t ≡ w ++ (32 ∷ (decimal i ++ (32 ∷ (decimal x ++ s)))) → IsWord w → event_named w ≡ u → eqb u 0 ≡ false → leb u 0x15 ≡ false →
+two_at : (t : List ℕ) (at : ℕ) (w : List ℕ) (u i x : ℕ) (s : List ℕ) → drop at t ≡ w ++ (32 ∷ (decimal i ++ (32 ∷ (decimal x ++ s)))) → IsWord w → event_named w ≡ Some u → leb u 0x15 ≡ false →
     i < 256 → x ≤ second_most u → x < 2 ^ 64 → Stops is_word_byte s →
-    event_at t at ≡ Part.Found (event_of_two u i x) (at + length w + 1 + length (decimal i) + 1 + length (decimal x))
+    event_at t at ≡ Ok (Some (event_of_two u i x, at + length w + 1 + length (decimal i) + 1 + length (decimal x)))
 unfolding event_at numbers_at pick
-two_at t at w u i x s e a n z o h k l p =
+two_at t at w u i x s e a n o h k l p =
     let r : List ℕ = 32 ∷ (decimal x ++ s) in
     let d = behind t at w (32 ∷ (decimal i ++ r)) e in
     let b = behind t (at + length w + 1) (decimal i) r (behind_one t (at + length w) 32 (decimal i ++ r) d) in
-    rw (word_is t at w (32 ∷ (decimal i ++ r)) e a refl, n, z, o, past_is is_word_byte t at w (32 ∷ (decimal i ++ r)) e a refl, number_is 255 t (at + length w) i r d (omega arith) (omega arith) refl)
+    rw (word_is t at w (32 ∷ (decimal i ++ r)) e a refl, n, o, past_is is_word_byte t at w (32 ∷ (decimal i ++ r)) e a refl, number_is 255 t (at + length w) i r d (omega arith) (omega arith) refl)
     (rw (number_is (second_most u) t (at + length w + 1 + length (decimal i)) x s b k l p))
 
 -- The text of an event from its name on.
@@ -194,26 +192,26 @@ end_two : (at : ℕ) (w : List ℕ) (i x : ℕ) → at + length w + 1 + length (
 end_two at w i x = let l = one_long i in let m = two_long i x in simp length-append (omega arith)
 
 -- The event e with the name w, the tag u and the number i.
-one_named : (t : List ℕ) (at : ℕ) (w : List ℕ) (u i : ℕ) (s : List ℕ) → drop at t ≡ (w ++ spaced (i ∷ [])) ++ s → all_word_bytes w ≡ true → event_named w ≡ u → eqb u 0 ≡ false → leb u 0x15 ≡ true → i < 256 → Stops is_word_byte s →
-    event_at t at ≡ Part.Found (event_of u (i ∷ [])) (at + length (w ++ spaced (i ∷ [])))
-one_named t at w u i s e a n z o h p = one_at t at w u i s (e ∙ text_one w i s) (is_word w a) n z o h p ∙ ap (λ (y : ℕ). Part.Found (event_of u (i ∷ [])) y) (end_one at w i)
+one_named : (t : List ℕ) (at : ℕ) (w : List ℕ) (u i : ℕ) (s : List ℕ) → drop at t ≡ (w ++ spaced (i ∷ [])) ++ s → all_word_bytes w ≡ true → event_named w ≡ Some u → leb u 0x15 ≡ true → i < 256 → Stops is_word_byte s →
+    event_at t at ≡ Ok (Some (event_of u (i ∷ []), at + length (w ++ spaced (i ∷ []))))
+one_named t at w u i s e a n o h p = rw (← end_one at w i) (one_at t at w u i s (e ∙ text_one w i s) (is_word w a) n o h p)
 
-two_named : (t : List ℕ) (at : ℕ) (w : List ℕ) (u i x : ℕ) (s : List ℕ) → drop at t ≡ (w ++ spaced (i ∷ x ∷ [])) ++ s → all_word_bytes w ≡ true → event_named w ≡ u → eqb u 0 ≡ false → leb u 0x15 ≡ false →
-    i < 256 → x ≤ second_most u → x < 2 ^ 64 → Stops is_word_byte s → event_at t at ≡ Part.Found (event_of_two u i x) (at + length (w ++ spaced (i ∷ x ∷ [])))
-two_named t at w u i x s e a n z o h k l p = two_at t at w u i x s (e ∙ text_two w i x s) (is_word w a) n z o h k l p ∙ ap (λ (y : ℕ). Part.Found (event_of_two u i x) y) (end_two at w i x)
+two_named : (t : List ℕ) (at : ℕ) (w : List ℕ) (u i x : ℕ) (s : List ℕ) → drop at t ≡ (w ++ spaced (i ∷ x ∷ [])) ++ s → all_word_bytes w ≡ true → event_named w ≡ Some u → leb u 0x15 ≡ false →
+    i < 256 → x ≤ second_most u → x < 2 ^ 64 → Stops is_word_byte s → event_at t at ≡ Ok (Some (event_of_two u i x, at + length (w ++ spaced (i ∷ x ∷ []))))
+two_named t at w u i x s e a n o h k l p = rw (← end_two at w i x) (two_at t at w u i x s (e ∙ text_two w i x s) (is_word w a) n o h k l p)
 
 -- The event whose text stands at an offset is found there.
-pub event_is : (t : List ℕ) (at : ℕ) (e : Event) (s : List ℕ) → drop at t ≡ event_text e ++ s → FitsBytes e → Stops is_word_byte s → event_at t at ≡ Part.Found e (at + length (event_text e))
+pub event_is : (t : List ℕ) (at : ℕ) (e : Event) (s : List ℕ) → drop at t ≡ event_text e ++ s → FitsBytes e → Stops is_word_byte s → event_at t at ≡ Ok (Some (e, at + length (event_text e)))
 unfolding event_text name_of event_named same second_most event_of_two event_of pick
-event_is t at (Crash i) s e f p = one_named t at (bytes "crash") 0x10 i s e refl refl refl refl f.0 p
-event_is t at (Recover i) s e f p = one_named t at (bytes "recover") 0x11 i s e refl refl refl refl f.0 p
-event_is t at (Check i) s e f p = one_named t at (bytes "check") 0x12 i s e refl refl refl refl f.0 p
-event_is t at (Timeout i) s e f p = one_named t at (bytes "timeout") 0x13 i s e refl refl refl refl f.0 p
-event_is t at (Tick i) s e f p = one_named t at (bytes "tick") 0x14 i s e refl refl refl refl f.0 p
-event_is t at (Expire i) s e f p = one_named t at (bytes "expire") 0x15 i s e refl refl refl refl f.0 p
-event_is t at (Finish i x) s e f p = two_named t at (bytes "finish") 0x16 i x.number s e refl refl refl refl f.0 (omega arith) (omega arith) p
-event_is t at (Deliver a b) s e f p = two_named t at (bytes "deliver") 0x17 a b s e refl refl refl refl f.0 (omega arith) (omega arith) p
-event_is t at (Lose a b) s e f p = two_named t at (bytes "lose") 0x18 a b s e refl refl refl refl f.0 (omega arith) (omega arith) p
+event_is t at (Crash i) s e f p = one_named t at (bytes "crash") 0x10 i s e refl refl refl f.0 p
+event_is t at (Recover i) s e f p = one_named t at (bytes "recover") 0x11 i s e refl refl refl f.0 p
+event_is t at (Check i) s e f p = one_named t at (bytes "check") 0x12 i s e refl refl refl f.0 p
+event_is t at (Timeout i) s e f p = one_named t at (bytes "timeout") 0x13 i s e refl refl refl f.0 p
+event_is t at (Tick i) s e f p = one_named t at (bytes "tick") 0x14 i s e refl refl refl f.0 p
+event_is t at (Expire i) s e f p = one_named t at (bytes "expire") 0x15 i s e refl refl refl f.0 p
+event_is t at (Finish i x) s e f p = two_named t at (bytes "finish") 0x16 i x.number s e refl refl refl f.0 (omega arith) (omega arith) p
+event_is t at (Deliver a b) s e f p = two_named t at (bytes "deliver") 0x17 a b s e refl refl refl f.0 (omega arith) (omega arith) p
+event_is t at (Lose a b) s e f p = two_named t at (bytes "lose") 0x18 a b s e refl refl refl f.0 (omega arith) (omega arith) p
 
 -- ── parts ──
 
@@ -231,7 +229,7 @@ event_first (Deliver a b) s = (_, _, refl, refl, refl)
 event_first (Lose a b) s = (_, _, refl, refl, refl)
 
 -- Behind a line end.
-pub behind_line_end : (t : List ℕ) (at : ℕ) (e : Event) (s : List ℕ) → drop at t ≡ 10 ∷ (event_text e ++ s) → FitsBytes e → Stops is_word_byte s → part_at t at ≡ Part.Found e (at + 1 + length (event_text e))
+pub behind_line_end : (t : List ℕ) (at : ℕ) (e : Event) (s : List ℕ) → drop at t ≡ 10 ∷ (event_text e ++ s) → FitsBytes e → Stops is_word_byte s → part_at t at ≡ Ok (Some (e, at + 1 + length (event_text e)))
 unfolding part_at separated_at event_from pick
 behind_line_end t at e s d f p =
     let x = event_first e s in
@@ -246,7 +244,7 @@ behind_line_end t at e s d f p =
     (event_is t (at + 1) e s n f p)
 
 -- Behind a comma and a space.
-pub behind_comma : (t : List ℕ) (at : ℕ) (e : Event) (s : List ℕ) → drop at t ≡ 44 ∷ 32 ∷ (event_text e ++ s) → FitsBytes e → Stops is_word_byte s → part_at t at ≡ Part.Found e (at + 2 + length (event_text e))
+pub behind_comma : (t : List ℕ) (at : ℕ) (e : Event) (s : List ℕ) → drop at t ≡ 44 ∷ 32 ∷ (event_text e ++ s) → FitsBytes e → Stops is_word_byte s → part_at t at ≡ Ok (Some (e, at + 2 + length (event_text e)))
 unfolding part_at separated_at pick
 behind_comma t at e s d f p =
     let x = event_first e s in
@@ -263,12 +261,12 @@ behind_comma t at e s d f p =
     (event_is t (at + 2) e s m f p)
 
 -- The last line end, and two of them.
-pub last_line_end : (t : List ℕ) (at : ℕ) → drop at t ≡ 10 ∷ [] → part_at t at ≡ Part.End
+pub last_line_end : (t : List ℕ) (at : ℕ) → drop at t ≡ 10 ∷ [] → part_at t at ≡ Ok None
 unfolding part_at separated_at event_from pick
 last_line_end t at d =
     rw (blank_none t at (10 ∷ []) d refl, lt-leb (length t) at (byte_inside t at 10 [] d), byte_is t at 10 [] d, skip_line_end t at [] d tt, le-leb (length t) (at + 1) (byte_end t (at + 1) (behind_one t at 10 [] d)))
 
-pub two_line_ends : (t : List ℕ) (at : ℕ) → drop at t ≡ 10 ∷ 10 ∷ [] → part_at t at ≡ Part.End
+pub two_line_ends : (t : List ℕ) (at : ℕ) → drop at t ≡ 10 ∷ 10 ∷ [] → part_at t at ≡ Ok None
 unfolding part_at separated_at event_from past_skipped skipped pick
 two_line_ends t at d =
     let m = byte_end t (at + 2) (behind t at (10 ∷ 10 ∷ []) [] d) in

@@ -6,8 +6,8 @@ use mathlib.Core.Bool.{false}
 use mathlib.Core.Logic.{⊎_elim}
 use mathlib.Core.List.{List, [], ◌∷◌, ◌++◌, append_assoc, map}
 use lib.ListN.{length, drop, length-append}
-use lib.Dec.{eqb}
 use borrow.Author.Tests.{le-ltb}
+use Rattle.std.specs.Prelude.{Some, None, Ok}
 use Rattle.model.specs.Pick.{pick}
 use Rattle.model.specs.declared.Event.{Event}
 use Rattle.event_list.specs.Format.{max_bytes}
@@ -22,8 +22,6 @@ use Rattle.list_text.specs.Text.{stand_line, opening_line, event_line}
 use Rattle.list_text.specs.Words.{is_word_byte, is_skipped, past_skipped, same}
 use Rattle.list_text.specs.Script.{event_field, opening_field, list_bytes, opening_tag, opening_at, part_at, said_from, said, onward, max_text, script_of, list, list_of}
 use Rattle.list_text.specs.Claims.{FitsBytes, IsFirstTag}
-use Rattle.list_text.specs.declared.Opening.TheVariants as Opening
-use Rattle.list_text.specs.declared.Part.TheVariants as Part
 use Rattle.list_text.proofs.Parts.{says_all}
 use Rattle.list_text.proofs.Lengths.{event_long, lines_long, more_long, fields_some}
 use Rattle.list_text.proofs.Found.{Stops, IsWord, is_word, behind, behind_one, word_is, past_is, skip_none, number_is, behind_line_end, behind_comma, last_line_end, two_line_ends}
@@ -31,11 +29,11 @@ use Rattle.list_text.proofs.Found.{Stops, IsWord, is_word, behind, behind_one, w
 -- ── what is said ──
 
 -- At the end.
-said_end : (t : List ℕ) (at room : ℕ) → part_at t at ≡ Part.End → said_from t at room ≡ said []
+said_end : (t : List ℕ) (at room : ℕ) → part_at t at ≡ Ok None → said_from t at room ≡ said []
 said_end t at room e = says_all.next t at room ∙ ap (λ x. onward at room x (said_from t)) e
 
 -- An event for which there is room, and what is said behind it.
-said_event : (t : List ℕ) (at p room : ℕ) (e : Event) (es : List Event) → part_at t at ≡ Part.Found e p → length (event_field e) ≤ room → said_from t p (room - length (event_field e)) ≡ said es → said_from t at room ≡ said (e ∷ es)
+said_event : (t : List ℕ) (at p room : ℕ) (e : Event) (es : List Event) → part_at t at ≡ Ok (Some (e, p)) → length (event_field e) ≤ room → said_from t p (room - length (event_field e)) ≡ said es → said_from t at room ≡ said (e ∷ es)
 unfolding pick
 said_event t at p room e es f h g = says_all.next t at room ∙ rw (f, le-ltb room (length (event_field e)) h, g)
 
@@ -113,30 +111,29 @@ abbrev Says : List ℕ → List Event → Type 0
 Says r es = (t : List ℕ) (at room : ℕ) → drop at t ≡ r → length (concat_map event_field es) ≤ room → said_from t at room ≡ said es
 
 -- The opening by the word w with the tag u, and then r.
-pub opens : (w : List ℕ) (u n : ℕ) (r : List ℕ) → IsWord w → Stops (is_skipped false) (w ++ (32 ∷ (decimal n ++ r))) → opening_tag w ≡ u → eqb u 0 ≡ false → n < 256 → Stops is_word_byte r →
-    opening_at (w ++ (32 ∷ (decimal n ++ r))) (past_skipped (w ++ (32 ∷ (decimal n ++ r))) 0) ≡ Opening.Nodes u n (0 + length w + 1 + length (decimal n))
+pub opens : (w : List ℕ) (u n : ℕ) (r : List ℕ) → IsWord w → Stops (is_skipped false) (w ++ (32 ∷ (decimal n ++ r))) → opening_tag w ≡ Some u → n < 256 → Stops is_word_byte r →
+    opening_at (w ++ (32 ∷ (decimal n ++ r))) (past_skipped (w ++ (32 ∷ (decimal n ++ r))) 0) ≡ Ok (u, n, 0 + length w + 1 + length (decimal n))
 unfolding opening_at pick
-opens w u n r a k g z h p =
+opens w u n r a k g h p =
     let t = w ++ (32 ∷ (decimal n ++ r)) in
     let d = behind t 0 w (32 ∷ (decimal n ++ r)) refl in
     rw (
       skip_none t 0 t refl k,
       word_is t 0 w (32 ∷ (decimal n ++ r)) refl a refl,
       g,
-      z,
       past_is is_word_byte t 0 w (32 ∷ (decimal n ++ r)) refl a refl,
       number_is 255 t (0 + length w) n r d (omega arith) (omega arith) p,
     )
 
 -- The text of an opening by the word w with the tag u, and then r.
-opened : (w : List ℕ) (u n : ℕ) (r : List ℕ) (es : List Event) → IsWord w → Stops (is_skipped false) (w ++ (32 ∷ (decimal n ++ r))) → opening_tag w ≡ u → eqb u 0 ≡ false → n < 256 → Stops is_word_byte r →
+opened : (w : List ℕ) (u n : ℕ) (r : List ℕ) (es : List Event) → IsWord w → Stops (is_skipped false) (w ++ (32 ∷ (decimal n ++ r))) → opening_tag w ≡ Some u → n < 256 → Stops is_word_byte r →
     length (w ++ (32 ∷ (decimal n ++ r))) ≤ max_text → Says r es → length (list_bytes u n es) ≤ max_bytes → list_of (w ++ (32 ∷ (decimal n ++ r))) ≡ list (list_bytes u n es)
 unfolding list_of script_of pick list_bytes
-opened w u n r es a k g z h p l f b =
+opened w u n r es a k g h p l f b =
     let t = w ++ (32 ∷ (decimal n ++ r)) in
     let d = behind t 0 w (32 ∷ (decimal n ++ r)) refl in
     let q = behind t (0 + length w + 1) (decimal n) r (behind_one t (0 + length w) 32 (decimal n ++ r) d) in
-    rw (le-ltb max_text (length t) l, opens w u n r a k g z h p, f t (0 + length w + 1 + length (decimal n)) (max_bytes - 4) q (omega arith))
+    rw (le-ltb max_text (length t) l, opens w u n r a k g h p, f t (0 + length w + 1 + length (decimal n)) (max_bytes - 4) q (omega arith))
 
 -- The first line and what stands behind its number.
 pub cabinets_opens : (n : ℕ) (r : List ℕ) → cabinets_line n ++ r ≡ bytes "cabinets" ++ (32 ∷ (decimal n ++ (10 ∷ r)))
@@ -156,13 +153,13 @@ module _ (n : ℕ) (r : List ℕ) (es : List Event) (h : n < 256) (i : length r 
   unfolding opening_line opening_tag same pick
   cabinets_read b =
       ap (λ (t : List ℕ). list_of t) (cabinets_opens n r)
-      ∙ opened (bytes "cabinets") 1 n (10 ∷ r) es (is_word (bytes "cabinets") refl) refl refl refl h refl (short (bytes "cabinets") n r (omega arith) h i) f b
+      ∙ opened (bytes "cabinets") 1 n (10 ∷ r) es (is_word (bytes "cabinets") refl) refl refl h refl (short (bytes "cabinets") n r (omega arith) h i) f b
 
   stand_read : length (list_bytes 2 n es) ≤ max_bytes → list_of (opening_line 2 n ++ r) ≡ list (list_bytes 2 n es)
   unfolding opening_line opening_tag same pick
   stand_read b =
       ap (λ (t : List ℕ). list_of t) (stand_opens n r)
-      ∙ opened (bytes "stand") 2 n (10 ∷ r) es (is_word (bytes "stand") refl) refl refl refl h refl (short (bytes "stand") n r (omega arith) h i) f b
+      ∙ opened (bytes "stand") 2 n (10 ∷ r) es (is_word (bytes "stand") refl) refl refl h refl (short (bytes "stand") n r (omega arith) h i) f b
 
   opening_read : (u : ℕ) → IsFirstTag u → length (list_bytes u n es) ≤ max_bytes → list_of (opening_line u n ++ r) ≡ list (list_bytes u n es)
   opening_read u g =
@@ -185,7 +182,7 @@ lines_read u n es g h f b =
     let l = lines_long es f in
     opening_read n (joined (map event_line es)) es h (omega arith) (lines_said es f) u g b
 
-line_long : (es : List Event) → All FitsBytes es → length (list_line es) ≤ 18 * length es + 1
+pub line_long : (es : List Event) → All FitsBytes es → length (list_line es) ≤ 18 * length es + 1
 unfolding list_line events_text
 line_long [] f = omega arith
 line_long (e ∷ es) f = let a = event_long e f.0 in let b = more_long es f.1 in simp length-append (omega arith)

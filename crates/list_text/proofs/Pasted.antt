@@ -23,7 +23,7 @@ use Rattle.list_text.specs.Claims.{FitsBytes, ShortListsPasted}
 use Rattle.list_text.proofs.Lines.{pasted_read}
 
 -- Accepted events fit into their bytes.
-accepted_fit : (s : State) (es : List Event) → AcceptedFrom s es → All FitsBytes es
+pub accepted_fit : (s : State) (es : List Event) → AcceptedFrom s es → All FitsBytes es
 accepted_fit s [] a = tt
 accepted_fit s (e ∷ es) a = ((same_bytes.are_bytes e (same_bytes.accepted_fits s e a.0)).1, accepted_fit (after s e) es a.1)
 

@@ -5,28 +5,25 @@ use mathlib.Core.Path.{subst}
 use mathlib.Core.List.{List}
 use lib.ListN.{length}
 use borrow.Author.Tests.{leb-false, ltb-true}
+use Rattle.std.specs.Prelude.{Option, None, Some, Ok, Err}
 use Rattle.model.specs.Pick.{by_test}
 use Rattle.model.specs.declared.Event.{Event}
 use Rattle.event_list.specs.Format.{max_bytes}
-use Rattle.list_text.specs.Words.{is_blank, is_word_byte, past, past_skipped, word_at, behind_word, value_up_to, found_at, number_at}
-use Rattle.list_text.specs.Script.{event_field, opening_tag, opening_with, opening_at, second_most, event_named, with_one, with_second, with_two, numbers_at, event_at, event_from, separated_at, part_at, Said, wrong, said, before, onward, said_in, said_from, Script, wrong_at, script, with_events, behind_opening, max_text, script_of}
+use Rattle.list_text.specs.Words.{is_blank, is_word_byte, past, past_skipped, word_at, behind_word, value_up_to, Number, found_at, number_at}
+use Rattle.list_text.specs.Script.{Opening, Part, event_field, opening_tag, opening_with, opening_by, opening_at, second_most, event_named, with_one, with_second, with_two, numbers_at, event_by, event_at, event_from, separated_at, part_at, Said, wrong, said, before, onward, said_in, said_from, Script, wrong_at, script, with_events, behind_opening, max_text, script_of}
 use Rattle.list_text.specs.Claims.{PlaceWithin}
-use Rattle.list_text.specs.declared.Value.{Value}
-use Rattle.list_text.specs.declared.Number.{Number}
-use Rattle.list_text.specs.declared.Opening.{Opening}
-use Rattle.list_text.specs.declared.Part.{Part}
 use Rattle.list_text.proofs.Parts.{past_within, skipped_within}
 
 -- ── numbers ──
 
 -- where a number was due or ends
 abbrev NumberWithin : List ℕ → Number → Type 0
-NumberWithin t (Number.NoNumber p) = p ≤ length t
-NumberWithin t (Number.Found v p) = p ≤ length t
+NumberWithin t (Err p) = p ≤ length t
+NumberWithin t (Ok (v, p)) = p ≤ length t
 
-found_within : (t : List ℕ) (at e : ℕ) (x : Value) → at ≤ length t → e ≤ length t → NumberWithin t (found_at at e x)
-found_within t at e Value.NoNumber h k = h
-found_within t at e (Value.Is v) h k = k
+found_within : (t : List ℕ) (at e : ℕ) (x : Option ℕ) → at ≤ length t → e ≤ length t → NumberWithin t (found_at at e x)
+found_within t at e None h k = h
+found_within t at e (Some v) h k = k
 
 number_within : (most : ℕ) (t : List ℕ) (at : ℕ) → at ≤ length t → NumberWithin t (number_at most t at)
 unfolding number_at
@@ -39,21 +36,21 @@ number_within most t at h =
 
 -- where a part goes wrong or ends
 abbrev pub PartWithin : List ℕ → Part → Type 0
-PartWithin t Part.End = Unit {0}
-PartWithin t (Part.Wrong p x) = p ≤ length t
-PartWithin t (Part.Found e p) = p ≤ length t
+PartWithin t (Ok None) = Unit {0}
+PartWithin t (Err w) = w.at ≤ length t
+PartWithin t (Ok (Some (e, p))) = p ≤ length t
 
 one_within : (u : ℕ) (t : List ℕ) (x : Number) → NumberWithin t x → PartWithin t (with_one u x)
-one_within u t (Number.NoNumber p) h = h
-one_within u t (Number.Found v p) h = h
+one_within u t (Err p) h = h
+one_within u t (Ok (v, p)) h = h
 
 second_within : (u v : ℕ) (t : List ℕ) (x : Number) → NumberWithin t x → PartWithin t (with_second u v x)
-second_within u v t (Number.NoNumber p) h = h
-second_within u v t (Number.Found w p) h = h
+second_within u v t (Err p) h = h
+second_within u v t (Ok (w, p)) h = h
 
 two_within : (u : ℕ) (t : List ℕ) (x : Number) → NumberWithin t x → PartWithin t (with_two u t x)
-two_within u t (Number.NoNumber p) h = h
-two_within u t (Number.Found v p) h = second_within u v t (number_at (second_most u) t p) (number_within (second_most u) t p h)
+two_within u t (Err p) h = h
+two_within u t (Ok (v, p)) h = second_within u v t (number_at (second_most u) t p) (number_within (second_most u) t p h)
 
 numbers_within : (u : ℕ) (t : List ℕ) (at : ℕ) → at ≤ length t → PartWithin t (numbers_at u t at)
 unfolding numbers_at
@@ -63,8 +60,11 @@ numbers_within u t at h =
 
 event_within : (t : List ℕ) (at : ℕ) → at ≤ length t → PartWithin t (event_at t at)
 unfolding event_at
-event_within t at h =
-    by_test (PartWithin t) (λ e. h) (λ e. numbers_within (event_named (word_at t at)) t (behind_word t at) (past_within is_word_byte t at h))
+event_within t at h = by (event_named (word_at t at))
+  where
+    by : (u : Option ℕ) → PartWithin t (event_by u t at)
+    by None = h
+    by (Some u) = numbers_within u t (behind_word t at) (past_within is_word_byte t at h)
 
 from_within : (t : List ℕ) (at : ℕ) → at ≤ length t → PartWithin t (event_from t at)
 unfolding event_from
@@ -93,9 +93,9 @@ before_within t e (wrong p x) h = h
 before_within t e (said es) h = tt
 
 onward_within : (t : List ℕ) (at room : ℕ) (x : Part) (later : ℕ → ℕ → Said) → PartWithin t x → ((p r : ℕ) → p ≤ length t → SaidWithin t (later p r)) → SaidWithin t (onward at room x later)
-onward_within t at room Part.End later h f = tt
-onward_within t at room (Part.Wrong p x) later h f = h
-onward_within t at room (Part.Found e p) later h f =
+onward_within t at room (Ok None) later h f = tt
+onward_within t at room (Err w) later h f = h
+onward_within t at room (Ok (Some (e, p))) later h f =
     by_test (SaidWithin t) (λ o. h) (λ o. before_within t e (later p (room - length (event_field e))) (f p (room - length (event_field e)) h))
 
 said_within : (k : ℕ) (t : List ℕ) (at room : ℕ) → at ≤ length t → SaidWithin t (said_in k t at room)
@@ -106,18 +106,20 @@ said_within (suc k) t at room h = onward_within t at room (part_at t at) (said_i
 -- ── the opening ──
 
 abbrev pub OpeningWithin : List ℕ → Opening → Type 0
-OpeningWithin t (Opening.Wrong p x) = p ≤ length t
-OpeningWithin t (Opening.Nodes u n next) = next ≤ length t
+OpeningWithin t (Err w) = w.at ≤ length t
+OpeningWithin t (Ok (u, n, next)) = next ≤ length t
 
 with_within : (u : ℕ) (t : List ℕ) (x : Number) → NumberWithin t x → OpeningWithin t (opening_with u x)
-with_within u t (Number.NoNumber p) h = h
-with_within u t (Number.Found n p) h = h
+with_within u t (Err p) h = h
+with_within u t (Ok (n, p)) h = h
 
 pub opening_within : (t : List ℕ) (at : ℕ) → at ≤ length t → OpeningWithin t (opening_at t at)
 unfolding opening_at
-opening_within t at h =
-    by_test (OpeningWithin t) (λ e. h)
-    (λ e. with_within (opening_tag (word_at t at)) t (number_at 255 t (behind_word t at)) (number_within 255 t (behind_word t at) (past_within is_word_byte t at h)))
+opening_within t at h = by (opening_tag (word_at t at))
+  where
+    by : (u : Option ℕ) → OpeningWithin t (opening_by u t at)
+    by None = h
+    by (Some u) = with_within u t (number_at 255 t (behind_word t at)) (number_within 255 t (behind_word t at) (past_within is_word_byte t at h))
 
 -- ── the whole ──
 
@@ -131,8 +133,8 @@ events_within u n t (said es) h = tt
 
 behind_within : (t : List ℕ) (x : Opening) → OpeningWithin t x → ScriptWithin t (behind_opening t x)
 unfolding said_from
-behind_within t (Opening.Wrong p x) h = h
-behind_within t (Opening.Nodes u n next) h = events_within u n t (said_from t next (max_bytes - 4)) (said_within (suc (length t)) t next (max_bytes - 4) h)
+behind_within t (Err w) h = h
+behind_within t (Ok (u, n, next)) h = events_within u n t (said_from t next (max_bytes - 4)) (said_within (suc (length t)) t next (max_bytes - 4) h)
 
 whole_within : (t : List ℕ) → ScriptWithin t (script_of t)
 unfolding script_of

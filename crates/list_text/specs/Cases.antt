@@ -1,12 +1,11 @@
 -- Single texts and lists: each word, each separator, what is skipped, numbers at the ends of their ranges, each thing that can be expected, with its line and column, and the limits. The proof is in
 -- proofs/Cases.
-use Rattle.std.specs.Prelude.{ℕ, ◌<◌, ◌≡◌, List, [], ◌∷◌, ◌++◌, length}
+use Rattle.std.specs.Prelude.{ℕ, ◌<◌, ◌≡◌, List, [], ◌∷◌, ◌++◌, length, Some, Ok}
 use Rattle.event_list.specs.Cases.{nodes, stand_nodes, crash, recover, check, timeout, tick, expire, finish, deliver, lose}
 use Rattle.listing.specs.Ascii.{bytes}
 use Rattle.list_text.specs.Text.{list_text}
 use Rattle.model.specs.declared.Event.TheVariants.{Crash}
 use Rattle.list_text.specs.Script.{Said, wrong, before, onward, wrong_at, max_text, script_of, Outcome, bad, list, list_of}
-use Rattle.list_text.specs.declared.Part.TheVariants as Part
 use Rattle.list_text.specs.Message.{message_text}
 use Rattle.list_text.specs.declared.Expected.{Expected}
 
@@ -115,7 +114,7 @@ pub record ScriptCases : Type 0 where
 -- "Limits": the list's, and the text's own
 pub record LimitCases : Type 0 where
   -- a crash has a field of 4 bytes: with room for 4 it is taken, with room for 3 it is not
-  pub last_event : (at p : ℕ) (f : ℕ → ℕ → Said) → onward at 4 (Part.Found (Crash 1) p) f ≡ before (Crash 1) (f p 0)
-  pub event_over : (at p : ℕ) (f : ℕ → ℕ → Said) → onward at 3 (Part.Found (Crash 1) p) f ≡ wrong p Expected.EndOfList
+  pub last_event : (at p : ℕ) (f : ℕ → ℕ → Said) → onward at 4 (Ok (Some (Crash 1, p))) f ≡ before (Crash 1) (f p 0)
+  pub event_over : (at p : ℕ) (f : ℕ → ℕ → Said) → onward at 3 (Ok (Some (Crash 1, p))) f ≡ wrong p Expected.EndOfList
   -- a text that is too long is told there, whatever stands before
   pub text_over : (t : List ℕ) → max_text < length t → script_of t ≡ wrong_at max_text Expected.EndOfText

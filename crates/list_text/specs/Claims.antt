@@ -1,13 +1,12 @@
 -- What is claimed of a list as text. The proofs are in proofs/.
-use Rattle.std.specs.Prelude.{ℕ, ◌≤◌, ◌<◌, true, ◌≡◌, ◌⊎◌, List, ◌∷◌, ◌++◌, map, length, take}
+use Rattle.std.specs.Prelude.{ℕ, ◌≤◌, ◌<◌, true, ◌≡◌, ◌⊎◌, List, ◌∷◌, ◌++◌, map, length, take, Some, Ok, Err}
 use Rattle.model.specs.Limits.{tower}
 use Rattle.model.specs.State.{start}
 use Rattle.model.specs.declared.Limits.{Limits}
 use Rattle.model.specs.declared.Event.{Event}
-use Rattle.event_list.specs.Format.{max_bytes, limits_of, nodes_of, stop_number, complete, stopped, Reading, Listed, failed, begun, reading}
+use Rattle.event_list.specs.Format.{First, max_bytes, limits_of, nodes_of, stop_number, complete, stopped, Reading, Listed, failed, begun, reading}
 use Rattle.event_list.specs.declared.Stop.{Stop}
 use Rattle.event_list.specs.declared.Stop.TheVariants.{WrongCount}
-use Rattle.event_list.specs.declared.First.{First}
 use Rattle.listing.specs.Decimal.{value_of}
 use Rattle.listing.specs.Lines.{cabinets_line, stopped_line}
 use Rattle.listing.specs.Printing.{joined}
@@ -19,8 +18,6 @@ use Rattle.list_text.specs.Text.{opening_line, event_line, list_text}
 use Rattle.list_text.specs.Words.{AllBytes, is_digit, value_up_to}
 use Rattle.list_text.specs.Script.{list_bytes, onward, said_from, part_at, wrong_at, script, script_of, list, list_of}
 use Rattle.list_text.specs.declared.Expected.{Expected}
-use Rattle.list_text.specs.declared.Value.TheVariants as Value
-use Rattle.list_text.specs.declared.Part.TheVariants as Part
 
 -- ── words ──
 
@@ -31,8 +28,8 @@ pub record AllDigits (l : List ℕ) : Type 0 where
 
 -- A word is read as the number that its digits give, where it has digits alone and they give no more than most; all other words are refused.
 pub record NumbersRead : Type 0 where
-  pub is : (most : ℕ) (w : List ℕ) → AllDigits w → value_of w ≤ most → value_up_to most w ≡ Value.Is (value_of w)
-  pub only : (most : ℕ) (w : List ℕ) (x : ℕ) → value_up_to most w ≡ Value.Is x → AllDigits w × (value_of w ≡ x) × (x ≤ most)
+  pub is : (most : ℕ) (w : List ℕ) → AllDigits w → value_of w ≤ most → value_up_to most w ≡ Some (value_of w)
+  pub only : (most : ℕ) (w : List ℕ) (x : ℕ) → value_up_to most w ≡ Some x → AllDigits w × (value_of w ≡ x) × (x ≤ most)
 
 -- ── all parts of a text are read ──
 
@@ -40,7 +37,7 @@ pub record SaysAll : Type 0 where
   -- what is said from an offset on is what stands there and then what is said behind it: the limit on the number of parts in `said_from` is never met
   pub next : (t : List ℕ) (at room : ℕ) → said_from t at room ≡ onward at room (part_at t at) (said_from t)
   -- each event takes a byte or more
-  pub further : (t : List ℕ) (at : ℕ) (e : Event) (p : ℕ) → part_at t at ≡ Part.Found e p → (at < p) × (p ≤ length t)
+  pub further : (t : List ℕ) (at : ℕ) (e : Event) (p : ℕ) → part_at t at ≡ Ok (Some (e, p)) → (at < p) × (p ≤ length t)
 
 -- ── from a list to its text and back ──
 
@@ -66,8 +63,8 @@ pub record ReadsBack : Type 0 where
 
 -- what a list says that reads to its end, by what its first field says and its events
 abbrev pub opened : First → List Event → Listed
-opened (First.Stopped s) es = failed s
-opened (First.Nodes n lim) es = begun n lim (record { events = es; ending = complete })
+opened (Err s) es = failed s
+opened (Ok (n, lim)) es = begun n lim (record { events = es; ending = complete })
 
 -- "every text that is accepted gives a list that reads (refusals 2 to 5 can't come up)"
 pub record TextReads : Type 0 where

@@ -1,9 +1,7 @@
 -- The bytes of a text by their kinds, its words, and numbers among them. An offset counts bytes from 0.
-use Rattle.std.specs.Prelude.{ℕ, ◌+◌, ◌-◌, ◌*◌, ◌<◌, Bool, true, false, not, ◌&&◌, ◌||◌, List, [], ◌∷◌, length, take, drop, eqb, leb, ltb}
+use Rattle.std.specs.Prelude.{ℕ, ◌+◌, ◌-◌, ◌*◌, ◌<◌, Bool, true, false, not, ◌&&◌, ◌||◌, List, [], ◌∷◌, length, take, drop, eqb, leb, ltb, Option, None, Some, Result, Ok, Err}
 use Rattle.model.specs.Pick.{pick}
 use Rattle.short_lists_text.specs.Rows.{All}
-use Rattle.list_text.specs.declared.Value.{Value}
-use Rattle.list_text.specs.declared.Number.{Number}
 
 -- ── bytes ──
 
@@ -87,21 +85,25 @@ abbrev pub append_digit : ℕ → ℕ → ℕ
 append_digit v b = v * 10 + (b - 0x30)
 
 -- what w gives behind digits whose value is v: a value, if each byte of w is a digit and none takes the value above most
-unfoldable pub value_behind : ℕ → ℕ → List ℕ → Value
-value_behind most v [] = Value.Is v
+unfoldable pub value_behind : ℕ → ℕ → List ℕ → Option ℕ
+value_behind most v [] = Some v
 value_behind most v (b ∷ w) =
-    pick (not (is_digit b)) Value.NoNumber
-    (pick (ltb most (append_digit v b)) Value.NoNumber
+    pick (not (is_digit b)) None
+    (pick (ltb most (append_digit v b)) None
     (value_behind most (append_digit v b) w))
 
 -- what a word is as a number from 0 to most: one digit or more in decimal. Zeros before it change nothing.
-unfoldable pub value_up_to : ℕ → List ℕ → Value
-value_up_to most w = pick (eqb (length w) 0) Value.NoNumber (value_behind most 0 w)
+unfoldable pub value_up_to : ℕ → List ℕ → Option ℕ
+value_up_to most w = pick (eqb (length w) 0) None (value_behind most 0 w)
+
+-- what stands where a number is due: its value, and the offset behind it; or the offset where it was due
+abbrev pub Number : Type 0
+Number = Result (ℕ × ℕ) ℕ
 
 -- what was found at an offset, the word there ending at e
-abbrev pub found_at : ℕ → ℕ → Value → Number
-found_at at e Value.NoNumber = Number.NoNumber at
-found_at at e (Value.Is v) = Number.Found v e
+abbrev pub found_at : ℕ → ℕ → Option ℕ → Number
+found_at at e None = Err at
+found_at at e (Some v) = Ok (v, e)
 
 -- a number from 0 to most as the next word from at on, on the same line
 unfoldable pub number_at : ℕ → List ℕ → ℕ → Number

@@ -23,34 +23,21 @@ pub enum Expected {
     EndOfText,
 }
 
-// What a word is as a number: none that fits, or its value.
+// Where a text goes wrong, and what was expected there.
 #[derive(Clone, Copy)]
-pub enum Value {
-    NoNumber,
-    Is(u32),
+pub struct Wrong {
+    pub at: usize,
+    pub expected: Expected,
 }
 
-// What stands where a number is due: none that fits, and the offset where it was due; or its value, and the offset behind it.
-#[derive(Clone, Copy)]
-pub enum Number {
-    NoNumber(usize),
-    Found(u32, usize),
-}
+// What stands where a number is due: its value, and the offset behind it; or the offset where it was due.
+pub type Number = Result<(u32, usize), usize>;
 
-// What the opening of a text says: where it goes wrong, and what was expected there; or the first field's tag and n, and the offset behind them.
-#[derive(Clone, Copy)]
-pub enum Opening {
-    Wrong(usize, Expected),
-    Nodes(u8, u8, usize),
-}
+// What the opening of a text says: the first field's tag and n, and the offset behind them.
+pub type Opening = Result<(u8, u8, usize), Wrong>;
 
-// What follows in a text: its end; where it goes wrong, and what was expected there; or an event, and the offset behind it.
-#[derive(Clone, Copy)]
-pub enum Part {
-    End,
-    Wrong(usize, Expected),
-    Found(Event, usize),
-}
+// What follows in a text: an event, and the offset behind it; or its end.
+pub type Part = Result<Option<(Event, usize)>, Wrong>;
 
 // A place in a text: its line and its column, both counted from 1, the column in bytes.
 #[derive(Clone, Copy)]

@@ -1,37 +1,34 @@
--- Bytes changed in place, one after another; and what that does to a piece behind others.
-use Prim.Native.Nat.{ℕ, suc, ◌+◌, ◌-◌, ◌≤◌, ◌<◌}
+-- Capital letters, as std and as 02 have them; and what a change of all bytes of a piece behind others does.
+use Prim.Native.Nat.{ℕ, ◌+◌, ◌-◌, ◌≤◌}
 use native.Mathlib.Omega.{arith}
-use mathlib.Core.Path.{◌≡◌, sym, ◌∙◌, ap}
-use mathlib.Core.List.{List, [], ◌∷◌, ◌++◌, append-nil, append_assoc, map}
-use lib.ListN.{length, take, drop, get_or, set, length-map}
-use lib.Seq.{take-suc, drop-cons, length-take-le, take_at, drop_at, set_at, get_or_at, drop-length, take-length}
-use Rattle.model.proofs.Lists.{map_append}
+use mathlib.Core.Bool.{Bool, true, false}
+use mathlib.Core.Path.{◌≡◌, refl, sym, ◌∙◌, ap}
+use mathlib.Core.List.{List, [], ◌∷◌, ◌++◌, map}
+use lib.Dec.{leb}
+use lib.ListN.{length, take, drop, length-map}
+use lib.Seq.{length-take-le, take_at, drop_at}
+use borrow.Author.Tests.{leb-true, leb-false, lt-ltb, le-ltb}
+use Rattle.std.specs.Char.{to_ascii_uppercase}
+use Rattle.model.specs.Pick.{pick}
 use Rattle.listing.specs.Printing.{Appended}
 use Rattle.listing.proofs.Appended.{appended, appended_written}
+use Rattle.aldebaran_text.specs.Text.{capital}
+
+-- std's capital letter is 02's
+upper_same : (b : ℕ) → to_ascii_uppercase b ≡ capital b
+unfolding capital pick
+upper_same b = by (leb 97 b) (leb b 122) refl refl
+  where
+    by : (s t : Bool) → leb 97 b ≡ s → leb b 122 ≡ t → to_ascii_uppercase b ≡ capital b
+    by false t q r = rw (q, lt-ltb b 97 (omega (arith, leb-false 97 b q)))
+    by true true q r = rw (q, r, le-ltb b 97 (leb-true 97 b q), lt-ltb b 123 (omega (arith, leb-true b 122 r)))
+    by true false q r = rw (q, r, le-ltb b 97 (leb-true 97 b q), le-ltb b 123 (omega (arith, leb-false b 122 r)))
+
+pub all_upper_same : (l : List ℕ) → map to_ascii_uppercase l ≡ map capital l
+all_upper_same [] = refl
+all_upper_same (b ∷ l) = rw (upper_same b, all_upper_same l)
 
 module _ (f : ℕ → ℕ) where
-  -- one byte more
-  pub changed_turn : (o w : List ℕ) (i x : ℕ) → i < length o → w ≡ map f (take i o) ++ drop i o → x ≡ f (get_or w i 0) → set w i x ≡ map f (take (i + 1) o) ++ drop (i + 1) o
-  changed_turn o w i x h q r =
-      let z : suc i ≡ i + 1 = omega arith in
-      let d = drop-cons o i 0 h in
-      let l : length (map f (take i o)) ≡ i = length-map (take i o) f ∙ length-take-le i o (omega arith) in
-      let s : w ≡ map f (take i o) ++ (get_or o i 0 ∷ drop (suc i) o) = q ∙ ap (λ (m : List ℕ). map f (take i o) ++ m) d in
-      let g : get_or w i 0 ≡ get_or o i 0 = ap (λ (m : List ℕ). get_or m i 0) s ∙ get_or_at (map f (take i o)) (get_or o i 0) (drop (suc i) o) 0 i l in
-      let y : x ≡ f (get_or o i 0) = r ∙ ap f g in
-      let t : map f (take (suc i) o) ≡ map f (take i o) ++ (f (get_or o i 0) ∷ []) = ap (map f) (take-suc o i 0 h) ∙ map_append f (take i o) (get_or o i 0 ∷ []) in
-      ap (λ (m : List ℕ). set m i x) s
-      ∙ (set_at (map f (take i o)) (get_or o i 0) (drop (suc i) o) x i l
-      ∙ (ap (λ b. map f (take i o) ++ (b ∷ drop (suc i) o)) y
-      ∙ (sym (append_assoc (map f (take i o)) (f (get_or o i 0) ∷ []) (drop (suc i) o))
-      ∙ (ap (λ (m : List ℕ). m ++ drop (suc i) o) (sym t) ∙ ap (λ j. map f (take j o) ++ drop j o) z))))
-
-  -- all of them
-  pub changed_end : (o w : List ℕ) (i : ℕ) → i ≡ length o → w ≡ map f (take i o) ++ drop i o → w ≡ map f o
-  changed_end o w i q r =
-      r ∙ (ap (λ j. map f (take j o) ++ drop j o) q
-      ∙ (ap (λ (m : List ℕ). map f (take (length o) o) ++ m) (drop-length o) ∙ (append-nil _ ∙ ap (map f) (take-length o))))
-
   -- a piece behind others, with all its bytes changed
   pub changed : (b s o v : List ℕ) (p r : ℕ) → p ≤ length b → Appended b p s o r → v ≡ map f (take (r - p) (drop p o)) → Appended b p (map f s) (take p o ++ (v ++ drop (r - p) (drop p o))) r
   changed b s o v p r h a q =

@@ -7,7 +7,8 @@ use lib.ListN.{length, take, get_or}
 use lib.Seq.{take-suc, length-take-le, ext_get_or}
 use Rattle.model.specs.State.{State}
 use Rattle.model.proofs.Lists.{map_append}
-use Rattle.listing.specs.Printing.{joined, Appended}
+use Rattle.listing.specs.Printing.{joined, Wrote}
+use Rattle.listing.specs.declared.buffer.TextBuffer.{TextBuffer}
 use Rattle.short_lists_text.proofs.Counts.{joined_last}
 use Rattle.aldebaran_text.specs.System.{states, number_in, Transition, transition, without_last, last_of, transitions}
 use Rattle.aldebaran_text.specs.Text.{transition_line, lines_of}
@@ -21,8 +22,11 @@ use Rattle.list_tree.proofs.Trees.{edges_long, lists_long, edge_at, list_at}
 
 -- ── lines one after another ──
 
-pub none_appended : (b : List ℕ) (p : ℕ) → p ≤ length b → Appended b p [] b p
-none_appended b p h = record { long = refl; next = omega arith; fits = h; text = sym (append-nil (take p b)); behind = refl }
+pub none_written : (b : TextBuffer) → b.end ≤ length b.bytes.now → Wrote b [] b
+none_written b h = record {
+  same = refl;
+  appended = record { long = refl; next = omega arith; fits = h; text = sym (append-nil (take b.end b.bytes.now)); behind = refl };
+}
 
 pub line_more : (es : List Edge) (k : ℕ) → k < length es
     → joined (map transition_line (transitions_by (take (k + 1) es))) ≡ joined (map transition_line (transitions_by (take k es))) ++ transition_line (transition (get_or es k no_edge).source (get_or es k no_edge).event (k + 1))

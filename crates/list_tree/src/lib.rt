@@ -7,17 +7,21 @@ mod tree;
 
 ghost use Rattle.list_tree.specs.Printed.{SystemPrinted};
 
+use listing::TextBuffer;
+
 // The room for a text: no text is longer (`TextLength` in aldebaran_text).
 pub const TEXT_SPACE: usize = 32768;
 
 // The text of any input at the start of out: how many bytes it has.
+#[tactic(auto, using(short_lists_text::proofs::Refuses::two_bytes, short_lists_text::proofs::Refuses::fits_are))]
 pub fn put_text(input: &[u8], out: &mut [u8; TEXT_SPACE]) -> usize
     ensures { SystemPrinted input.now out.old out.new result }
 {
+    let mut text = TextBuffer { bytes: out, end: 0 };
     if !list_events::fits(input, 4) {
-        return listing::put_bytes(out, 0, b"stopped 0 22\n");
+        text.put(b"stopped 0 22\n");
+        return text.end;
     }
-    let n = input[0];
-    let length = input[1];
-    line::put_tree(out, tree::tree_of(n, length))
+    line::put_tree(&mut text, &tree::tree_of(input[0], input[1]));
+    text.end
 }

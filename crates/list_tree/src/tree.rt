@@ -20,6 +20,8 @@ pub struct Edge {
 }
 
 // States of lists of events among n nodes (01's cabinets): state 0 is the list of no events, and there is one more for each of the first count edges: edges[k] leads into the state k + 1.
+// kept: `Sound` in the clauses and no invariant of the type: it is of a whole tree, as `lists_in` and `Extends` are; an invariant would speak of n, count and edges one by one.
+// kept: edges and their count: nothing here may allocate, and a type for the two would have these two fields, as this one has
 #[derive(Clone, Copy)]
 pub struct Tree {
     pub n: u8,
@@ -37,88 +39,68 @@ fn root(n: u8) -> Tree
         event: Event::Crash(0),
     };
     Tree {
-        n: n,
+        n,
         count: 0,
         edges: [none; EDGES],
     }
 }
 
 // One state more, reached from the state a by e.
-fn with_edge(t: Tree, a: usize, e: Event) -> Tree
-    requires { Sound t × (t.count < 600) × (a ≤ t.count) }
-    ensures { Extends t ((get_or (lists_in t) a [] ++ (e ∷ [])) ∷ []) result }
+fn add_edge(t: &mut Tree, a: usize, e: Event)
+    requires { Sound t.old × (t.old.count < 600) × (a ≤ t.old.count) }
+    ensures { Extends t.old ((get_or (lists_in t.old) a [] ++ (e ∷ [])) ∷ []) t.new }
 {
-    let k = t.count;
-    let mut next = t;
-    next.edges[k] = Edge {
+    t.edges[t.count] = Edge {
         source: a,
         event: e,
     };
-    next.count = k + 1;
-    next
+    t.count += 1;
 }
 
 // The table that the list of the state b leads to.
-fn table_of(t: Tree, b: usize) -> Table
-    requires { Sound t × (b ≤ t.count) }
-    ensures { view result ≡ run_from (start t.n tower) (get_or (lists_in t) b []) }
+fn table_of(t: &Tree, b: usize) -> Table
+    requires { Sound t.now × (b ≤ t.now.count) }
+    ensures { view result ≡ run_from (start t.now.n tower) (get_or (lists_in t.now) b []) }
 {
     if b == 0 {
-        let begun = machine::starting(t.n, predicates::tower());
-        return begun.table;
+        return machine::starting(t.n, predicates::tower()).table;
     }
-    let k = b - 1;
-    let x = t.edges[k];
-    let e = x.event;
-    let before = table_of(t, x.source);
-    let o = machine::step(before, e);
-    o.table
+    let x = t.edges[b - 1];
+    machine::step(table_of(t, x.source), x.event).table
 }
 
 // One state more, from the state a, where e is accepted on the given table.
-fn with_event(t: Tree, table: Table, a: usize, e: Event) -> Tree
-    requires { Sound t × (a ≤ t.count) × (length (lists_in t ++ extended (get_or (lists_in t) a []) e (step (view table) e)) ≤ 601) }
-    ensures { Extends t (extended (get_or (lists_in t) a []) e (step (view table) e)) result }
+fn add_event(t: &mut Tree, table: Table, a: usize, e: Event)
+    requires { Sound t.old × (a ≤ t.old.count) × (length (lists_in t.old ++ extended (get_or (lists_in t.old) a []) e (step (view table) e)) ≤ 601) }
+    ensures { Extends t.old (extended (get_or (lists_in t.old) a []) e (step (view table) e)) t.new }
 {
-    let o = machine::step(table, e);
-    let answer = o.answer;
-    if !predicates::is_accepted(answer) {
-        return t;
+    if machine::step(table, e).answer.is_err() {
+        return;
     }
-    with_edge(t, a, e)
+    add_edge(t, a, e);
 }
 
 // One state more for each event that is accepted on the table of the state a, in order.
-fn with_next(t: Tree, a: usize) -> Tree
-    requires { Sound t × (a ≤ t.count) × (length (lists_in t ++ next_of (start t.n tower) (get_or (lists_in t) a [])) ≤ 601) }
-    ensures { Extends t (next_of (start t.n tower) (get_or (lists_in t) a [])) result }
+fn add_next(t: &mut Tree, a: usize)
+    requires { Sound t.old × (a ≤ t.old.count) × (length (lists_in t.old ++ next_of (start t.old.n tower) (get_or (lists_in t.old) a [])) ≤ 601) }
+    ensures { Extends t.old (next_of (start t.old.n tower) (get_or (lists_in t.old) a [])) t.new }
 {
-    let n = t.n;
     let table = table_of(t, a);
-    let count = list_events::event_count(n);
-    let events = list_events::events(n);
-    let mut next = t;
-    let mut i: u8 = 0;
-    while i < count {
-        let e = events[i as usize];
-        next = with_event(next, table, a, e);
-        i += 1;
+    let count = list_events::event_count(t.n);
+    let events = list_events::events(t.n);
+    for e in &events[..count as usize] {
+        add_event(t, table, a, *e);
     }
-    next
 }
 
 // The same for each of the states from first up to end, which is not among them.
-fn with_level(t: Tree, first: usize, end: usize) -> Tree
-    requires { Sound t × (first ≤ end) × (end ≤ t.count + 1) × (length (lists_in t ++ concat_map (next_of (start t.n tower)) (drop first (take end (lists_in t)))) ≤ 601) }
-    ensures { Extends t (concat_map (next_of (start t.n tower)) (drop first (take end (lists_in t)))) result }
+fn add_level(t: &mut Tree, first: usize, end: usize)
+    requires { Sound t.old × (first ≤ end) × (end ≤ t.old.count + 1) × (length (lists_in t.old ++ concat_map (next_of (start t.old.n tower)) (drop first (take end (lists_in t.old)))) ≤ 601) }
+    ensures { Extends t.old (concat_map (next_of (start t.old.n tower)) (drop first (take end (lists_in t.old)))) t.new }
 {
-    let mut next = t;
-    let mut a = first;
-    while a < end {
-        next = with_next(next, a);
-        a += 1;
+    for a in first..end {
+        add_next(t, a);
     }
-    next
 }
 
 // The tree of all accepted lists of up to `most` events among n nodes.
@@ -127,13 +109,11 @@ pub fn tree_of(n: u8, most: u8) -> Tree
     ensures { Sound result × (lists_in result ≡ states most (start n tower)) }
 {
     let mut t = root(n);
-    let mut first: usize = 0;
-    let mut k: u8 = 0;
-    while k < most {
+    let mut first = 0;
+    for _ in 0..most {
         let end = t.count + 1;
-        t = with_level(t, first, end);
+        add_level(&mut t, first, end);
         first = end;
-        k += 1;
     }
     t
 }

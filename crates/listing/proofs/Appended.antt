@@ -2,10 +2,11 @@
 use Prim.Native.Nat.{ℕ, ◌+◌, ◌-◌, ◌≤◌}
 use native.Mathlib.Omega.{arith}
 use mathlib.Core.Path.{◌≡◌, sym, ◌∙◌, ap}
-use mathlib.Core.List.{List, [], ◌++◌, append_assoc, append-nil}
-use lib.ListN.{length, take, drop, length-append, length-drop, take-append-drop, drop_of_length-le}
-use lib.Seq.{length-take-le, take_all, take_at, drop_at, drop-drop}
-use Rattle.listing.specs.Printing.{written, Appended}
+use mathlib.Core.List.{List, ◌++◌, append_assoc}
+use lib.ListN.{length, take, drop, length-append, take-append-drop}
+use lib.Seq.{length-take-le, take_at, drop_at, drop-drop}
+use Rattle.listing.specs.Printing.{written, Appended, Wrote}
+use Rattle.listing.specs.declared.buffer.TextBuffer.{TextBuffer}
 use Rattle.listing.proofs.Printing.{written_long}
 
 -- One piece, written where there is room.
@@ -26,13 +27,9 @@ appended b o s p r h e f =
 pub appended_written : {b s o : List ℕ} {p r : ℕ} → Appended b p s o r → o ≡ written b p s
 appended_written {b} {s} {o} {p} {r} a = sym (take-append-drop r o) ∙ rw (a.text, a.behind, a.next, append_assoc)
 
--- A piece over the start of the free end of b, which comes back as last.
-pub free_piece : (b s last : List ℕ) (p : ℕ) → p + length s ≤ length b → last ≡ s ++ drop (length s) (take (length b - p) (drop p b))
-    → take p b ++ (last ++ drop (length b - p) (drop p b)) ≡ written b p s
-free_piece b s last p h e =
-    let t : take (length b - p) (drop p b) ≡ drop p b = take_all (length b - p) (drop p b) (simp length-drop (omega arith)) in
-    let d : drop (length b - p) (drop p b) ≡ [] = drop_of_length-le (drop p b) {i = length b - p} (simp length-drop (omega arith)) in
-    rw (e, t, d, append-nil, drop-drop)
+-- A part of b that comes back as s.
+pub part_copied : (b s last : List ℕ) (p : ℕ) → last ≡ s → take p b ++ (last ++ drop (p + length s - p) (drop p b)) ≡ written b p s
+part_copied b s last p e = let n : p + length s - p ≡ length s = omega arith in rw (e, n, drop-drop)
 
 -- Two pieces after one another are one.
 pub appended_twice : {b s o t u : List ℕ} {p q r : ℕ} → Appended b p s o q → Appended o q t u r → Appended b p (s ++ t) u r
@@ -44,3 +41,7 @@ appended_twice {b} {s} {o} {t} {u} {p} {q} {r} f g =
       text = g.text ∙ rw (f.text, append_assoc);
       behind = g.behind ∙ rw (g.next, ← drop-drop (length t) q o, f.behind, drop-drop);
     }
+
+-- The same of what is written into a buffer.
+pub wrote_twice : {b c d : TextBuffer} {s t : List ℕ} → Wrote b s c → Wrote c t d → Wrote b (s ++ t) d
+wrote_twice f g = record { same = g.same ∙ f.same; appended = appended_twice f.appended g.appended }

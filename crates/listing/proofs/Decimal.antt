@@ -1,12 +1,12 @@
 -- The digits of a number denote it, without leading zeros, and are as few as its size allows.
-use Prim.Native.Nat.{ℕ, zero, suc, ◌+◌, ◌-◌, ◌*◌, ◌/◌, ◌%◌, ◌^◌, ◌≤◌, ◌<◌}
+use Prim.Native.Nat.{ℕ, zero, suc, max, ◌+◌, ◌-◌, ◌*◌, ◌/◌, ◌%◌, ◌^◌, ◌≤◌, ◌<◌}
 use native.Mathlib.Nat.{pow-suc, one-le-pow}
 use native.Mathlib.Omega.{arith}
-use mathlib.Core.Path.{◌≡◌, refl, ◌∙◌, ap}
+use mathlib.Core.Path.{◌≡◌, refl, ◌∙◌}
 use mathlib.Core.List.{List, [], ◌∷◌, ◌++◌}
 use lib.ListN.{length, get_or, length-append}
 use lib.Dec.{ltb}
-use borrow.Author.Tests.{ltb-true, ltb-false, lt-ltb, le-ltb}
+use borrow.Author.Tests.{ltb-true, ltb-false}
 use Rattle.model.specs.Pick.{pick, by_test}
 use Rattle.listing.specs.Decimal.{digits, decimal, value_from, value_of}
 use Rattle.listing.specs.Claims.{DecimalDenotes}
@@ -81,49 +81,32 @@ digits_many (suc p) (suc k) x h q =
     let i = digits_many p k (x / 10) m (omega arith) in
     simp length-append (by_test (λ (l : List ℕ). suc (suc k) ≤ length l + 1) (λ t. let s = ltb-true x 10 t in let v : ⊥ = omega arith in absurd v) (λ t. omega arith))
 
--- How many digits a number has.
-pub decimal_one : (x : ℕ) → x < 10 → (1 ≡ length (decimal x)) × (1 ≤ 10)
-unfolding decimal digits pick
-decimal_one x h = (rw (lt-ltb x 10 h), omega arith)
-
-pub decimal_count : (k x : ℕ) → k ≤ 9 → 10 ^ k ≤ x → x < 10 ^ suc k → (suc k ≡ length (decimal x)) × (suc k ≤ 10)
-unfolding decimal
-decimal_count k x q h i =
-    let a = digits_many 20 k x h (omega arith) in
-    let b = digits_short 20 k x i in
-    (omega arith, omega arith)
-
-digits_long : (p x : ℕ) → length (digits p x) ≤ p
-unfolding digits
-digits_long zero x = omega arith
-digits_long (suc p) x = simp length-append (by_test (λ (l : List ℕ). length l + 1 ≤ suc p) (λ t. omega arith) (λ t. let i = digits_long p (x / 10) in omega arith))
-
-pub decimal_long : (x : ℕ) → length (decimal x) ≤ 20
-unfolding decimal
-decimal_long x = digits_long 20 x
-
--- A number of 32 bits has at most ten.
-pub decimal_32_long : (x : ℕ) → x < 2 ^ 32 → length (decimal x) ≤ 10
-decimal_32_long x h = decimal_short 10 {x = x} (omega arith) (omega arith)
-
 digits_some : (p x : ℕ) → 1 ≤ length (digits (suc p) x)
 unfolding digits
 digits_some p x = simp length-append (omega arith)
 
--- The digits of x / 10, and then the last.
-digits_last : (p x : ℕ) → 10 ≤ x → digits (suc p) x ≡ digits p (x / 10) ++ ((48 + x % 10) ∷ [])
-unfolding digits pick
-digits_last p x h = rw (le-ltb x 10 h)
-
--- A place more than x has digits changes nothing.
-digits_enough : (p x : ℕ) → x < 10 ^ suc p → digits (suc (suc p)) x ≡ digits (suc p) x
-unfolding digits pick
-digits_enough zero x h = let b : x < 10 = omega arith in rw (lt-ltb x 10 b)
-digits_enough (suc p) x h = ap (λ (l : List ℕ). pick (ltb x 10) [] l ++ ((48 + x % 10) ∷ [])) (digits_enough p (x / 10) (tenth (suc p) h))
-
-pub decimal_more : (x : ℕ) → 10 ≤ x → x < 2 ^ 64 → length (decimal x) ≡ length (decimal (x / 10)) + 1
+-- How many digits a number has: one more than the greatest k with 10 ^ k at most x, and 1 where x is 0.
+pub decimal_count : (k x m : ℕ) → m ≡ max x 1 → k < 20 → 10 ^ k ≤ m → m < 10 * 10 ^ k → (k + 1 ≡ length (decimal x)) × (k + 1 ≤ 20)
 unfolding decimal
-decimal_more x h b = rw (digits_last 19 x h, digits_enough 18 (x / 10) (omega arith)) (length-append (digits 19 (x / 10)) ((48 + x % 10) ∷ []))
+decimal_count k zero m e l h i = (let o = digits_some 19 0 in let s = digits_short 20 0 0 (omega arith) in let z = none k (rw e at h) in omega arith, omega arith)
+  where
+    none : (k : ℕ) → 10 ^ k ≤ 1 → k ≡ 0
+    none zero h = refl
+    none (suc k) h = let o = one-le-pow k 10 (omega arith) in let v : ⊥ = omega (arith, pow-suc 10 k) in absurd v
+decimal_count k (suc x) m e l h i =
+    let f : m ≡ suc x = omega arith in
+    let a = digits_many 20 k (suc x) (omega arith) (omega arith) in
+    let b = digits_short 20 k (suc x) (omega (arith, pow-suc 10 k)) in
+    (omega arith, omega arith)
+
+-- A number below ten has one.
+pub decimal_one : (x : ℕ) → x < 10 → 1 ≡ length (decimal x)
+unfolding decimal
+decimal_one x h = let o = digits_some 19 x in let s = digits_short 20 0 x (omega arith) in omega arith
+
+-- A number of 32 bits has at most ten.
+pub decimal_32_long : (x : ℕ) → x < 2 ^ 32 → length (decimal x) ≤ 10
+decimal_32_long x h = decimal_short 10 {x = x} (omega arith) (omega arith)
 
 pub decimal_each : (x k : ℕ) → k < length (decimal x) → (48 ≤ get_or (decimal x) k 0) × (get_or (decimal x) k 0 ≤ 57)
 unfolding decimal

@@ -1,6 +1,8 @@
 pub mod Decimal
 pub mod Printing
 pub mod Appended
+pub mod Written
+pub mod Row
 pub mod Parted
 pub mod Totals
 pub mod Lengths

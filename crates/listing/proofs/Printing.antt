@@ -6,14 +6,14 @@ use mathlib.Core.Path.{◌≡◌, refl, sym, ◌∙◌, ap}
 use mathlib.Core.Bool.{Bool, true, false, ◌&&◌}
 use mathlib.Core.List.{List, [], ◌∷◌, ◌++◌, append_assoc, append-nil}
 use lib.ListN.{length, take, drop, length-append, length-drop, take-append-drop, drop_of_length-le}
-use lib.Seq.{length-take-le, take-append_seam, take_all, take-take, drop-drop, drop_at, take_at}
+use lib.Seq.{length-take-le, take-append_seam, take-take, drop-drop, drop_at, take_at, take_all}
 use lib.Dec.{leb, eqb}
 use borrow.Author.Tests.{le-leb, lt-leb, leb-true, leb-false}
 use Rattle.model.specs.Pick.{pick, pick_true, pick_false, by_test}
 use Rattle.model.proofs.Local.{both_left, both_right}
-use Rattle.listing.specs.declared.Put.{Put}
-use Rattle.listing.specs.declared.Put.TheVariants.{Next, NoRoom}
-use Rattle.listing.specs.Printing.{put_number, put_next, Print, shown, room, written, printed, joined, Printed, Whole, no_room, put_length, lines_number, LinesExported}
+use Rattle.std.specs.Prelude.{Ok, Err}
+use Rattle.std.specs.Result.{result_unwrap_or}
+use Rattle.listing.specs.Printing.{Put, refused, put_number, put_next, Print, shown, room, written, printed, joined, Printed, Whole, no_room, put_length, lines_number, LinesExported}
 
 -- What follows a print: the lines ys, unless it was refused.
 abbrev and_then : Print → List (List ℕ) → Print
@@ -24,27 +24,27 @@ unfolding printed pick
 printed_append b p [] ys = refl
 printed_append b p (x ∷ xs) ys = by (room b p x) _ _ (printed_append (written b p x) (p + length x) xs ys)
   where
-    by : (t : Bool) (n m : Print) → n ≡ and_then m ys → pick t n (shown NoRoom b) ≡ and_then (pick t m (shown NoRoom b)) ys
+    by : (t : Bool) (n m : Print) → n ≡ and_then m ys → pick t n (shown refused b) ≡ and_then (pick t m (shown refused b)) ys
     by true n m e = e
     by false n m e = refl
 
 -- A print that went well, and the rest after it; and one that did not.
-pub then_next : (b o : List ℕ) (p q : ℕ) (a : Put) (xs ys : List (List ℕ)) → shown a o ≡ printed b p xs → a ≡ Next q → printed b p (xs ++ ys) ≡ printed o q ys
+pub then_next : (b o : List ℕ) (p q : ℕ) (a : Put) (xs ys : List (List ℕ)) → shown a o ≡ printed b p xs → a ≡ Ok q → printed b p (xs ++ ys) ≡ printed o q ys
 unfolding pick
 then_next b o p q a xs ys e f = printed_append b p xs ys ∙ rw (← e, f)
 
-pub then_refused : (b o : List ℕ) (p : ℕ) (a : Put) (xs ys : List (List ℕ)) → shown a o ≡ printed b p xs → a ≡ NoRoom → printed b p (xs ++ ys) ≡ shown NoRoom o
+pub then_refused : (b o : List ℕ) (p : ℕ) (a : Put) (xs ys : List (List ℕ)) → shown a o ≡ printed b p xs → a ≡ refused → printed b p (xs ++ ys) ≡ shown refused o
 unfolding pick
 then_refused b o p a xs ys e f = printed_append b p xs ys ∙ rw (← e, f)
 
 -- The answer, from 01's number and the offset.
-pub answer_next : (a : Put) (q : ℕ) → put_number a ≡ 0 → put_next a ≡ q → a ≡ Next q
-answer_next (Next p) q e f = ap Next f
-answer_next NoRoom q e f = let v : ⊥ = omega arith in absurd v
+pub answer_next : (a : Put) (q : ℕ) → put_number a ≡ 0 → put_next a ≡ q → a ≡ Ok q
+answer_next (Ok p) q e f = ap Ok f
+answer_next (Err x) q e f = let v : ⊥ = omega arith in absurd v
 
-pub answer_refused : (a : Put) → put_number a ≡ 15 → a ≡ NoRoom
-answer_refused (Next p) e = let v : ⊥ = omega arith in absurd v
-answer_refused NoRoom e = refl
+pub answer_refused : (a : Put) → put_number a ≡ 15 → a ≡ refused
+answer_refused (Ok p) e = let v : ⊥ = omega arith in absurd v
+answer_refused (Err x) e = refl
 
 -- What is written keeps the length, and two pieces after one another are one.
 module _ (b x : List ℕ) (p : ℕ) (h : p + length x ≤ length b) where
@@ -86,7 +86,7 @@ printed_before b p (x ∷ xs) = by_test (λ (r : Print). take p r.bytes ≡ take
 
 -- Enough room: everything is written.
 printed_fits : (b : List ℕ) (p : ℕ) (xs : List (List ℕ)) → p + length (joined xs) ≤ length b →
-    printed b p xs ≡ shown (Next (p + length (joined xs))) (written b p (joined xs))
+    printed b p xs ≡ shown (Ok (p + length (joined xs))) (written b p (joined xs))
 unfolding printed joined pick
 printed_fits b p [] h = rw (add-zero, take-append-drop)
 printed_fits b p (x ∷ xs) h =
@@ -105,19 +105,19 @@ printed_short b p (x ∷ xs) q h =
     (λ m. printed_short (written b p x) (p + length x) xs (rw (written_long b x p m) m) (rw (written_long b x p m) (let k = simp length-append at h in omega arith)))
   where
     by : (s t : Bool) → leb (length x) (length b - p) ≡ t → (p + length x ≤ length b → (printed (written b p x) (p + length x) xs).refusal ≡ 15) →
-        (pick (s && t) (printed (written b p x) (p + length x) xs) (shown NoRoom b)).refusal ≡ 15
+        (pick (s && t) (printed (written b p x) (p + length x) xs) (shown refused b)).refusal ≡ 15
     by false t e f = refl
     by true false e f = refl
     by true true e f = let z = leb-true (length x) (length b - p) e in f (omega arith)
 
 -- Lines printed from p on: where the buffer is long enough they stand there whole, with all else as it was; else the answer is 15.
 module _ (b o : List ℕ) (p : ℕ) (a : Put) (xs : List (List ℕ)) (e : shown a o ≡ printed b p xs) where
-  pub printed_whole : p + length (joined xs) ≤ length b → (a ≡ Next (p + length (joined xs))) × (o ≡ written b p (joined xs))
+  pub printed_whole : p + length (joined xs) ≤ length b → (a ≡ Ok (p + length (joined xs))) × (o ≡ written b p (joined xs))
   printed_whole h =
       let f = e ∙ printed_fits b p xs h in
       (answer_next a _ (ap (λ (r : Print). r.refusal) f) (ap (λ (r : Print). r.next) f), ap (λ (r : Print). r.bytes) f)
 
-  pub printed_no_room : p ≤ length b → length b < p + length (joined xs) → a ≡ NoRoom
+  pub printed_no_room : p ≤ length b → length b < p + length (joined xs) → a ≡ refused
   printed_no_room q h = answer_refused a (ap (λ (r : Print). r.refusal) e ∙ printed_short b p xs q h)
 
 -- Lines printed from the start of a buffer are what `Printed` says.
@@ -139,29 +139,32 @@ printed_holds xs b o a e = by (leb (length (joined xs)) (length b)) refl
 
 -- A buffer in which they fit then holds all their bytes.
 module _ (xs : List (List ℕ)) (b o : List ℕ) (a : Put) (e : Printed xs b o a) (fits : length (joined xs) ≤ length b) where
-  answered : a ≡ Next (length (joined xs))
+  answered : a ≡ Ok (length (joined xs))
   answered = rw (le-leb _ _ fits, pick_true) at e.answer
 
-  pub whole_next : (n : ℕ) → a ≡ Next n → Whole xs b o n
+  pub whole_next : (n : ℕ) → a ≡ Ok n → Whole xs b o n
   whole_next n f =
       let m : n ≡ length (joined xs) = (let k = sym f ∙ answered in cc) in
       let y : take n o ≡ joined xs = rw (m, e.whole fits) (take-append_seam (joined xs) (drop (length (joined xs)) b)) in
       let z : length o ≡ length b = rw (e.whole fits) (simp (length-append, length-drop) (omega (arith, fits))) in
       record { size = m; bytes = rw m (e.whole fits); within = omega (arith, fits); counted = rw y m }
 
-  pub never_refused : a ≡ NoRoom → ⊥
+  pub whole_or : (n : ℕ) → n ≡ result_unwrap_or a 0 → Whole xs b o n
+  whole_or n f = rw (f ∙ ap (λ (r : Put). result_unwrap_or r 0) answered) (whole_next _ answered)
+
+  pub never_refused : a ≡ refused → ⊥
   never_refused f = let k = sym f ∙ answered in let z : ◌≡◌ {A = ℕ} 0 1 = cc in omega arith
 
 -- One line.
-pub line_refused : (b s : List ℕ) (p : ℕ) → length b < p + length s → shown NoRoom b ≡ printed b p (s ∷ [])
+pub line_refused : (b s : List ℕ) (p : ℕ) → length b < p + length s → shown refused b ≡ printed b p (s ∷ [])
 unfolding printed pick
 line_refused b s p h = by (leb p (length b)) refl
   where
-    by : (t : Bool) → leb p (length b) ≡ t → shown NoRoom b ≡ pick (t && leb (length s) (length b - p)) (shown (Next (p + length s)) (written b p s)) (shown NoRoom b)
+    by : (t : Bool) → leb p (length b) ≡ t → shown refused b ≡ pick (t && leb (length s) (length b - p)) (shown (Ok (p + length s)) (written b p s)) (shown refused b)
     by true q = let z = leb-true p (length b) q in rw (lt-leb (length s) (length b - p) (omega arith))
     by false q = refl
 
-pub line_next : (b o s : List ℕ) (p q : ℕ) → q ≡ p + length s → q ≤ length b → o ≡ written b p s → shown (Next q) o ≡ printed b p (s ∷ [])
+pub line_next : (b o s : List ℕ) (p q : ℕ) → q ≡ p + length s → q ≤ length b → o ≡ written b p s → shown (Ok q) o ≡ printed b p (s ∷ [])
 unfolding printed pick
 line_next b o s p q e h f = rw (e, f, le-leb p (length b) (omega arith), le-leb (length s) (length b - p) (omega arith))
 
@@ -178,11 +181,11 @@ module _ (b s last : List ℕ) (at : ℕ) (a : Put) (h : at ≤ length b) (e : s
       let z : length b - at - 0 ≡ length b - at = omega arith in
       rw (length-drop, z, le-leb 0 (length b - at) (omega arith), le-leb at (length b) h)
 
-  free_shown : (t : Bool) → room b at s ≡ t → shown a last ≡ pick t (shown (Next (length s)) (s ++ drop (length s) (drop at b))) (shown NoRoom (drop at b))
+  free_shown : (t : Bool) → room b at s ≡ t → shown a last ≡ pick t (shown (Ok (length s)) (s ++ drop (length s) (drop at b))) (shown refused (drop at b))
   unfolding printed
   free_shown t q = let z : 0 + length s ≡ length s = omega arith in rw (← q, ← free_room) (e ∙ rw (free_all, z))
 
-  by_room : (P : Type 0) → (room b at s ≡ true → (a ≡ Next (length s)) → last ≡ s ++ drop (length s) (drop at b) → P) → (room b at s ≡ false → a ≡ NoRoom → last ≡ drop at b → P) → P
+  by_room : (P : Type 0) → (room b at s ≡ true → (a ≡ Ok (length s)) → last ≡ s ++ drop (length s) (drop at b) → P) → (room b at s ≡ false → a ≡ refused → last ≡ drop at b → P) → P
   unfolding pick
   by_room P f g = by (room b at s) refl
     where
@@ -190,18 +193,18 @@ module _ (b s last : List ℕ) (at : ℕ) (a : Put) (h : at ≤ length b) (e : s
       by true q = let z = free_shown true q in f q (answer_next a _ (ap (λ (r : Print). r.refusal) z) (ap (λ (r : Print). r.next) z)) (ap (λ (r : Print). r.bytes) z)
       by false q = let z = free_shown false q in g q (answer_refused a (ap (λ (r : Print). r.refusal) z)) (ap (λ (r : Print). r.bytes) z)
 
-  pub put_fits : (n : ℕ) → a ≡ Next n → n ≤ length b - at
+  pub put_fits : (n : ℕ) → a ≡ Ok n → n ≤ length b - at
   put_fits n w =
       by_room (n ≤ length b - at) (λ q i j. let x = room_fits b s at q in let y : n ≡ length s = cc in omega arith)
       (λ q i j. let y : ◌≡◌ {A = ℕ} 0 1 = cc in let v : ⊥ = omega arith in absurd v)
 
-  pub put_next_lem : (n : ℕ) → a ≡ Next n → shown (Next (at + n)) (take at b ++ (last ++ drop (length b - at) (drop at b))) ≡ printed b at (s ∷ [])
+  pub put_next_lem : (n : ℕ) → a ≡ Ok n → shown (Ok (at + n)) (take at b ++ (last ++ drop (length b - at) (drop at b))) ≡ printed b at (s ∷ [])
   unfolding printed pick
   put_next_lem n w =
       by_room _ (λ q i j. let y : n ≡ length s = cc in rw (q, y, j, free_ends, append-nil, drop-drop))
       (λ q i j. let y : ◌≡◌ {A = ℕ} 0 1 = cc in let v : ⊥ = omega arith in absurd v)
 
-  pub put_refused : a ≡ NoRoom → shown NoRoom (take at b ++ (last ++ drop (length b - at) (drop at b))) ≡ printed b at (s ∷ [])
+  pub put_refused : a ≡ refused → shown refused (take at b ++ (last ++ drop (length b - at) (drop at b))) ≡ printed b at (s ∷ [])
   unfolding printed pick
   put_refused w =
       by_room _ (λ q i j. let y : ◌≡◌ {A = ℕ} 0 1 = cc in let v : ⊥ = omega arith in absurd v)
@@ -210,11 +213,11 @@ module _ (b s last : List ℕ) (at : ℕ) (a : Put) (h : at ≤ length b) (e : s
 -- ── the promise of a function that Rust or C calls, from that of printing ──
 
 module _ (xs : List (List ℕ)) (b : List ℕ) where
-  length_put : put_length (pick (leb (length (joined xs)) (length b)) (Next (length (joined xs))) NoRoom) ≡ lines_number xs b
+  length_put : put_length (pick (leb (length (joined xs)) (length b)) (Ok (length (joined xs))) refused) ≡ lines_number xs b
   unfolding lines_number pick
   length_put = by (leb (length (joined xs)) (length b))
     where
-      by : (t : Bool) → put_length (pick t (Next (length (joined xs))) NoRoom) ≡ pick t (length (joined xs)) no_room
+      by : (t : Bool) → put_length (pick t (Ok (length (joined xs))) refused) ≡ pick t (length (joined xs)) no_room
       by true = refl
       by false = refl
 

@@ -1,18 +1,31 @@
 -- Lines written one after the other into the free end of a lent buffer: what is answered, and what the buffer then holds.
-use Rattle.std.specs.Prelude.{Bool, ◌&&◌, ◌≡◌, List, [], ◌∷◌, ◌++◌, ℕ, ◌+◌, ◌-◌, ◌≤◌, ◌<◌, length, take, drop, leb}
+use Rattle.std.specs.Prelude.{Bool, Result, Ok, Err, ◌&&◌, ◌≡◌, List, [], ◌∷◌, ◌++◌, ℕ, ◌+◌, ◌-◌, ◌≤◌, ◌<◌, length, take, drop, leb}
 use Rattle.model.specs.Pick.{pick}
-use Rattle.listing.specs.declared.Put.{Put}
-use Rattle.listing.specs.declared.Put.TheVariants.{Next, NoRoom}
+use Rattle.listing.specs.declared.NoRoom.{NoRoom}
+use Rattle.listing.specs.declared.buffer.TextBuffer.{TextBuffer}
+
+-- what writing answers: the offset after what was written, or refusal 15
+abbrev pub Put : Type 0
+Put = Result ℕ NoRoom
+
+-- that refusal
+abbrev pub refused : Put
+refused = Err (record {})
+
+-- the same of what is written into a buffer, whose end is then at p
+abbrev pub answer_at : Result (Unit {0}) NoRoom → ℕ → Put
+answer_at (Ok u) p = Ok p
+answer_at (Err e) p = refused
 
 -- 01's number for each answer: 0 where nothing is refused
 abbrev pub put_number : Put → ℕ
-put_number (Next p) = 0
-put_number NoRoom = 15
+put_number (Ok p) = 0
+put_number (Err e) = 15
 
 -- the offset after what was written, for the next line; 0 where it was refused
 abbrev pub put_next : Put → ℕ
-put_next (Next p) = p
-put_next NoRoom = 0
+put_next (Ok p) = p
+put_next (Err e) = 0
 
 -- what printing answers, in 01's numbers, and what the buffer then holds
 pub record Print : Type 0 where
@@ -44,7 +57,7 @@ joined (x ∷ xs) = x ++ joined xs
 -- What printing the lines xs from the start of a buffer that held b answers, a, and leaves there, o.
 pub record Printed (xs : List (List ℕ)) (b o : List ℕ) (a : Put) : Type 0 where
   -- the length of their bytes, or 15 where they do not fit
-  pub answer : a ≡ pick (leb (length (joined xs)) (length b)) (Next (length (joined xs))) NoRoom
+  pub answer : a ≡ pick (leb (length (joined xs)) (length b)) (Ok (length (joined xs))) refused
   -- where they fit they stand there whole, and behind them what was there
   pub whole : length (joined xs) ≤ length b → o ≡ joined xs ++ drop (length (joined xs)) b
   -- in any case the lines are written one after the other, up to the first that does not fit
@@ -67,6 +80,24 @@ pub record Appended (b : List ℕ) (p : ℕ) (s : List ℕ) (o : List ℕ) (r : 
   -- what stands behind is as it was
   pub behind : drop r o ≡ drop r b
 
+-- ── the same of a lent buffer with the number of its bytes that are written ──
+
+-- there is room for k bytes
+abbrev pub HasRoom : TextBuffer → ℕ → Type 0
+HasRoom b k = b.end + k ≤ length b.bytes.now
+
+-- What was the buffer b is o, with s behind what was written.
+pub record Wrote (b : TextBuffer) (s : List ℕ) (o : TextBuffer) : Type 0 where
+  -- the same lent bytes
+  pub same : o.bytes.ghost_name ≡ b.bytes.ghost_name
+  pub appended : Appended b.bytes.now b.end s o.bytes.now o.end
+
+-- What writing the lines xs into the buffer b answers, a, and leaves, o: they are written one after the other behind what was written.
+pub record WroteLines (b : TextBuffer) (xs : List (List ℕ)) (a : Result (Unit {0}) NoRoom) (o : TextBuffer) : Type 0 where
+  -- the same lent bytes
+  pub same : o.bytes.ghost_name ≡ b.bytes.ghost_name
+  pub lines : shown (answer_at a o.end) o.bytes.now ≡ printed b.bytes.now b.end xs
+
 -- ── printing as a function that Rust or C calls ──
 
 -- refusal 15 as a number that is no text's length: the largest of 64 bits
@@ -75,8 +106,8 @@ no_room = 18446744073709551615
 
 -- the answer of printing as one number
 abbrev pub put_length : Put → ℕ
-put_length (Next n) = n
-put_length NoRoom = no_room
+put_length (Ok n) = n
+put_length (Err e) = no_room
 
 -- what is answered for the lines xs with a lent buffer that holds b: the length of their bytes, or that they do not fit
 unfoldable pub lines_number : List (List ℕ) → List ℕ → ℕ

@@ -15,20 +15,22 @@ use Rattle.model.proofs.Pairs.{pair_within}
 use Rattle.model.proofs.Fields.{in_range_pair, in_range_own, in_range_size}
 use Rattle.model.proofs.InRange.{start_in}
 use Rattle.model.specs.declared.Limits.{Limits}
-use Rattle.model.specs.declared.StartAnswer.{StartAnswer}
-use Rattle.model.specs.declared.StartAnswer.TheVariants.{Started, WrongLimits, WrongCount}
+use Rattle.model.specs.Answers.{StartAnswer}
+use Rattle.model.specs.Answers.{Started}
+use Rattle.std.specs.Prelude.{Ok, Err}
+use Rattle.model.specs.declared.StartRefusal.TheVariants.{WrongLimits, WrongCount}
 use Rattle.machine.specs.Stepped.{begun_number}
 use Rattle.machine.specs.Claims.{StartedAlike, StartCases}
 
 -- an answer is known by its number
 start_of : ℕ → StartAnswer
-start_of r = pick (eqb r 1) WrongLimits (pick (eqb r 6) WrongCount Started)
+start_of r = pick (eqb r 1) (Err WrongLimits) (pick (eqb r 6) (Err WrongCount) Started)
 
 start_back : (a : StartAnswer) → start_of (start_number a) ≡ a
 unfolding start_of pick
-start_back Started = refl
-start_back WrongLimits = refl
-start_back WrongCount = refl
+start_back (Ok u) = refl
+start_back (Err WrongLimits) = refl
+start_back (Err WrongCount) = refl
 
 pub start_known : (a b : StartAnswer) → start_number a ≡ start_number b → a ≡ b
 start_known a b e = sym (start_back a) ∙ ap start_of e ∙ start_back b

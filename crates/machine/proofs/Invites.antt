@@ -22,7 +22,7 @@ use Rattle.model.specs.declared.Activity.TheVariants.{Idle, Asking, Waiting, Inv
 use Rattle.model.specs.declared.Node.{Node}
 use Rattle.model.specs.declared.CallNo.{CallNo}
 use Rattle.model.specs.declared.Message.{Message}
-use Rattle.model.specs.declared.Outgoing.{Outgoing}
+use Rattle.std.specs.Prelude.{Option}
 use Rattle.model.specs.declared.Mark.{Mark}
 use Rattle.model.specs.declared.Mark.TheVariants.{Plain, Recovers, Merges}
 use Rattle.model.specs.declared.Reaction.{Reaction}
@@ -35,10 +35,10 @@ pub record Invites (m : ℕ) (r : Reaction) : Type 0 where
   pub members : r.mark ≡ Merges → (j : ℕ) → 1 ≤ j → has m j ≡ true → invites r.node.activity j ≡ true
 
 -- two reactions that are no merge
-plain : {m : ℕ} {c : Node} {o : Outgoing} → Invites m (reaction c o Plain)
+plain : {m : ℕ} {c : Node} {o : Option Message} → Invites m (reaction c o Plain)
 plain = record { members = λ e. let z : ◌≡◌ {A = ℕ} 0 1 = cc in absurd (omega arith) }
 
-recovery : {m : ℕ} {c : Node} {o : Outgoing} → Invites m (reaction c o Recovers)
+recovery : {m : ℕ} {c : Node} {o : Option Message} → Invites m (reaction c o Recovers)
 recovery = record { members = λ e. let z : ◌≡◌ {A = ℕ} 0 1 = cc in absurd (omega arith) }
 
 or_right : (x y z : Bool) → z ≡ true → (x || y || z) ≡ true

@@ -3,37 +3,35 @@ use Prim.Native.Nat.{ℕ, zero, suc, ◌+◌, ◌-◌, ◌%◌, ◌≤◌, ◌<�
 use native.Mathlib.Omega.{arith}
 use mathlib.Core.Path.{◌≡◌, refl, sym, ◌∙◌}
 use mathlib.Core.List.{List, [], ◌∷◌, ◌++◌}
-use mathlib.Core.Bool.{Bool, true, false, not, ◌&&◌, true≢false}
-use borrow.Author.Tests.{not-true, not-false, ne_eqb}
-use lib.Dec.{eqb, ltb}
+use mathlib.Core.Bool.{Bool, true, false, true≢false}
+use lib.Dec.{ltb}
 use lib.ListN.{length, get_or}
 use Rattle.model.specs.State.{node_at, in_range, view}
-use Rattle.model.specs.Limits.{traffic_end}
 use Rattle.model.specs.Pick.{pick, pick_true, pick_false}
 use Rattle.model.specs.Grounds.{Ground, ground, first}
-use Rattle.model.specs.Step.{actor, is_lose, reaction_to, is_sending, pair_at_end, effect, accepted, step}
+use Rattle.model.specs.Step.{actor, is_lose, reaction_to, pair_at_end, effect, accepted, step}
 use Rattle.model.proofs.Judged.{Clear}
 use Rattle.model.proofs.Range.{OutgoingIn}
 use Rattle.model.proofs.InRange.{event_in}
 use Rattle.model.specs.React.{react}
 use Rattle.model.specs.Procedures.{stays}
-use Rattle.model.specs.Answers.{answer_number, is_accepted}
-use Rattle.model.proofs.Answers.{accepted_zero, refused_some}
+use Rattle.model.specs.Answers.{refusal_number, Accepted}
+use Rattle.model.proofs.Answers.{ground_some}
 use Rattle.model.specs.declared.Node.{Node}
 use Rattle.model.specs.declared.Message.{Message}
 use Rattle.model.specs.declared.Reaction.{Reaction}
-use Rattle.model.specs.declared.Answer.{Answer}
-use Rattle.model.specs.declared.Answer.TheVariants.{Accepted}
 use Rattle.model.specs.declared.Table.{Table}
 use Rattle.model.specs.declared.Event.{Event}
 use Rattle.model.specs.declared.Event.TheVariants.{Crash, Recover, Check, Timeout, Tick, Expire, Finish, Deliver, Lose}
 use Rattle.node_step.specs.Fits.{FitsInput}
 use Rattle.node_step.specs.Grounds.{number_grounds}
-use Rattle.machine.specs.declared.Verdict.{Verdict}
-use Rattle.machine.specs.Parts.{place_for, sent_place, with_last, stored, Room, state_grounds, end_grounds, reacts_to, input_of, FitsMessage, left_of, judged_grounds, Judging, Judged}
+use Rattle.model.specs.declared.Refusal.{Refusal}
+use Rattle.model.specs.declared.Refusal.TheVariants.{SentAtEnd}
+use Rattle.std.specs.Prelude.{Ok, Err}
+use Rattle.machine.specs.Parts.{place_for, sent_place, sent_at_end, stored, Room, state_grounds, end_grounds, reacts_to, input_of, FitsMessage, left_of, judged_grounds, Judging, Judged, sent_grounds, last_grounds, all_grounds, JudgedAll}
 use Rattle.machine.specs.Stepped.{Stepped}
 use Rattle.machine.proofs.Laws.{Sized}
-use Rattle.model.proofs.Grounds.{Numbered, first_clear, first_met}
+use Rattle.model.proofs.Grounds.{Numbered, first_clear, first_met, not_met}
 use Rattle.machine.proofs.Parts.{numbers_refuse, state_refuses, ends_refuse, last_refuses, step_accepts, all_clear}
 use Rattle.machine.proofs.Places.{small, actor_is, node_read, node_fits, found_is, reaction_is, message_ok, left_counts, room_is, last_is, clear_is, effect_is}
 
@@ -73,22 +71,15 @@ told_fits m (Lose a b) q f = absurd (true≢false q)
 
 -- ── the groups of grounds ──
 
--- b is what the code's test of the answer a gave
-pub passed : (a : Answer) {x : ℕ} {b : Bool} → answer_number a ≡ x → b ≡ is_accepted a → not b ≡ false → x ≡ 0
-passed a h i l = sym h ∙ accepted_zero a (sym i ∙ not-false _ l)
-
-pub halted : (a : Answer) {b : Bool} → b ≡ is_accepted a → not b ≡ true → is_accepted a ≡ false
-halted a i l = sym i ∙ not-true _ l
-
--- a by the grounds xs in front of others, where they refuse
-pub in_front : (a : Answer) {b : Bool} (xs ys : List Ground) → answer_number a ≡ first xs → b ≡ is_accepted a → not b ≡ true → answer_number a ≡ first (xs ++ ys)
-in_front a xs ys h i l = h ∙ sym (first_met xs ys (omega (arith, refused_some a (halted a i l), h)))
+-- a refusal by the grounds xs in front of others
+pub in_front : (g : Refusal) (xs ys : List Ground) → refusal_number g ≡ first xs → refusal_number g ≡ first (xs ++ ys)
+in_front g xs ys h = h ∙ sym (first_met xs ys (omega (arith, ground_some g, h)))
 
 -- where they are clear, and one ground is behind them
-module _ (a : Answer) {b : Bool} (xs : List Ground) (n : Numbered xs) (h : answer_number a ≡ first xs) (i : b ≡ is_accepted a) (l : not b ≡ false) (r : ℕ) (t : Bool) where
+module _ (xs : List Ground) (n : Numbered xs) (h : 0 ≡ first xs) (r : ℕ) (t : Bool) where
   behind : first (xs ++ (ground r t ∷ [])) ≡ pick t r 0
   unfolding first
-  behind = first_clear xs _ n (passed a h i l)
+  behind = first_clear xs _ n (sym h)
 
   pub behind_met : t ≡ true → r ≡ first (xs ++ (ground r t ∷ []))
   behind_met q = sym (behind ∙ rw (q, pick_true))
@@ -107,29 +98,42 @@ first_none xs ys n h = by (first xs) refl
     by (suc x) q = absurd (some_not_none (first xs) (omega arith) (sym (first_met xs ys (omega arith)) ∙ h))
 
 module _ (n limit waiting k : ℕ) (c : Node) (m : Message) (e : Event) where
-  pub by_numbers : (a : Answer) (r : Reaction) → is_accepted a ≡ false → answer_number a ≡ first (number_grounds n e) → Judged n limit waiting k c m e (record { answer = a; reaction = r })
-  by_numbers a r q h =
-      record {
-        answer = h ∙ sym (first_met (number_grounds n e) _ (omega (arith, refused_some a q, h)));
-        reaction = λ z. absurd (some_not_none (answer_number a) (refused_some a q) z);
-      }
+  pub by_numbers : (g : Refusal) → refusal_number g ≡ first (number_grounds n e) → Judged n limit waiting k c m e (Err g)
+  by_numbers g h = record { answer = in_front g (number_grounds n e) _ h; reaction = tt }
 
-  module _ (clear : first (number_grounds n e) ≡ 0) where
+  module _ (clear : 0 ≡ first (number_grounds n e)) where
     past_numbers : first (judged_grounds n limit waiting k c m e) ≡ first (state_grounds n c e (ltb k waiting) ++ end_grounds c (reacts_to n c m e) (left_of waiting k) limit)
-    past_numbers = first_clear (number_grounds n e) _ refl clear
+    past_numbers = first_clear (number_grounds n e) _ refl (sym clear)
 
-    pub by_state : (a : Answer) (r : Reaction) → is_accepted a ≡ false → answer_number a ≡ first (state_grounds n c e (ltb k waiting)) → Judged n limit waiting k c m e (record { answer = a; reaction = r })
-    by_state a r q h =
-        record {
-          answer = h ∙ sym (past_numbers ∙ first_met (state_grounds n c e (ltb k waiting)) _ (omega (arith, refused_some a q, h)));
-          reaction = λ z. absurd (some_not_none (answer_number a) (refused_some a q) z);
-        }
+    pub by_state : (g : Refusal) → refusal_number g ≡ first (state_grounds n c e (ltb k waiting)) → Judged n limit waiting k c m e (Err g)
+    by_state g h = record { answer = in_front g (state_grounds n c e (ltb k waiting)) _ h ∙ sym past_numbers; reaction = tt }
 
-    pub past_state : first (state_grounds n c e (ltb k waiting)) ≡ 0 → first (judged_grounds n limit waiting k c m e) ≡ first (end_grounds c (reacts_to n c m e) (left_of waiting k) limit)
-    past_state going = past_numbers ∙ first_clear (state_grounds n c e (ltb k waiting)) _ refl going
+    module _ (going : 0 ≡ first (state_grounds n c e (ltb k waiting))) where
+      pub past_state : first (judged_grounds n limit waiting k c m e) ≡ first (end_grounds c (reacts_to n c m e) (left_of waiting k) limit)
+      past_state = past_numbers ∙ first_clear (state_grounds n c e (ltb k waiting)) _ refl (sym going)
 
-    pub by_ends : first (state_grounds n c e (ltb k waiting)) ≡ 0 → (a : Answer) (r : Reaction) (left : ℕ) → r ≡ reacts_to n c m e → left ≡ left_of waiting k → answer_number a ≡ first (end_grounds c r left limit) → Judged n limit waiting k c m e (record { answer = a; reaction = r })
-    by_ends going a r left hr hl h = record { answer = h ∙ rw (hr, hl) (sym (past_state going)); reaction = λ z. hr }
+      module _ (r : Reaction) (left : ℕ) (hr : r ≡ reacts_to n c m e) (hl : left ≡ left_of waiting k) where
+        pub by_ends : (g : Refusal) → refusal_number g ≡ first (end_grounds c r left limit) → Judged n limit waiting k c m e (Err g)
+        by_ends g h = record { answer = h ∙ rw (hr, hl) (sym past_state); reaction = tt }
+
+        pub by_none : 0 ≡ first (end_grounds c r left limit) → Judged n limit waiting k c m e (Ok r)
+        by_none h = record { answer = h ∙ rw (hr, hl) (sym past_state); reaction = hr }
+
+-- ── with ground 17 behind them ──
+module _ (n limit waiting k : ℕ) (c : Node) (m : Message) (e : Event) (l : List ℕ) where
+  pub by_judged : (g : Refusal) → Judged n limit waiting k c m e (Err g) → JudgedAll n limit waiting k c m e l (Err g)
+  by_judged g j = record { answer = in_front g (judged_grounds n limit waiting k c m e) _ j.answer; reaction = tt }
+
+  module _ (r : Reaction) (j : Judged n limit waiting k c m e (Ok r)) where
+    all_is : first (all_grounds n limit waiting k c m e l) ≡ pick (sent_at_end r.outgoing (get_or l (sent_place r.outgoing) 0)) 17 0
+    unfolding first
+    all_is = rw j.reaction (first_clear (judged_grounds n limit waiting k c m e) (sent_grounds l (reacts_to n c m e).outgoing) refl (sym j.answer))
+
+    pub by_last : sent_at_end r.outgoing (get_or l (sent_place r.outgoing) 0) ≡ true → JudgedAll n limit waiting k c m e l (Err SentAtEnd)
+    by_last q = record { answer = sym (all_is ∙ rw (q, pick_true)); reaction = tt }
+
+    pub by_no_ground : sent_at_end r.outgoing (get_or l (sent_place r.outgoing) 0) ≡ false → JudgedAll n limit waiting k c m e l (Ok r)
+    by_no_ground q = record { answer = sym (all_is ∙ rw (q, pick_false)); reaction = j.reaction }
 
 -- ── a judgement on a table: c and m as read from the arrays ──
 pub seat_is : (i : ℕ) → 1 ≤ i → i ≤ 16 → (i + 15) % 16 ≡ i - 1
@@ -147,109 +151,96 @@ module _ (t : Table) (z : Sized t) (ok : in_range (view t) ≡ true) (e : Event)
   pub judging : Judging t.n t.waiting k c m e
   judging = record { node = λ clear. node_fits t z ok e clear c (node_is clear); message = λ clear going. rw hm (message_ok t z ok e k hk reach c going f) }
 
-  module _ (v : Verdict) (j : Judged t.n t.limits.messages t.waiting k c m e v) where
-    found : ltb k t.waiting ≡ ltb (place_for (view t).queue e) (length (view t).queue)
-    found = found_is t z ok e k hk reach
+  found : ltb k t.waiting ≡ ltb (place_for (view t).queue e) (length (view t).queue)
+  found = found_is t z ok e k hk reach
 
-    -- a: any answer of the verdict's number
-    pub refuses : (a : Answer) → answer_number a ≡ answer_number v.answer → is_accepted a ≡ false → Stepped t e (record { answer = a; table = t })
-    refuses a hn q = by_first (first (number_grounds t.n e)) refl
+  module _ (g : Refusal) (j : Judged t.n t.limits.messages t.waiting k c m e (Err g)) where
+    pub refuses : Stepped t e (record { answer = Err g; table = t })
+    refuses = by_first (first (number_grounds t.n e)) refl
       where
-        by_second : (clear : first (number_grounds t.n e) ≡ 0) (y : ℕ) → first (state_grounds t.n c e (ltb k t.waiting)) ≡ y → Stepped t e (record { answer = a; table = t })
+        by_second : (clear : first (number_grounds t.n e) ≡ 0) (y : ℕ) → first (state_grounds t.n c e (ltb k t.waiting)) ≡ y → Stepped t e (record { answer = Err g; table = t })
         by_second clear zero y =
             let r = reaction_is t z ok e k hk reach c y f (node_is clear) in
-            ends_refuse t e ok c (node_is clear) _ found clear y (reacts_to t.n c m e) (rw hm r) _ (left_counts t z ok e k hk reach _ refl) a q (hn ∙ j.answer ∙ past_state t.n t.limits.messages t.waiting k c m e clear y)
+            ends_refuse t e ok c (node_is clear) _ found clear y (reacts_to t.n c m e) (rw hm r) _ (left_counts t z ok e k hk reach _ refl) g (j.answer ∙ past_state t.n t.limits.messages t.waiting k c m e (sym clear) (sym y))
         by_second clear (suc x) y =
-            state_refuses t e ok c (node_is clear) _ found clear a q
-            (hn ∙ j.answer ∙ first_clear (number_grounds t.n e) _ refl clear ∙ first_met (state_grounds t.n c e (ltb k t.waiting)) _ (omega arith))
+            state_refuses t e ok c (node_is clear) _ found clear g
+            (j.answer ∙ first_clear (number_grounds t.n e) _ refl clear ∙ first_met (state_grounds t.n c e (ltb k t.waiting)) _ (omega arith))
 
-        by_first : (x : ℕ) → first (number_grounds t.n e) ≡ x → Stepped t e (record { answer = a; table = t })
+        by_first : (x : ℕ) → first (number_grounds t.n e) ≡ x → Stepped t e (record { answer = Err g; table = t })
         by_first zero y = by_second y (first (state_grounds t.n c e (ltb k t.waiting))) refl
-        by_first (suc x) y = numbers_refuse t e ok _ refl _ refl a q (hn ∙ j.answer ∙ first_met (number_grounds t.n e) _ (omega arith))
+        by_first (suc x) y = numbers_refuse t e ok _ refl _ refl g (j.answer ∙ first_met (number_grounds t.n e) _ (omega arith))
 
-    module _ (q : is_accepted v.answer ≡ true) where
-      none : first (judged_grounds t.n t.limits.messages t.waiting k c m e) ≡ 0
-      none = sym j.answer ∙ accepted_zero v.answer q
+  module _ (r : Reaction) (j : Judged t.n t.limits.messages t.waiting k c m e (Ok r)) where
+    none : first (judged_grounds t.n t.limits.messages t.waiting k c m e) ≡ 0
+    none = sym j.answer
 
-      clear : first (number_grounds t.n e) ≡ 0
-      clear = (first_none (number_grounds t.n e) _ refl none).0
+    clear : first (number_grounds t.n e) ≡ 0
+    clear = (first_none (number_grounds t.n e) _ refl none).0
 
-      later : (first (state_grounds t.n c e (ltb k t.waiting)) ≡ 0) × (first (end_grounds c (reacts_to t.n c m e) (left_of t.waiting k) t.limits.messages) ≡ 0)
-      later = first_none (state_grounds t.n c e (ltb k t.waiting)) _ refl (first_none (number_grounds t.n e) _ refl none).1
+    later : (first (state_grounds t.n c e (ltb k t.waiting)) ≡ 0) × (first (end_grounds c (reacts_to t.n c m e) (left_of t.waiting k) t.limits.messages) ≡ 0)
+    later = first_none (state_grounds t.n c e (ltb k t.waiting)) _ refl (first_none (number_grounds t.n e) _ refl none).1
 
-      acts : v.reaction ≡ reacts_to t.n c m e
-      acts = j.reaction (accepted_zero v.answer q)
+    ends : first (end_grounds c r (left_of t.waiting k) t.limits.messages) ≡ 0
+    ends = rw j.reaction later.1
 
-      ends : first (end_grounds c v.reaction (left_of t.waiting k) t.limits.messages) ≡ 0
-      ends = rw acts later.1
+    -- what storing needs
+    pub seated : at < t.n
+    seated = let a = actor_is t z ok e clear in omega (arith, at_is clear, a.0, a.1)
 
-      -- what storing needs
-      pub seated : at < t.n
-      seated = let a = actor_is t z ok e clear in omega (arith, at_is clear, a.0, a.1)
+    pub room : Room r.outgoing (left_of t.waiting k)
+    room = room_is t z ok e k hk reach _ refl c r ends
 
-      pub room : Room v.reaction.outgoing (left_of t.waiting k)
-      room = room_is t z ok e k hk reach _ refl c v.reaction ends
+    pub reacts : r ≡ reaction_to (view t) e
+    reacts = j.reaction ∙ rw hm (reaction_is t z ok e k hk reach c later.0 f (node_is clear))
 
-      pub reacts : v.reaction ≡ reaction_to (view t) e
-      reacts = acts ∙ rw hm (reaction_is t z ok e k hk reach c later.0 f (node_is clear))
+    pub is_clear : Clear (view t) e
+    is_clear = clear_is t z ok e k hk reach _ refl c (node_is clear) clear later.0 r reacts ends
 
-      pub is_clear : Clear (view t) e
-      is_clear = clear_is t z ok e k hk reach _ refl c (node_is clear) clear later.0 v.reaction reacts ends
+    pub outgoing_in : OutgoingIn t.n r.outgoing
+    outgoing_in = rw reacts (event_in (view t) e is_clear).reaction.outgoing
 
-      pub outgoing_in : OutgoingIn t.n v.reaction.outgoing
-      outgoing_in = rw reacts (event_in (view t) e is_clear).reaction.outgoing
+    at_end : sent_at_end r.outgoing (get_or t.sent (sent_place r.outgoing) 0) ≡ pair_at_end t.sent r.outgoing
+    at_end = last_is t.n t.sent r.outgoing (small t z ok e).1 outgoing_in
 
-      last_refuse : pair_at_end t.sent v.reaction.outgoing ≡ true → (a : Answer) → is_accepted a ≡ false → answer_number a ≡ 17 → Stepped t e (record { answer = a; table = t })
-      last_refuse = last_refuses t e ok c (node_is clear) _ found clear later.0 v.reaction reacts _ (left_counts t z ok e k hk reach _ refl) ends
+    last_refused : (g : Refusal) → refusal_number g ≡ first (last_grounds t.sent r.outgoing) → Stepped t e (record { answer = Err g; table = t })
+    last_refused g h = last_refuses t e ok c (node_is clear) _ found clear later.0 r reacts _ (left_counts t z ok e k hk reach _ refl) ends g h
 
-      module _ (p : pair_at_end t.sent v.reaction.outgoing ≡ false) where
-        -- what is then stored is the model's
-        pub stores : stored (view t) e k at v.reaction ≡ effect (view t) e
-        stores = effect_is t z ok e k hk reach _ refl is_clear v.reaction at reacts (at_is clear)
+    module _ (p : pair_at_end t.sent r.outgoing ≡ false) where
+      -- what is then stored is the model's
+      pub stores : stored (view t) e k at r ≡ effect (view t) e
+      stores = effect_is t z ok e k hk reach _ refl is_clear r at reacts (at_is clear)
 
-        pub model_accepts : step (view t) e ≡ accepted (effect (view t) e) (reaction_to (view t) e).mark
-        model_accepts = step_accepts t e ok c (node_is clear) _ found clear later.0 v.reaction reacts _ (left_counts t z ok e k hk reach _ refl) ends p
+      pub model_accepts : step (view t) e ≡ accepted (effect (view t) e) (reaction_to (view t) e).mark
+      model_accepts = step_accepts t e ok c (node_is clear) _ found clear later.0 r reacts _ (left_counts t z ok e k hk reach _ refl) ends p
 
-        pub accepts : (u : Table) → view u ≡ stored (view t) e k at v.reaction → Stepped t e (record { answer = Accepted; table = u })
-        accepts u h =
-            all_clear t e ok c (node_is clear) _ found clear later.0 v.reaction reacts _ (left_counts t z ok e k hk reach _ refl) ends p u (h ∙ stores)
+      accepts : (u : Table) → view u ≡ stored (view t) e k at r → Stepped t e (record { answer = Accepted; table = u })
+      accepts u h =
+          all_clear t e ok c (node_is clear) _ found clear later.0 r reacts _ (left_counts t z ok e k hk reach _ refl) ends p u (h ∙ stores)
 
-    -- a: the verdict's answer with 17 behind it, by the count x that is read
-    module _ (x : ℕ) (hx : x ≡ get_or t.sent (sent_place v.reaction.outgoing) 0) (a : Answer) (hn : answer_number a ≡ with_last (answer_number v.answer) v.reaction.outgoing x) where
-      at_end : (q : is_accepted v.answer ≡ true) → is_sending v.reaction.outgoing && eqb x traffic_end ≡ pair_at_end t.sent v.reaction.outgoing
-      at_end q = rw hx (last_is t.n t.sent v.reaction.outgoing (small t z ok e).1 (outgoing_in q))
+  -- with ground 17
+  abbrev all : List Ground
+  all = all_grounds t.n t.limits.messages t.waiting k c m e t.sent
 
-      number_is : (q : is_accepted v.answer ≡ true) → answer_number a ≡ pick (pair_at_end t.sent v.reaction.outgoing) 17 0
-      number_is q = hn ∙ rw (accepted_zero v.answer q, at_end q)
+  abbrev before : List Ground
+  before = judged_grounds t.n t.limits.messages t.waiting k c m e
 
-      pub last_refused : is_accepted a ≡ false → Stepped t e (record { answer = a; table = t })
-      last_refused r = by (is_accepted v.answer) refl
-        where
-          by_last : (q : is_accepted v.answer ≡ true) (y : Bool) → pair_at_end t.sent v.reaction.outgoing ≡ y → Stepped t e (record { answer = a; table = t })
-          by_last q true p = last_refuse q p a r (number_is q ∙ rw (p, pick_true))
-          by_last q false p = absurd (some_not_none (answer_number a) (refused_some a r) (number_is q ∙ rw (p, pick_false)))
+  pub all_refuses : (g : Refusal) → JudgedAll t.n t.limits.messages t.waiting k c m e t.sent (Err g) → Stepped t e (record { answer = Err g; table = t })
+  all_refuses g j = by_first (first before) refl
+    where
+      by_first : (x : ℕ) → first before ≡ x → Stepped t e (record { answer = Err g; table = t })
+      by_first zero y =
+          let r = reacts_to t.n c m e in
+          let j' : Judged t.n t.limits.messages t.waiting k c m e (Ok r) = record { answer = sym y; reaction = refl } in
+          last_refused r j' g (rw (at_end r j') at (j.answer ∙ first_clear before (sent_grounds t.sent r.outgoing) refl y))
+      by_first (suc x) y = refuses g (record { answer = j.answer ∙ first_met before _ (omega arith); reaction = tt })
 
-          by : (y : Bool) → is_accepted v.answer ≡ y → Stepped t e (record { answer = a; table = t })
-          by true q = by_last q (pair_at_end t.sent v.reaction.outgoing) refl
-          by false q = refuses a (hn ∙ rw (ne_eqb (answer_number v.answer) 0 (some_not_none _ (refused_some v.answer q)), pick_false)) r
+  module _ (r : Reaction) (j : JudgedAll t.n t.limits.messages t.waiting k c m e t.sent (Ok r)) where
+    pub judged : Judged t.n t.limits.messages t.waiting k c m e (Ok r)
+    judged = record { answer = sym (first_none before _ refl (sym j.answer)).0; reaction = j.reaction }
 
-      module _ (r : is_accepted a ≡ true) where
-        pub verdict_accepted : is_accepted v.answer ≡ true
-        verdict_accepted = by (is_accepted v.answer) refl
-          where
-            by : (y : Bool) → is_accepted v.answer ≡ y → y ≡ true
-            by true q = refl
-            by false q =
-                absurd
-                (some_not_none (answer_number v.answer) (refused_some v.answer q)
-                (sym (hn ∙ rw (ne_eqb (answer_number v.answer) 0 (some_not_none _ (refused_some v.answer q)), pick_false)) ∙ accepted_zero a r))
+    below : pair_at_end t.sent r.outgoing ≡ false
+    unfolding pick
+    below = sym (at_end r judged) ∙ rw j.reaction (not_met 17 all refl (sym j.answer))
 
-        pub pair_below : pair_at_end t.sent v.reaction.outgoing ≡ false
-        pair_below = by (pair_at_end t.sent v.reaction.outgoing) refl
-          where
-            by : (y : Bool) → pair_at_end t.sent v.reaction.outgoing ≡ y → y ≡ false
-            by true p = absurd (never (sym (accepted_zero a r) ∙ number_is verdict_accepted ∙ rw (p, pick_true)))
-              where
-                never : ◌≡◌ {A = ℕ} 0 17 → ⊥
-                never h = omega arith
-            by false p = refl
+    pub all_accept : (u : Table) → view u ≡ stored (view t) e k at r → Stepped t e (record { answer = Accepted; table = u })
+    all_accept u h = accepts r judged below u h

@@ -43,15 +43,15 @@ use Rattle.model.proofs.Checks.{check_rules}
 use Rattle.model.proofs.Majority.{majority_rules}
 use Rattle.model.specs.Cases.{invited_once}
 use Rattle.model.specs.declared.Limits.{Limits}
-use Rattle.model.specs.declared.StartAnswer.TheVariants.{Started, WrongLimits, WrongCount}
+use Rattle.model.specs.Answers.{Started}
+use Rattle.std.specs.Prelude.{Err, Option, None, Some}
+use Rattle.model.specs.declared.StartRefusal.TheVariants.{WrongLimits, WrongCount}
 use Rattle.model.specs.declared.Status.TheVariants.{Election}
 use Rattle.model.specs.declared.Activity.{Activity}
 use Rattle.model.specs.declared.Activity.TheVariants.{Idle, Asking, Waiting, Handing}
 use Rattle.model.specs.declared.Node.{Node}
 use Rattle.model.specs.declared.TaskNo.{TaskNo}
 use Rattle.model.specs.declared.Message.{Message}
-use Rattle.model.specs.declared.Outgoing.{Outgoing}
-use Rattle.model.specs.declared.Outgoing.TheVariants.{Nothing, Send}
 use Rattle.model.specs.declared.Mark.{Mark}
 use Rattle.model.specs.declared.Mark.TheVariants.{Merges}
 use Rattle.model.specs.declared.Reaction.{Reaction}
@@ -59,8 +59,9 @@ use Rattle.model.specs.declared.Table.{Table}
 use Rattle.model.specs.declared.Event.{Event}
 use Rattle.model.specs.declared.Event.TheVariants.{Crash, Recover, Check, Timeout, Tick, Expire, Finish, Deliver, Lose}
 use Rattle.model.specs.declared.Outcome.{Outcome}
-use Rattle.model.specs.declared.Answer.{Answer}
-use Rattle.model.specs.declared.Answer.TheVariants.{Accepted, NotInRange, NotCoordinator, NoMajority, SentAtEnd}
+use Rattle.model.specs.Answers.{Answer}
+use Rattle.model.specs.Answers.{Accepted}
+use Rattle.model.specs.declared.Refusal.TheVariants.{NotInRange, NotCoordinator, NoMajority, SentAtEnd}
 use Rattle.machine.specs.declared.RecoveryAnswer.{RecoveryAnswer}
 use Rattle.machine.specs.Stepped.{Stepped, starting_table, RecoveryAnswered}
 use Rattle.machine.specs.Parts.{takes}
@@ -332,9 +333,9 @@ none_remains n lim (Lose a b) = refl
 pair_first : (n : ℕ) (lim : Limits) (e : Event) → pair_at_end (start n lim).sent (reaction_to (start n lim) e).outgoing ≡ false
 pair_first n lim e = none (reaction_to (start n lim) e).outgoing
   where
-    none : (o : Outgoing) → pair_at_end no_counts o ≡ false
-    none Nothing = refl
-    none (Send m) = let p = pair_place m.sender m.receiver in ne_eqb (get_or no_counts p 0) traffic_end (λ q. omega (arith, q, start_room 0 (omega arith) p))
+    none : (o : Option Message) → pair_at_end no_counts o ≡ false
+    none None = refl
+    none (Some m) = let p = pair_place m.sender m.receiver in ne_eqb (get_or no_counts p 0) traffic_end (λ q. omega (arith, q, start_room 0 (omega arith) p))
 
 -- 9 comes before 18 and 19, as all nodes are Down
 first_down : (n : ℕ) (lim : Limits) (e : Event) → wrong_status (node_at (start n lim) (actor e)).status e ≡ false
@@ -408,9 +409,9 @@ no_mutant =
 
 -- ── higher numbers first ──
 
-sent_to : (o : Outgoing) (m : Message) (j : ℕ) → Sends j o → sent o ≡ m ∷ [] → m.receiver ≡ j
-sent_to Nothing m j x e = absurd x
-sent_to (Send y) m j x e = let q : y ≡ m = cc in ap (λ (z : Message). z.receiver) (sym q) ∙ x
+sent_to : (o : Option Message) (m : Message) (j : ℕ) → Sends j o → sent o ≡ m ∷ [] → m.receiver ≡ j
+sent_to None m j x e = absurd x
+sent_to (Some y) m j x e = let q : y ≡ m = cc in ap (λ (z : Message). z.receiver) (sym q) ∙ x
 
 -- an outcome that meets the contract, where the activity of the event's node is not as it was
 module _ (t : Table) (e : Event) {r : Outcome} (x : Stepped t e r)
@@ -568,10 +569,10 @@ no_other_counts =
       seventeen_early = λ {t} {e} {r} m x o k y. k (eqb-true _ _ (sym (ap (pair_at_end t.sent) o) ∙ at_end x y));
       seventeen_first = λ {t} {e} {r} k f d x y.
           d (refused_same (sym (refuses_by_ground.first_given (view t) e k f) ∙ by_number (step (view t) e) 17 (omega arith) (sym (ap answer_number y) ∙ x.answer)));
-      takes_wrong_counts = λ {t} {e} {r} f x h. h (answer_known r.answer NotInRange (x.answer ∙ ap result_number (not_in_range (view t) e f)));
+      takes_wrong_counts = λ {t} {e} {r} f x h. h (answer_known r.answer (Err NotInRange) (x.answer ∙ ap result_number (not_in_range (view t) e f)));
     }
   where
-    at_end : {t : Table} {e : Event} {r : Outcome} → Stepped t e r → r.answer ≡ SentAtEnd → pair_at_end t.sent (reaction_to (view t) e).outgoing ≡ true
+    at_end : {t : Table} {e : Event} {r : Outcome} → Stepped t e r → r.answer ≡ Err SentAtEnd → pair_at_end t.sent (reaction_to (view t) e).outgoing ≡ true
     at_end {t} {e} {r} x y = seventeen_at_end (view t) e (by_number (step (view t) e) 17 (omega arith) (sym (ap answer_number y) ∙ x.answer))
 
 -- ── T-06 ──
@@ -603,11 +604,11 @@ no_other_checks =
       passes = no_pass;
       changes = λ l x h. h (x.same (no_pass l x));
       other_number = λ {t} {i} {r} l y x h.
-          h (answer_known r.answer NotCoordinator
+          h (answer_known r.answer (Err NotCoordinator)
           (x.answer ∙ ap result_number (check_rules.turned_away (view t) i y l)));
-      other_event = λ {t} {e} {r} x f y. f (check_rules.eighteen (view t) e (is_refused NotCoordinator (omega arith) x y)).0;
-      too_soon = λ {t} {i} {r} f x y. f (check_rules.eighteen (view t) (Check i) (is_refused NotCoordinator (omega arith) x y)).1;
-      to_coordinator = λ {t} {i} {r} a b x y. ⊎_elim (λ f. f a) (λ f. f b) (check_rules.eighteen (view t) (Check i) (is_refused NotCoordinator (omega arith) x y)).2;
+      other_event = λ {t} {e} {r} x f y. f (check_rules.eighteen (view t) e (is_refused (Err NotCoordinator) (omega arith) x y)).0;
+      too_soon = λ {t} {i} {r} f x y. f (check_rules.eighteen (view t) (Check i) (is_refused (Err NotCoordinator) (omega arith) x y)).1;
+      to_coordinator = λ {t} {i} {r} a b x y. ⊎_elim (λ f. f a) (λ f. f b) (check_rules.eighteen (view t) (Check i) (is_refused (Err NotCoordinator) (omega arith) x y)).2;
       turns_away = λ {t} {i} {r} n y a b l q m x h.
           h (answer_known r.answer Accepted
           (x.answer ∙ ap result_number (check_rules.asks (view t) i y n a b l (omega (arith, q, first_length t.waiting no_message t.messages)) m)));
@@ -615,7 +616,7 @@ no_other_checks =
       one_away = λ {t} {i} {r} n y a b x h. h (answer_known r.answer Accepted (x.answer ∙ ap result_number (check_rules.one (view t) i y n a b)));
       one_changes = λ {t} {i} {r} n x h. h (x.table ∙ one_kept (view t) i n);
       early = λ n lim {es} {t} {e} {r} c few x y.
-          check_rules.not_early n lim es e few (ap (λ (s : State). step s e) (sym (code_runs.from_start n lim es t c)) ∙ is_refused NotCoordinator (omega arith) x y);
+          check_rules.not_early n lim es e few (ap (λ (s : State). step s e) (sym (code_runs.from_start n lim es t c)) ∙ is_refused (Err NotCoordinator) (omega arith) x y);
     }
 
 -- ── T-10 ──
@@ -625,8 +626,8 @@ without_half : {t : Table} {i : ℕ} {x : TaskNo} {r : Outcome} → FullPeal x.n
 without_half {t} {i} {x} p f s y = f (majority_rules.only_if (view t) i x _ _ (accepted_alike.model_accepts s y) p)
 
 -- a finish that is answered with 19 has none
-lacks_majority : {t : Table} {i : ℕ} {x : TaskNo} {r : Outcome} → Stepped t (Finish i x) r → r.answer ≡ NoMajority → WithoutMajority (view t) i x
-lacks_majority {t} {i} {x} s y = majority_rules.nineteen_finish (view t) i x (is_refused NoMajority (omega arith) s y)
+lacks_majority : {t : Table} {i : ℕ} {x : TaskNo} {r : Outcome} → Stepped t (Finish i x) r → r.answer ≡ Err NoMajority → WithoutMajority (view t) i x
+lacks_majority {t} {i} {x} s y = majority_rules.nineteen_finish (view t) i x (is_refused (Err NoMajority) (omega arith) s y)
 
 pub no_other_peals : NoOtherPeals
 no_other_peals =
@@ -634,15 +635,15 @@ no_other_peals =
       passes = without_half;
       passes_half = λ {t} {i} p h s y. without_half p (λ m. omega (arith, h, m)) s y;
       changes = λ p f s h. h (s.same (without_half p f s));
-      other_number = λ {t} {i} {x} {r} f s h. h (answer_known r.answer NoMajority (s.answer ∙ ap result_number (majority_rules.turned_away (view t) i x f)));
-      other_event = λ {t} {e} s f y. let z = majority_rules.nineteen (view t) e (is_refused NoMajority (omega arith) s y) in f z.node z.task z.event;
+      other_number = λ {t} {i} {x} {r} f s h. h (answer_known r.answer (Err NoMajority) (s.answer ∙ ap result_number (majority_rules.turned_away (view t) i x f)));
+      other_event = λ {t} {e} s f y. let z = majority_rules.nineteen (view t) e (is_refused (Err NoMajority) (omega arith) s y) in f z.node z.task z.event;
       other_task = λ f s y. f (lacks_majority s y).full_peal;
       too_soon = λ f s y. f (lacks_majority s y).reaches;
       to_majority = λ m s y. (lacks_majority s y).no_majority_lem m;
-      to_one = λ {t} {e} n s y. majority_rules.one (view t) e n (is_refused NoMajority (omega arith) s y);
+      to_one = λ {t} {e} n s y. majority_rules.one (view t) e n (is_refused (Err NoMajority) (omega arith) s y);
       early = λ n lim {es} {t} {e} {r} c few s y.
-          majority_rules.not_early n lim es e few (ap (λ (v : State). step v e) (sym (code_runs.from_start n lim es t c)) ∙ is_refused NoMajority (omega arith) s y);
-      looks_further = λ {t} {u} {i} {x} {r} {q} n c k s y v h. h (answer_known q.answer NoMajority (v.answer ∙ ap result_number (majority_rules.turned_away (view u) i x (same t u i x n c k (lacks_majority s y)))));
+          majority_rules.not_early n lim es e few (ap (λ (v : State). step v e) (sym (code_runs.from_start n lim es t c)) ∙ is_refused (Err NoMajority) (omega arith) s y);
+      looks_further = λ {t} {u} {i} {x} {r} {q} n c k s y v h. h (answer_known q.answer (Err NoMajority) (v.answer ∙ ap result_number (majority_rules.turned_away (view u) i x (same t u i x n c k (lacks_majority s y)))));
       turns_away = λ {t} {i} {x} {r} z f m s h. h (answer_known r.answer Accepted (s.answer ∙ ap result_number (majority_rules.passes (view t) i x z f m)));
       finishes_otherwise = λ {t} {i} {x} s y h. let q = accepted_alike.model_accepts s y in h (s.table ∙ ap (kept (view t)) q ∙ majority_rules.leaves (view t) i x _ _ q);
     }
@@ -709,10 +710,10 @@ no_other_limits =
       many_messages = λ {t} {e} {r} x l h.
           h (in_one x (never_in_range (view t) e (λ q. omega (arith, l, (in_range_own (view t) q).1, first_length t.waiting no_message t.messages))));
       changes_limits = λ x h. h (limits_kept x);
-      starts_other = λ {n} {l} {r} x p h. h (start_known r.answer WrongLimits (x.answer ∙ rw p));
-      starts_wrong = λ {n} {l} {r} x p c h. h (start_known r.answer WrongCount (x.answer ∙ rw (p, c)));
+      starts_other = λ {n} {l} {r} x p h. h (start_known r.answer (Err WrongLimits) (x.answer ∙ rw p));
+      starts_wrong = λ {n} {l} {r} x p c h. h (start_known r.answer (Err WrongCount) (x.answer ∙ rw (p, c)));
       starts_none = λ {n} {l} {r} x s h. h (start_known r.answer Started (x.answer ∙ rw (s.pair, le-leb 1 n s.low, le-leb n l.nodes s.high)));
     }
   where
-    in_one : {t : Table} {e : Event} {r : Outcome} → Stepped t e r → step (view t) e ≡ refused 1 → r.answer ≡ NotInRange
-    in_one {t} {e} {r} x q = answer_known r.answer NotInRange (x.answer ∙ ap result_number q)
+    in_one : {t : Table} {e : Event} {r : Outcome} → Stepped t e r → step (view t) e ≡ refused 1 → r.answer ≡ Err NotInRange
+    in_one {t} {e} {r} x q = answer_known r.answer (Err NotInRange) (x.answer ∙ ap result_number q)

@@ -14,16 +14,17 @@ use Rattle.model.specs.State.{State, node_at, no_message, goes, waits, oldest, w
 use Rattle.model.specs.Grounds.{Ground, ground, first}
 use Rattle.model.specs.Step.{actor, reaction_to, remaining, none_waits, pair_at_end, effect, grounds, refused, accepted, step, kept}
 use Rattle.model.specs.React.{react}
-use Rattle.model.specs.Answers.{answer_number, result_number, is_accepted}
-use Rattle.model.proofs.Answers.{refused_some}
+use Rattle.model.specs.Answers.{refusal_number, result_number, Accepted}
+use Rattle.model.proofs.Answers.{ground_some}
 use Rattle.model.proofs.Grounds.{first_clear, first_met, judged_clear, judged_first}
 use Rattle.model.specs.declared.Input.TheVariants.{Receive}
 use Rattle.model.specs.declared.Node.{Node}
 use Rattle.model.specs.declared.Message.{Message}
 use Rattle.model.specs.declared.Reaction.{Reaction}
 use Rattle.model.specs.declared.Table.{Table}
-use Rattle.model.specs.declared.Answer.{Answer}
-use Rattle.model.specs.declared.Answer.TheVariants.{Accepted, NotInRange}
+use Rattle.std.specs.Prelude.{Err}
+use Rattle.model.specs.declared.Refusal.TheVariants.{NotInRange}
+use Rattle.model.specs.declared.Refusal.{Refusal}
 use Rattle.model.specs.declared.Event.{Event}
 use Rattle.model.specs.declared.Event.TheVariants.{Crash, Recover, Check, Timeout, Tick, Expire, Finish, Deliver, Lose}
 use Rattle.node_step.specs.Grounds.{number_grounds}
@@ -124,10 +125,10 @@ reaction_place s (Lose a b) m h = refl
 -- ── what a step comes to ──
 
 -- a refusal with the first ground's number, and the same table
-refused_stepped : (t : Table) (e : Event) (a : Answer) → is_accepted a ≡ false → answer_number a ≡ first (grounds (view t) e) → Stepped t e (record { answer = a; table = t })
+refused_stepped : (t : Table) (e : Event) (g : Refusal) → refusal_number g ≡ first (grounds (view t) e) → Stepped t e (record { answer = Err g; table = t })
 unfolding step
-refused_stepped t e a q h =
-    let n : 1 ≤ first (grounds (view t) e) = omega (arith, refused_some a q, h) in
+refused_stepped t e g h =
+    let n : 1 ≤ first (grounds (view t) e) = omega (arith, ground_some g, h) in
     let r = judged_first refused (accepted (effect (view t) e) (reaction_to (view t) e).mark) (grounds (view t) e) n in
     record { answer = h ∙ sym (ap result_number r); table = sym (ap (kept (view t)) r); same = λ _. refl }
 
@@ -150,33 +151,32 @@ module _ (t : Table) (e : Event) (ok : in_range (view t) ≡ true) (c : Node) (h
   actual = ap first (grounds_are _ _ refl refl) ∙ first_is _
 
   -- 7 and 8
-  pub numbers_refuse : (a : Answer) → is_accepted a ≡ false → answer_number a ≡ first (number_grounds t.n e) → Stepped t e (record { answer = a; table = t })
-  numbers_refuse a q h = refused_stepped t e a q (h ∙ sym (actual ∙ first_met (number_grounds t.n e) _ (omega (arith, refused_some a q, h))))
+  pub numbers_refuse : (g : Refusal) → refusal_number g ≡ first (number_grounds t.n e) → Stepped t e (record { answer = Err g; table = t })
+  numbers_refuse g h = refused_stepped t e g (h ∙ sym (actual ∙ first_met (number_grounds t.n e) _ (omega (arith, ground_some g, h))))
 
   module _ (clear : first (number_grounds t.n e) ≡ 0) where
     past_numbers : first (grounds (view t) e) ≡ first (state_grounds t.n c e found ++ behind)
     past_numbers = actual ∙ first_clear (number_grounds t.n e) _ refl clear
 
     -- 9, 10, 18, 19 and 11
-    pub state_refuses : (a : Answer) → is_accepted a ≡ false → answer_number a ≡ first (state_grounds t.n c e found) → Stepped t e (record { answer = a; table = t })
-    state_refuses a q h = refused_stepped t e a q (h ∙ sym (past_numbers ∙ first_met (state_grounds t.n c e found) _ (omega (arith, refused_some a q, h))))
+    pub state_refuses : (g : Refusal) → refusal_number g ≡ first (state_grounds t.n c e found) → Stepped t e (record { answer = Err g; table = t })
+    state_refuses g h = refused_stepped t e g (h ∙ sym (past_numbers ∙ first_met (state_grounds t.n c e found) _ (omega (arith, ground_some g, h))))
 
     module _ (going : first (state_grounds t.n c e found) ≡ 0) (r : Reaction) (hr : r ≡ reaction_to (view t) e) (left : ℕ) (hl : left ≡ length (remaining (view t) e)) where
       past_state : first (grounds (view t) e) ≡ first (end_grounds c r left t.limits.messages ++ last_grounds t.sent r.outgoing)
       past_state = rw (hr, hl) (past_numbers ∙ first_clear (state_grounds t.n c e found) _ refl going)
 
       -- 12 to 14
-      pub ends_refuse : (a : Answer) → is_accepted a ≡ false → answer_number a ≡ first (end_grounds c r left t.limits.messages) → Stepped t e (record { answer = a; table = t })
-      ends_refuse a q h = refused_stepped t e a q (h ∙ sym (past_state ∙ first_met (end_grounds c r left t.limits.messages) _ (omega (arith, refused_some a q, h))))
+      pub ends_refuse : (g : Refusal) → refusal_number g ≡ first (end_grounds c r left t.limits.messages) → Stepped t e (record { answer = Err g; table = t })
+      ends_refuse g h = refused_stepped t e g (h ∙ sym (past_state ∙ first_met (end_grounds c r left t.limits.messages) _ (omega (arith, ground_some g, h))))
 
       module _ (ends : first (end_grounds c r left t.limits.messages) ≡ 0) where
         past_ends : first (grounds (view t) e) ≡ first (last_grounds t.sent r.outgoing)
         past_ends = past_state ∙ first_clear (end_grounds c r left t.limits.messages) _ refl ends
 
         -- 17
-        pub last_refuses : pair_at_end t.sent r.outgoing ≡ true → (a : Answer) → is_accepted a ≡ false → answer_number a ≡ 17 → Stepped t e (record { answer = a; table = t })
-        unfolding first
-        last_refuses p a q h = refused_stepped t e a q (h ∙ sym (past_ends ∙ rw (p, pick_true)))
+        pub last_refuses : (g : Refusal) → refusal_number g ≡ first (last_grounds t.sent r.outgoing) → Stepped t e (record { answer = Err g; table = t })
+        last_refuses g h = refused_stepped t e g (h ∙ sym past_ends)
 
         -- none
         pub step_accepts : pair_at_end t.sent r.outgoing ≡ false → step (view t) e ≡ accepted (effect (view t) e) (reaction_to (view t) e).mark
@@ -191,6 +191,6 @@ module _ (t : Table) (e : Event) (ok : in_range (view t) ≡ true) (c : Node) (h
             record { answer = sym (ap result_number k); table = v ∙ sym (ap (kept (view t)) k); same = λ n. absurd (n refl) }
 
 -- a table that is not in range
-pub range_refuses : (t : Table) (e : Event) → in_range (view t) ≡ false → Stepped t e (record { answer = NotInRange; table = t })
+pub range_refuses : (t : Table) (e : Event) → in_range (view t) ≡ false → Stepped t e (record { answer = Err NotInRange; table = t })
 unfolding grounds first
-range_refuses t e h = refused_stepped t e NotInRange refl (sym (rw (h, pick_true)))
+range_refuses t e h = refused_stepped t e NotInRange (sym (rw (h, pick_true)))

@@ -28,8 +28,7 @@ use Rattle.node_step.specs.Fits.{Fits}
 use Rattle.node_step.proofs.InRange.{in_range_fits, message_fits}
 use Rattle.model.specs.declared.Node.{Node}
 use Rattle.model.specs.declared.Message.{Message}
-use Rattle.model.specs.declared.Outgoing.{Outgoing}
-use Rattle.model.specs.declared.Outgoing.TheVariants.{Nothing, Send}
+use Rattle.std.specs.Prelude.{Option, None, Some}
 use Rattle.model.specs.declared.Reaction.{Reaction}
 use Rattle.model.specs.declared.Table.{Table}
 use Rattle.model.specs.declared.Event.{Event}
@@ -72,13 +71,13 @@ raise_none l p = ap (set l p) (omega arith) ∙ set-get_or l p 0
 raise_one : (n : ℕ) (l : List ℕ) (a b : ℕ) → n ≤ 16 → is_pair n a b ≡ true → raised l (place_of a b) 1 ≡ one_more l a b
 raise_one n l a b h p = ap (λ (k : ℕ). raised l k 1) (place_pair n a b h p)
 
-sent_pair : (n : ℕ) (m : Message) → OutgoingIn n (Send m) → is_pair n m.sender m.receiver ≡ true
+sent_pair : (n : ℕ) (m : Message) → OutgoingIn n (Some m) → is_pair n m.sender m.receiver ≡ true
 unfolding message_in_range
 sent_pair n m x = both_left _ _ (both_left _ _ (both_left _ _ (both_left _ _ x)))
 
-raise_sent : (n : ℕ) (l : List ℕ) (o : Outgoing) → n ≤ 16 → OutgoingIn n o → raised l (sent_place o) (sent_by o) ≡ with_sent l o
-raise_sent n l Nothing h x = raise_none l 0
-raise_sent n l (Send m) h x = raise_one n l m.sender m.receiver h (sent_pair n m x)
+raise_sent : (n : ℕ) (l : List ℕ) (o : Option Message) → n ≤ 16 → OutgoingIn n o → raised l (sent_place o) (sent_by o) ≡ with_sent l o
+raise_sent n l None h x = raise_none l 0
+raise_sent n l (Some m) h x = raise_one n l m.sender m.receiver h (sent_pair n m x)
 
 raise_delivered : (n : ℕ) (l : List ℕ) (e : Event) → n ≤ 16 → wrong_number n e ≡ false → raised l (moved_place e) (delivered_by e) ≡ with_delivered l e
 raise_delivered n l (Crash i) h q = raise_none l _
@@ -103,9 +102,9 @@ raise_lost n l (Deliver a b) h q = raise_none l _
 raise_lost n l (Lose a b) h q = raise_one n l a b h (not-false _ q)
 
 -- 17 by the count that the code reads
-pub last_is : (n : ℕ) (l : List ℕ) (o : Outgoing) → n ≤ 16 → OutgoingIn n o → is_sending o && eqb (get_or l (sent_place o) 0) traffic_end ≡ pair_at_end l o
-last_is n l Nothing h x = refl
-last_is n l (Send m) h x = ap (λ (k : ℕ). eqb (get_or l k 0) traffic_end) (place_pair n m.sender m.receiver h (sent_pair n m x))
+pub last_is : (n : ℕ) (l : List ℕ) (o : Option Message) → n ≤ 16 → OutgoingIn n o → is_sending o && eqb (get_or l (sent_place o) 0) traffic_end ≡ pair_at_end l o
+last_is n l None h x = refl
+last_is n l (Some m) h x = ap (λ (k : ℕ). eqb (get_or l k 0) traffic_end) (place_pair n m.sender m.receiver h (sent_pair n m x))
 
 -- no count of a table in range is above the end
 each_small : (n j : ℕ) (l : List ℕ) → every (count_in_range n) j l ≡ true → Small l
@@ -218,9 +217,9 @@ module _ (t : Table) (z : Sized t) (ok : in_range (view t) ≡ true) (e : Event)
       unfolding pick
       room_is c r h = by_outgoing r.outgoing (not_met 14 (end_grounds c r left t.limits.messages) refl h)
         where
-          by_outgoing : (o : Outgoing) → is_sending o && eqb left t.limits.messages ≡ false → Room o left
-          by_outgoing Nothing q = tt
-          by_outgoing (Send m) q = omega (arith, eqb-false left t.limits.messages q, place_few, limit_few)
+          by_outgoing : (o : Option Message) → is_sending o && eqb left t.limits.messages ≡ false → Room o left
+          by_outgoing None q = tt
+          by_outgoing (Some m) q = omega (arith, eqb-false left t.limits.messages q, place_few, limit_few)
             where
               place_few : left ≤ t.limits.messages
               place_few = left_few t.limits.messages t.waiting k left left_is (omega (arith, (in_range_own (view t) ok).1, first_length t.waiting no_message t.messages))

@@ -28,8 +28,8 @@ use Rattle.model.specs.declared.Table.{Table}
 use Rattle.model.specs.declared.Event.{Event}
 use Rattle.model.specs.declared.Mark.{Mark}
 use Rattle.model.specs.declared.Outcome.{Outcome}
-use Rattle.model.specs.declared.Answer.{Answer}
-use Rattle.model.specs.declared.Answer.TheVariants.{Accepted}
+use Rattle.model.specs.Answers.{Answer}
+use Rattle.model.specs.Answers.{Accepted}
 use Rattle.machine.specs.Stepped.{Stepped}
 use Rattle.machine.specs.Folded.{Folded, none, more}
 use Rattle.machine.specs.Claims.{AcceptedAlike, SteppedAlike, is_forming, Chain, Reached, CodeRuns, CodeFixes, CodeTraffic, CodePeals, CodeHolds, CodeTowerAndStand}

@@ -27,8 +27,7 @@ use Rattle.model.specs.declared.Node.{Node}
 use Rattle.model.specs.declared.CallNo.{CallNo}
 use Rattle.model.specs.declared.TaskNo.{TaskNo}
 use Rattle.model.specs.declared.Message.{Message}
-use Rattle.model.specs.declared.Outgoing.{Outgoing}
-use Rattle.model.specs.declared.Outgoing.TheVariants.{Nothing, Send}
+use Rattle.std.specs.Prelude.{Option, None, Some}
 use Rattle.model.specs.declared.Mark.{Mark}
 use Rattle.model.specs.declared.Mark.TheVariants.{Plain, Merges}
 use Rattle.model.specs.declared.Reaction.{Reaction}
@@ -141,9 +140,9 @@ finish_ends i c t = by_test (λ (r : Reaction). is_collecting r.node.activity �
 
 -- ── the sender of what a node sends ──
 
-abbrev SentBy : ℕ → Outgoing → Type 0
-SentBy i Nothing = Unit {0}
-SentBy i (Send m) = m.sender ≡ i
+abbrev SentBy : ℕ → Option Message → Type 0
+SentBy i None = Unit {0}
+SentBy i (Some m) = m.sender ≡ i
 
 abbrev By : ℕ → Reaction → Type 0
 By i r = SentBy i r.outgoing
@@ -209,12 +208,12 @@ rotated x m (y ∷ l) e =
     rotated y m l z ∙ w
 
 -- a queue without its oldest message from a to b, and with what b sent, is not the same
-queue_differs : (a b : ℕ) (q r : List Message) (o : Outgoing) → WithoutOldest a b q r → (b ≡ a → ⊥) → SentBy b o → r ++ sent o ≡ q → ⊥
+queue_differs : (a b : ℕ) (q r : List Message) (o : Option Message) → WithoutOldest a b q r → (b ≡ a → ⊥) → SentBy b o → r ++ sent o ≡ q → ⊥
 queue_differs a b q r o w d h e = by o h (append_cancel_left w.before _ _ (sym (append_assoc w.before w.behind (sent o)) ∙ ap (λ (l : List Message). l ++ sent o) (sym w.left) ∙ e ∙ w.whole))
   where
-    by : (o : Outgoing) → SentBy b o → w.behind ++ sent o ≡ w.taken ∷ w.behind → ⊥
-    by Nothing h z = omega (arith, ap length z, length-append w.behind [])
-    by (Send m) h z =
+    by : (o : Option Message) → SentBy b o → w.behind ++ sent o ≡ w.taken ∷ w.behind → ⊥
+    by None h z = omega (arith, ap length z, length-append w.behind [])
+    by (Some m) h z =
         d (sym h ∙ ap (λ (x : Message). x.sender) (rotated w.taken m w.behind z) ∙ eqb-true _ a (both_left (eqb w.taken.sender a) _ w.goes_there))
 
 -- ── the claim ──
@@ -243,7 +242,7 @@ module _ (s : State) where
   differs (Deliver a b) c m h g =
       queue_differs a b s.queue (without_oldest a b s.queue) (received s.n b (node_at s b) (oldest a b s.queue)).outgoing (taken_out a b s.queue (not-false _ c.waiting)) (others a b c.number) (received_by s.n b (node_at s b) (oldest a b s.queue)) g
   differs (Lose a b) c m h g =
-      queue_differs a b s.queue (without_oldest a b s.queue) Nothing (taken_out a b s.queue (not-false _ c.waiting)) (others a b c.number) tt g
+      queue_differs a b s.queue (without_oldest a b s.queue) None (taken_out a b s.queue (not-false _ c.waiting)) (others a b c.number) tt g
 
 pub accepted_differs : (s : State) (e : Event) (u : State) (k : Mark) → step s e ≡ accepted u k → may_rest s e ≡ false → u.nodes ≡ s.nodes → u.queue ≡ s.queue → ⊥
 accepted_differs s e u k q m h g =

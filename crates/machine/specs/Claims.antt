@@ -1,6 +1,6 @@
 -- What is claimed of the tables that the code returns: they are those of the model's run, and demand 3, whole, T-05 and T-10 hold of them, in the tower and on the stand; of a starting
 -- table; and of the records of a recovery. The proofs are in proofs/Runs, proofs/Beginning and proofs/Recovering.
-use Rattle.std.specs.Prelude.{ℕ, ◌+◌, ◌≤◌, Bool, true, false, ◌≡◌, List, ◌++◌, replicate}
+use Rattle.std.specs.Prelude.{ℕ, ◌+◌, ◌≤◌, Bool, true, false, ◌≡◌, List, ◌++◌, replicate, Err}
 use Rattle.model.specs.Limits.{node_limit, tower, stand}
 use Rattle.model.specs.Counts.{count_at, total}
 use Rattle.model.specs.Recovery.{recovery_records}
@@ -19,8 +19,9 @@ use Rattle.model.specs.declared.Event.{Event}
 use Rattle.model.specs.declared.Event.TheVariants.{Recover, Finish}
 use Rattle.model.specs.declared.Table.{Table}
 use Rattle.model.specs.declared.Outcome.{Outcome}
-use Rattle.model.specs.declared.Answer.TheVariants.{Accepted, NotInRange, SentAtEnd}
-use Rattle.model.specs.declared.StartAnswer.TheVariants.{Started}
+use Rattle.model.specs.Answers.{Accepted}
+use Rattle.model.specs.declared.Refusal.TheVariants.{NotInRange, SentAtEnd}
+use Rattle.model.specs.Answers.{Started}
 use Rattle.machine.specs.declared.Start.{Start}
 use Rattle.machine.specs.declared.RecoveryAnswer.{RecoveryAnswer}
 use Rattle.machine.specs.Stepped.{Stepped, begun_number, Begun, RecoveryAnswered}
@@ -123,7 +124,7 @@ pub record CodeTraffic (chain : Chain) (n : ℕ) (l : Limits) : Type 0 where
   pub adds_up : {es : List Event} {t : Table} → Reached chain n l es t → (a b : ℕ) → 1 ≤ a → a ≤ n → 1 ≤ b → b ≤ n
       → count_at t.sent a b ≡ count_at t.delivered a b + count_at t.lost a b + waiting (view t).queue a b
   -- "From the starting table no event ever meets the new ground"
-  pub never_seventeen : {es : List Event} {u : Table} {e : Event} {r : Outcome} → Reached chain n l es u → Stepped u e r → r.answer ≡ SentAtEnd → ⊥
+  pub never_seventeen : {es : List Event} {u : Table} {e : Event} {r : Outcome} → Reached chain n l es u → Stepped u e r → r.answer ≡ Err SentAtEnd → ⊥
 
 -- ── 02, T-10: full peal only by a majority ──
 
@@ -155,7 +156,7 @@ pub record CodeHolds (chain : Chain) (n : ℕ) (l : Limits) : Type 0 where
   pub peals : CodePeals chain n l
   -- they are in range, no event on them is answered with 1, and they have those limits
   pub in_range_lem : {es : List Event} {t : Table} → Reached chain n l es t → in_range (view t) ≡ true
-  pub never_one : {es : List Event} {u : Table} {e : Event} {r : Outcome} → Reached chain n l es u → Stepped u e r → r.answer ≡ NotInRange → ⊥
+  pub never_one : {es : List Event} {u : Table} {e : Event} {r : Outcome} → Reached chain n l es u → Stepped u e r → r.answer ≡ Err NotInRange → ⊥
   pub same_limits : {es : List Event} {t : Table} → Reached chain n l es t → t.limits ≡ l
 
 -- "Demand 3 now speaks of both", as `TowerAndStand` (model/specs/Claims) has it of the definitions

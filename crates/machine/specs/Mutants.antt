@@ -1,7 +1,7 @@
 -- "Try these impostors", "Wrong turnings in this protocol" and 02's T-02 to T-06, T-08 and T-10: what no machine does that meets `Stepped`, or `RecoveryAnswered`, or `Begun` (mutant: 01's impostor). A machine is here
 -- whatever answers an event e on a table t with an outcome r, as a function f from tables and events does with f t e; nothing is asked of how it comes to r, so it may also
 -- remember. Each field takes as little of the mutant's behaviour as shuts it out: one event, and one thing that is wrong then. The proofs are in proofs/Mutants.
-use Rattle.std.specs.Prelude.{ℕ, ◌+◌, ◌*◌, ◌≤◌, ◌<◌, Bool, true, false, not, ◌||◌, ◌≡◌, List, [], ◌∷◌, ◌++◌, map, eqb, ltb, length, replicate}
+use Rattle.std.specs.Prelude.{ℕ, ◌+◌, ◌*◌, ◌≤◌, ◌<◌, Bool, true, false, not, ◌||◌, ◌≡◌, List, [], ◌∷◌, ◌++◌, map, eqb, ltb, length, replicate, None, Some, Err}
 use Rattle.node_set.specs.NodeSet.{has, count}
 use Rattle.model.specs.Limits.{node_limit, tower, counter_end, call_end, traffic_end}
 use Rattle.model.specs.Counts.{count_at, one_more}
@@ -19,13 +19,14 @@ use Rattle.model.specs.declared.Activity.{Activity}
 use Rattle.model.specs.declared.Activity.TheVariants.{Idle, Asking, Waiting, Inviting, Collecting, Handing, Contacting, Forwarding, Accepting}
 use Rattle.model.specs.declared.TaskNo.{TaskNo}
 use Rattle.model.specs.declared.Message.{Message}
-use Rattle.model.specs.declared.Outgoing.TheVariants.{Nothing, Send}
 use Rattle.model.specs.declared.Table.{Table}
 use Rattle.model.specs.declared.Event.{Event}
 use Rattle.model.specs.declared.Event.TheVariants.{Crash, Recover, Check, Timeout, Tick, Expire, Finish, Deliver, Lose}
 use Rattle.model.specs.declared.Outcome.{Outcome}
-use Rattle.model.specs.declared.Answer.TheVariants.{Accepted, NotInRange, NotCoordinator, NoMajority, QueueFull, SentAtEnd}
-use Rattle.model.specs.declared.StartAnswer.TheVariants.{Started, WrongLimits, WrongCount}
+use Rattle.model.specs.Answers.{Accepted}
+use Rattle.model.specs.declared.Refusal.TheVariants.{NotInRange, NotCoordinator, NoMajority, QueueFull, SentAtEnd}
+use Rattle.model.specs.Answers.{Started}
+use Rattle.model.specs.declared.StartRefusal.TheVariants.{WrongLimits, WrongCount}
 use Rattle.machine.specs.declared.Start.{Start}
 use Rattle.machine.specs.declared.RecoveryAnswer.{RecoveryAnswer}
 use Rattle.machine.specs.Stepped.{Stepped, starting_table, Begun, RecoveryAnswered}
@@ -134,7 +135,7 @@ pub record NoMutant : Type 0 where
   pub no_cry : (n : ℕ) (l : Limits) (e : Event) {r : Outcome} → Stepped (starting_table n l) e r → 12 ≤ answer_number r.answer → ⊥
   -- nor one that delivers a message that does not wait, or that finds the queue full for the reply to a delivery ("a delivered one is already out")
   pub delivers_none : (t : Table) (a b : ℕ) {r : Outcome} → waits a b (view t).queue ≡ false → Stepped t (Deliver a b) r → r.answer ≡ Accepted → ⊥
-  pub delivery_full : (t : Table) (a b : ℕ) {r : Outcome} → Stepped t (Deliver a b) r → r.answer ≡ QueueFull → ⊥
+  pub delivery_full : (t : Table) (a b : ℕ) {r : Outcome} → Stepped t (Deliver a b) r → r.answer ≡ Err QueueFull → ⊥
 
 -- ── the wrong turnings ──
 
@@ -303,21 +304,21 @@ pub record NoOtherCounts : Type 0 where
       → (r.table.delivered ≡ one_more t.delivered a b → ⊥) → ⊥
   pub loss_uncounted : {t : Table} {a b : ℕ} {r : Outcome} → Stepped t (Lose a b) r → r.answer ≡ Accepted → (r.table.lost ≡ one_more t.lost a b → ⊥) → ⊥
   -- a message that is sent not at all, or in another pair than its own
-  pub sent_uncounted : {t : Table} {e : Event} {r : Outcome} (m : Message) → Stepped t e r → r.answer ≡ Accepted → (reaction_to (view t) e).outgoing ≡ Send m
+  pub sent_uncounted : {t : Table} {e : Event} {r : Outcome} (m : Message) → Stepped t e r → r.answer ≡ Accepted → (reaction_to (view t) e).outgoing ≡ Some m
       → (r.table.sent ≡ one_more t.sent m.sender m.receiver → ⊥) → ⊥
   -- and where none is sent, one all the same
-  pub none_sent : {t : Table} {e : Event} {r : Outcome} → Stepped t e r → (reaction_to (view t) e).outgoing ≡ Nothing → (r.table.sent ≡ t.sent → ⊥) → ⊥
+  pub none_sent : {t : Table} {e : Event} {r : Outcome} → Stepped t e r → (reaction_to (view t) e).outgoing ≡ None → (r.table.sent ≡ t.sent → ⊥) → ⊥
   -- one that sends a message of a pair whose count is at its end
-  pub past_end : {t : Table} {e : Event} {r : Outcome} (m : Message) → Stepped t e r → (reaction_to (view t) e).outgoing ≡ Send m
+  pub past_end : {t : Table} {e : Event} {r : Outcome} (m : Message) → Stepped t e r → (reaction_to (view t) e).outgoing ≡ Some m
       → count_at t.sent m.sender m.receiver ≡ traffic_end → r.answer ≡ Accepted → ⊥
   -- one that gives 17 where nothing is sent, or another pair's count, or none, is at its end
-  pub seventeen_unsent : {t : Table} {e : Event} {r : Outcome} → Stepped t e r → (reaction_to (view t) e).outgoing ≡ Nothing → r.answer ≡ SentAtEnd → ⊥
-  pub seventeen_early : {t : Table} {e : Event} {r : Outcome} (m : Message) → Stepped t e r → (reaction_to (view t) e).outgoing ≡ Send m
-      → (count_at t.sent m.sender m.receiver ≡ traffic_end → ⊥) → r.answer ≡ SentAtEnd → ⊥
+  pub seventeen_unsent : {t : Table} {e : Event} {r : Outcome} → Stepped t e r → (reaction_to (view t) e).outgoing ≡ None → r.answer ≡ Err SentAtEnd → ⊥
+  pub seventeen_early : {t : Table} {e : Event} {r : Outcome} (m : Message) → Stepped t e r → (reaction_to (view t) e).outgoing ≡ Some m
+      → (count_at t.sent m.sender m.receiver ≡ traffic_end → ⊥) → r.answer ≡ Err SentAtEnd → ⊥
   -- or where another ground applies first
-  pub seventeen_first : {t : Table} {e : Event} {r : Outcome} (k : ℕ) → FirstApplies (grounds (view t) e) k → (k ≡ 17 → ⊥) → Stepped t e r → r.answer ≡ SentAtEnd → ⊥
+  pub seventeen_first : {t : Table} {e : Event} {r : Outcome} (k : ℕ) → FirstApplies (grounds (view t) e) k → (k ≡ 17 → ⊥) → Stepped t e r → r.answer ≡ Err SentAtEnd → ⊥
   -- one that takes a table whose counts are not in range
-  pub takes_wrong_counts : {t : Table} {e : Event} {r : Outcome} → traffic_in_range (view t) ≡ false → Stepped t e r → (r.answer ≡ NotInRange → ⊥) → ⊥
+  pub takes_wrong_counts : {t : Table} {e : Event} {r : Outcome} → traffic_in_range (view t) ≡ false → Stepped t e r → (r.answer ≡ Err NotInRange → ⊥) → ⊥
 
 -- ── 02, T-06: checks only by a coordinator ──
 
@@ -328,13 +329,13 @@ pub record NoOtherChecks : Type 0 where
   -- or changes something at it
   pub changes : {t : Table} {i : ℕ} {r : Outcome} → DoesNotLead (view t) i → Stepped t (Check i) r → (r.table ≡ t → ⊥) → ⊥
   -- or gives it another number, where the table is in range and i a node that is idle and not Down
-  pub other_number : {t : Table} {i : ℕ} {r : Outcome} → DoesNotLead (view t) i → CheckReaches (view t) i → Stepped t (Check i) r → (r.answer ≡ NotCoordinator → ⊥) → ⊥
+  pub other_number : {t : Table} {i : ℕ} {r : Outcome} → DoesNotLead (view t) i → CheckReaches (view t) i → Stepped t (Check i) r → (r.answer ≡ Err NotCoordinator → ⊥) → ⊥
   -- one that gives 18 to another event
-  pub other_event : {t : Table} {e : Event} {r : Outcome} → Stepped t e r → (e ≡ Check (actor e) → ⊥) → r.answer ≡ NotCoordinator → ⊥
+  pub other_event : {t : Table} {e : Event} {r : Outcome} → Stepped t e r → (e ≡ Check (actor e) → ⊥) → r.answer ≡ Err NotCoordinator → ⊥
   -- or before 1, 7, 9 or 10, or to a coordinator
-  pub too_soon : {t : Table} {i : ℕ} {r : Outcome} → (CheckReaches (view t) i → ⊥) → Stepped t (Check i) r → r.answer ≡ NotCoordinator → ⊥
+  pub too_soon : {t : Table} {i : ℕ} {r : Outcome} → (CheckReaches (view t) i → ⊥) → Stepped t (Check i) r → r.answer ≡ Err NotCoordinator → ⊥
   pub to_coordinator : {t : Table} {i : ℕ} {r : Outcome} → (node_at (view t) i).status ≡ Normal → (node_at (view t) i).coordinator ≡ i
-      → Stepped t (Check i) r → r.answer ≡ NotCoordinator → ⊥
+      → Stepped t (Check i) r → r.answer ≡ Err NotCoordinator → ⊥
   -- one that turns the check of a coordinator away, where 13, 14 and 17 do not apply
   pub turns_away : {t : Table} {i : ℕ} {r : Outcome} → 1 < t.n → CheckReaches (view t) i → (node_at (view t) i).status ≡ Normal → (node_at (view t) i).coordinator ≡ i
       → (node_at (view t) i).last.number < call_end → t.waiting < t.limits.messages → MaySend (view t) i (first_other i) → Stepped t (Check i) r → (r.answer ≡ Accepted → ⊥) → ⊥
@@ -345,7 +346,7 @@ pub record NoOtherChecks : Type 0 where
       → Stepped t (Check i) r → (r.answer ≡ Accepted → ⊥) → ⊥
   pub one_changes : {t : Table} {i : ℕ} {r : Outcome} → t.n ≡ 1 → Stepped t (Check i) r → (view r.table ≡ view t → ⊥) → ⊥
   -- one that gives 18 to one of the first seven events from the starting table
-  pub early : (n : ℕ) (l : Limits) {es : List Event} {t : Table} {e : Event} {r : Outcome} → Reached Folded n l es t → length es ≤ 6 → Stepped t e r → r.answer ≡ NotCoordinator → ⊥
+  pub early : (n : ℕ) (l : Limits) {es : List Event} {t : Table} {e : Event} {r : Outcome} → Reached Folded n l es t → length es ≤ 6 → Stepped t e r → r.answer ≡ Err NotCoordinator → ⊥
 
 -- ── 02, T-10: full peal only by a majority ──
 
@@ -356,25 +357,25 @@ pub record NoOtherPeals : Type 0 where
   -- or changes something at it
   pub changes : {t : Table} {i : ℕ} {x : TaskNo} {r : Outcome} → FullPeal x.number → (MoreThanHalf t.n (node_at (view t) i) → ⊥) → Stepped t (Finish i x) r → (r.table ≡ t → ⊥) → ⊥
   -- or gives it another number, where the table is in range and i a node that collects: 13, 14 or 17 before 19, say
-  pub other_number : {t : Table} {i : ℕ} {x : TaskNo} {r : Outcome} → WithoutMajority (view t) i x → Stepped t (Finish i x) r → (r.answer ≡ NoMajority → ⊥) → ⊥
+  pub other_number : {t : Table} {i : ℕ} {x : TaskNo} {r : Outcome} → WithoutMajority (view t) i x → Stepped t (Finish i x) r → (r.answer ≡ Err NoMajority → ⊥) → ⊥
   -- one that lets it pass where they are just half of n: "less than" read for "at most"
   pub passes_half : {t : Table} {i : ℕ} {x : TaskNo} {r : Outcome} → FullPeal x.number → 2 * (1 + count (node_at (view t) i).members) ≡ t.n → Stepped t (Finish i x) r → r.answer ≡ Accepted → ⊥
   -- one that gives 19 to another event
-  pub other_event : {t : Table} {e : Event} {r : Outcome} → Stepped t e r → ((i : ℕ) (x : TaskNo) → e ≡ Finish i x → ⊥) → r.answer ≡ NoMajority → ⊥
+  pub other_event : {t : Table} {e : Event} {r : Outcome} → Stepped t e r → ((i : ℕ) (x : TaskNo) → e ≡ Finish i x → ⊥) → r.answer ≡ Err NoMajority → ⊥
   -- or with another task
-  pub other_task : {t : Table} {i : ℕ} {x : TaskNo} {r : Outcome} → (FullPeal x.number → ⊥) → Stepped t (Finish i x) r → r.answer ≡ NoMajority → ⊥
+  pub other_task : {t : Table} {i : ℕ} {x : TaskNo} {r : Outcome} → (FullPeal x.number → ⊥) → Stepped t (Finish i x) r → r.answer ≡ Err NoMajority → ⊥
   -- or before 1, 7, 8, 9 or 10
-  pub too_soon : {t : Table} {i : ℕ} {x : TaskNo} {r : Outcome} → (FinishReaches (view t) i x → ⊥) → Stepped t (Finish i x) r → r.answer ≡ NoMajority → ⊥
+  pub too_soon : {t : Table} {i : ℕ} {x : TaskNo} {r : Outcome} → (FinishReaches (view t) i x → ⊥) → Stepped t (Finish i x) r → r.answer ≡ Err NoMajority → ⊥
   -- or where node i and its members are more than half of n: one that leaves node i itself out of the count, say
-  pub to_majority : {t : Table} {i : ℕ} {x : TaskNo} {r : Outcome} → MoreThanHalf t.n (node_at (view t) i) → Stepped t (Finish i x) r → r.answer ≡ NoMajority → ⊥
+  pub to_majority : {t : Table} {i : ℕ} {x : TaskNo} {r : Outcome} → MoreThanHalf t.n (node_at (view t) i) → Stepped t (Finish i x) r → r.answer ≡ Err NoMajority → ⊥
   -- or with n = 1
-  pub to_one : {t : Table} {e : Event} {r : Outcome} → t.n ≡ 1 → Stepped t e r → r.answer ≡ NoMajority → ⊥
+  pub to_one : {t : Table} {e : Event} {r : Outcome} → t.n ≡ 1 → Stepped t e r → r.answer ≡ Err NoMajority → ⊥
   -- or to one of the first six events from the starting table
-  pub early : (n : ℕ) (l : Limits) {es : List Event} {t : Table} {e : Event} {r : Outcome} → Reached Folded n l es t → length es ≤ 5 → Stepped t e r → r.answer ≡ NoMajority → ⊥
+  pub early : (n : ℕ) (l : Limits) {es : List Event} {t : Table} {e : Event} {r : Outcome} → Reached Folded n l es t → length es ≤ 5 → Stepped t e r → r.answer ≡ Err NoMajority → ⊥
   -- "a member that has left since still counts": one for which 19 depends on anything but n, the task and node i's own record, on what the members do now, say, or on the
   -- limits. u is another table in range with the same n and the same record of i
   pub looks_further : {t u : Table} {i : ℕ} {x : TaskNo} {r q : Outcome} → t.n ≡ u.n → node_at (view t) i ≡ node_at (view u) i → in_range (view u) ≡ true
-      → Stepped t (Finish i x) r → r.answer ≡ NoMajority → Stepped u (Finish i x) q → (q.answer ≡ NoMajority → ⊥) → ⊥
+      → Stepped t (Finish i x) r → r.answer ≡ Err NoMajority → Stepped u (Finish i x) q → (q.answer ≡ Err NoMajority → ⊥) → ⊥
   -- one that turns away a finish with more than half of n, or with another task, where 13, 14 and 17 do not apply
   pub turns_away : {t : Table} {i : ℕ} {x : TaskNo} {r : Outcome} → FinishReaches (view t) i x → (FullPeal x.number → MoreThanHalf t.n (node_at (view t) i)) → MayHand (view t) i
       → Stepped t (Finish i x) r → (r.answer ≡ Accepted → ⊥) → ⊥
@@ -386,16 +387,16 @@ pub record NoOtherPeals : Type 0 where
 -- "Grounds 1, 6 and 14 read the table's own limits.": no machine that meets `Stepped`, or `Begun`, is
 pub record NoOtherLimits : Type 0 where
   -- one that finds the queue full where fewer wait than the table's own limit says
-  pub early_full : {t : Table} {e : Event} {r : Outcome} → Stepped t e r → r.answer ≡ QueueFull → (t.waiting ≡ t.limits.messages → ⊥) → ⊥
+  pub early_full : {t : Table} {e : Event} {r : Outcome} → Stepped t e r → r.answer ≡ Err QueueFull → (t.waiting ≡ t.limits.messages → ⊥) → ⊥
   -- one that accepts an event though more wait after it than that limit
   pub over_full : {t : Table} {e : Event} {r : Outcome} → Stepped t e r → r.answer ≡ Accepted → t.limits.messages < r.table.waiting → ⊥
   -- one that takes a table with another pair of limits, with more nodes than its own limit or with more messages; each is refused with 1
-  pub other_pair : {t : Table} {e : Event} {r : Outcome} → Stepped t e r → is_tower_or_stand t.limits ≡ false → (r.answer ≡ NotInRange → ⊥) → ⊥
-  pub many_nodes : {t : Table} {e : Event} {r : Outcome} → Stepped t e r → t.limits.nodes < t.n → (r.answer ≡ NotInRange → ⊥) → ⊥
-  pub many_messages : {t : Table} {e : Event} {r : Outcome} → Stepped t e r → t.limits.messages < t.waiting → (r.answer ≡ NotInRange → ⊥) → ⊥
+  pub other_pair : {t : Table} {e : Event} {r : Outcome} → Stepped t e r → is_tower_or_stand t.limits ≡ false → (r.answer ≡ Err NotInRange → ⊥) → ⊥
+  pub many_nodes : {t : Table} {e : Event} {r : Outcome} → Stepped t e r → t.limits.nodes < t.n → (r.answer ≡ Err NotInRange → ⊥) → ⊥
+  pub many_messages : {t : Table} {e : Event} {r : Outcome} → Stepped t e r → t.limits.messages < t.waiting → (r.answer ≡ Err NotInRange → ⊥) → ⊥
   -- one that changes the limits
   pub changes_limits : {t : Table} {e : Event} {r : Outcome} → Stepped t e r → (r.table.limits ≡ t.limits → ⊥) → ⊥
   -- one that starts a table of another pair, or of more nodes than the pair allows, or turns away one that may start
-  pub starts_other : {n : ℕ} {l : Limits} {r : Start} → Begun n l r → is_tower_or_stand l ≡ false → (r.answer ≡ WrongLimits → ⊥) → ⊥
-  pub starts_wrong : {n : ℕ} {l : Limits} {r : Start} → Begun n l r → is_tower_or_stand l ≡ true → wrong_count l.nodes n ≡ true → (r.answer ≡ WrongCount → ⊥) → ⊥
+  pub starts_other : {n : ℕ} {l : Limits} {r : Start} → Begun n l r → is_tower_or_stand l ≡ false → (r.answer ≡ Err WrongLimits → ⊥) → ⊥
+  pub starts_wrong : {n : ℕ} {l : Limits} {r : Start} → Begun n l r → is_tower_or_stand l ≡ true → wrong_count l.nodes n ≡ true → (r.answer ≡ Err WrongCount → ⊥) → ⊥
   pub starts_none : {n : ℕ} {l : Limits} {r : Start} → Begun n l r → MayStart TwoPairs n l → (r.answer ≡ Started → ⊥) → ⊥

@@ -1,24 +1,22 @@
 -- What the inner functions compute: parts of the model's step, over one node, one message and numbers, or over the table's arrays.
-use Rattle.std.specs.Prelude.{ℕ, suc, ◌+◌, ◌-◌, ◌*◌, ◌%◌, ◌≤◌, ◌<◌, ◌≡◌, ◌⊎◌, Bool, true, false, not, ◌&&◌, List, [], ◌∷◌, ◌++◌, eqb, leb, ltb, length, take, drop, set, get_or}
+use Rattle.std.specs.Prelude.{Result, Ok, Err, IfOk, ℕ, suc, ◌+◌, ◌-◌, ◌*◌, ◌%◌, ◌≤◌, ◌<◌, ◌≡◌, ◌⊎◌, Bool, true, false, not, ◌&&◌, List, [], ◌∷◌, ◌++◌, eqb, leb, ltb, length, take, drop, set, get_or, Option, None, Some}
 use Rattle.model.specs.Pick.{pick}
 use Rattle.model.specs.Limits.{node_limit, traffic_end}
 use Rattle.model.specs.Procedures.{stays}
 use Rattle.model.specs.React.{react}
 use Rattle.model.specs.Range.{is_tower_or_stand}
 use Rattle.model.specs.State.{State, wrong_count, goes}
-use Rattle.model.specs.Answers.{answer_number}
+use Rattle.model.specs.Answers.{refusal_number}
 use Rattle.model.specs.Grounds.{Ground, ground, first}
 use Rattle.model.specs.Step.{actor, is_sending, pair_at_end, sent}
 use Rattle.model.specs.declared.Limits.{Limits}
 use Rattle.model.specs.declared.Node.{Node}
 use Rattle.model.specs.declared.Message.{Message}
-use Rattle.model.specs.declared.Outgoing.{Outgoing}
-use Rattle.model.specs.declared.Outgoing.TheVariants.{Nothing, Send}
 use Rattle.model.specs.declared.Reaction.{Reaction}
 use Rattle.model.specs.declared.Input.{Input}
 use Rattle.node_step.specs.Fits.{Fits}
 use Rattle.node_step.specs.Grounds.{number_grounds, node_grounds, own_end_grounds}
-use Rattle.machine.specs.declared.Verdict.{Verdict}
+use Rattle.model.specs.declared.Refusal.{Refusal}
 use Rattle.model.specs.declared.Event.{Event}
 use Rattle.model.specs.declared.Event.TheVariants.{Crash, Recover, Check, Timeout, Tick, Expire, Finish, Deliver, Lose}
 
@@ -75,13 +73,13 @@ abbrev pub place_of : ℕ → ℕ → ℕ
 place_of a b = (a + 15) % 16 * 16 + (b + 15) % 16
 
 -- of what was sent: where, and by how much
-abbrev pub sent_place : Outgoing → ℕ
-sent_place Nothing = 0
-sent_place (Send m) = place_of m.sender m.receiver
+abbrev pub sent_place : Option Message → ℕ
+sent_place None = 0
+sent_place (Some m) = place_of m.sender m.receiver
 
-abbrev pub sent_by : Outgoing → ℕ
-sent_by Nothing = 0
-sent_by (Send m) = 1
+abbrev pub sent_by : Option Message → ℕ
+sent_by None = 0
+sent_by (Some m) = 1
 
 -- of what was delivered and lost
 abbrev pub moved_place : Event → ℕ
@@ -135,9 +133,9 @@ abbrev pub Left : ℕ → ℕ → ℕ → Type 0
 Left w k left = ((k < w) × (left + 1 ≡ w)) ⊎ ((k ≡ w) × (left ≡ w))
 
 -- there is a place for what is sent
-abbrev pub Room : Outgoing → ℕ → Type 0
-Room Nothing left = Unit {0}
-Room (Send m) left = left < 64
+abbrev pub Room : Option Message → ℕ → Type 0
+Room None left = Unit {0}
+Room (Some m) left = left < 64
 
 -- ── the range ──
 
@@ -156,12 +154,15 @@ abbrev pub end_grounds : Node → Reaction → ℕ → ℕ → List Ground
 end_grounds c r left limit = own_end_grounds c r ++ (ground 14 (is_sending r.outgoing && eqb left limit) ∷ [])
 
 -- 17, behind all others, by the counts of what was sent
-abbrev pub last_grounds : List ℕ → Outgoing → List Ground
+abbrev pub last_grounds : List ℕ → Option Message → List Ground
 last_grounds l o = ground 17 (pair_at_end l o) ∷ []
 
--- the same from the number r that the others gave and the count x of the pair
-abbrev pub with_last : ℕ → Outgoing → ℕ → ℕ
-with_last r o x = pick (eqb r 0 && is_sending o && eqb x traffic_end) 17 r
+-- the same by the count x of the pair
+abbrev pub sent_at_end : Option Message → ℕ → Bool
+sent_at_end o x = is_sending o && eqb x traffic_end
+
+abbrev pub sent_grounds : List ℕ → Option Message → List Ground
+sent_grounds l o = ground 17 (sent_at_end o (get_or l (sent_place o) 0)) ∷ []
 
 -- ── the reaction to an event, of the node's record c and the message m ──
 abbrev pub reacts_to : ℕ → Node → Message → Event → Reaction
@@ -214,8 +215,23 @@ pub record Judging (n waiting k : ℕ) (c : Node) (m : Message) (e : Event) : Ty
   pub node : first (number_grounds n e) ≡ 0 → Fits (actor e) c
   pub message : first (number_grounds n e) ≡ 0 → first (state_grounds n c e (ltb k waiting)) ≡ 0 → FitsMessage m e
 
-pub record Judged (n limit waiting k : ℕ) (c : Node) (m : Message) (e : Event) (v : Verdict) : Type 0 where
+-- the number of a judgement: 0 where none of them applies
+abbrev pub judged_number : Result Reaction Refusal → ℕ
+judged_number (Ok r) = 0
+judged_number (Err g) = refusal_number g
+
+pub record Judged (n limit waiting k : ℕ) (c : Node) (m : Message) (e : Event) (v : Result Reaction Refusal) : Type 0 where
   -- the number of the first of them that applies, or 0
-  pub answer : answer_number v.answer ≡ first (judged_grounds n limit waiting k c m e)
+  pub answer : judged_number v ≡ first (judged_grounds n limit waiting k c m e)
   -- what the node does, where none applies
-  pub reaction : answer_number v.answer ≡ 0 → v.reaction ≡ reacts_to n c m e
+  pub reaction : IfOk v (λ r. r ≡ reacts_to n c m e)
+
+-- those and 17 behind them, by l, the counts of what was sent
+abbrev pub all_grounds : ℕ → ℕ → ℕ → ℕ → Node → Message → Event → List ℕ → List Ground
+all_grounds n limit waiting k c m e l = judged_grounds n limit waiting k c m e ++ sent_grounds l (reacts_to n c m e).outgoing
+
+pub record JudgedAll (n limit waiting k : ℕ) (c : Node) (m : Message) (e : Event) (l : List ℕ) (v : Result Reaction Refusal) : Type 0 where
+  -- the number of the first of them that applies, or 0
+  pub answer : judged_number v ≡ first (all_grounds n limit waiting k c m e l)
+  -- what the node does, where none applies
+  pub reaction : IfOk v (λ r. r ≡ reacts_to n c m e)

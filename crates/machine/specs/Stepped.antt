@@ -13,7 +13,7 @@ use Rattle.model.specs.declared.Node.{Node}
 use Rattle.model.specs.declared.Table.{Table}
 use Rattle.model.specs.declared.Event.{Event}
 use Rattle.model.specs.declared.Event.TheVariants.{Recover}
-use Rattle.model.specs.declared.Answer.TheVariants.{Accepted}
+use Rattle.model.specs.Answers.{Accepted}
 use Rattle.model.specs.declared.Outcome.{Outcome}
 use Rattle.machine.specs.declared.Start.{Start}
 use Rattle.machine.specs.declared.RecoveryAnswer.{RecoveryAnswer}

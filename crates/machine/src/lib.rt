@@ -11,16 +11,20 @@ ghost use Rattle.model.specs.Answers.{start_number};
 ghost use Rattle.machine.specs.Stepped.{Stepped, starting_table, begun_number, Begun, RecoveryAnswered};
 
 pub use grounds::{
-    count_place, delivered_by, judge, lost_by, moved_place, sender, sent_by, sent_place, takes,
+    count_place, delivered_by, judge, lost_by, moved_place, seat_of, sender, sent_by, sent_place,
+    takes,
 };
 use model::{
-    Activity, Answer, CallNo, Event, GroupNo, Limits, Message, Node, Outcome, Reaction,
-    StartAnswer, Status, Table, TaskNo,
+    Activity, Answer, CallNo, Event, GroupNo, Limits, Message, Node, Outcome, Refusal, StartAnswer,
+    StartRefusal, Status, Table, TaskNo,
 };
+use predicates::no_message;
+pub use predicates::starting_node;
 pub use queue::place_for;
 pub use range::in_range;
 
 // What `starting` answers, and the table beside it.
+// kept: no Result, since `Begun` says what table stands beside a refusal.
 #[derive(Clone, Copy)]
 pub struct Start {
     pub answer: StartAnswer,
@@ -28,54 +32,22 @@ pub struct Start {
 }
 
 // What `recovery` answers: the answer to recover i, and the eight records beside it.
+// kept: no Result, since `RecoveryAnswered` says what records stand beside a refusal.
 #[derive(Clone, Copy)]
 pub struct RecoveryAnswer {
     pub answer: Answer,
     pub records: [Node; 8],
 }
 
-// What is answered to an event, and what its node does where it is accepted.
-#[derive(Clone, Copy)]
-pub struct Verdict {
-    pub answer: Answer,
-    pub reaction: Reaction,
-}
-
-// The record of every node at the start; it also stands in places that hold no record.
-pub fn starting_node() -> Node
-    ensures { result ≡ starting_node }
-{
-    Node {
-        status: Status::Down,
-        counter: 0,
-        group: GroupNo { number: 0 },
-        coordinator: 0,
-        task: TaskNo { number: 0 },
-        members: 0,
-        last: CallNo { number: 0 },
-        activity: Activity::Idle,
-    }
-}
-
 // The starting table of n nodes with these limits, whatever they are.
 fn blank(n: u8, limits: Limits) -> Table
     ensures { result ≡ starting_table n limits }
 {
-    let c = starting_node();
-    let m = Message {
-        sender: 0,
-        receiver: 0,
-        kind: 0,
-        call: CallNo { number: 0 },
-        group: GroupNo { number: 0 },
-        task: TaskNo { number: 0 },
-        yes: false,
-    };
     Table {
         n: n,
         limits: limits,
-        nodes: [c; 16],
-        messages: [m; 64],
+        nodes: [starting_node(); 16],
+        messages: [no_message(); 64],
         waiting: 0,
         sent: [0; 256],
         delivered: [0; 256],
@@ -84,11 +56,12 @@ fn blank(n: u8, limits: Limits) -> Table
 }
 
 // Refusal 1 where the limits are none of T-08's two pairs, so that the table is not in range, and refusal 6 where they don't allow n nodes.
+#[tactic(auto, unfolding(model::specs::Pick::pick))]
 fn begun_answer(n: u8, limits: Limits) -> StartAnswer
     ensures { start_number result ≡ begun_number n limits }
 {
     if !predicates::is_tower_or_stand(limits) {
-        return StartAnswer::WrongLimits;
+        return Err(StartRefusal::WrongLimits);
     }
     predicates::start_answer(limits.nodes, n)
 }
@@ -114,32 +87,21 @@ pub fn advance(t: Table, e: Event) -> Outcome
     let messages = t.messages;
     let k = queue::place_for(messages, waiting, e);
     let m = t.messages[k % 64];
-    let at = (node_step::actor(e) as usize + 15) % 16;
+    let at = grounds::seat_of(node_step::actor(e));
     let c = t.nodes[at];
-    let v = grounds::judge(n, limit, waiting, k, c, m, e);
-    let r = v.reaction;
-    let outgoing = r.outgoing;
-    let first = v.answer;
-    let p = grounds::sent_place(outgoing);
-    let count = t.sent[p];
-    let answer = grounds::with_last(first, outgoing, count);
-    if !predicates::is_accepted(answer) {
-        return Outcome {
-            answer: answer,
-            table: t,
-        };
-    }
-    let next = queue::stored(
-        t,
-        e,
-        k,
-        grounds::left_of(waiting, k < waiting as usize),
-        at,
-        r,
-    );
+    let r = match grounds::judge_all(n, limit, waiting, k, c, m, e, &t.sent) {
+        Ok(r) => r,
+        Err(refusal) => {
+            return Outcome {
+                answer: Err(refusal),
+                table: t,
+            };
+        }
+    };
+    let left = grounds::left_of(waiting, k < waiting as usize);
     Outcome {
-        answer: Answer::Accepted,
-        table: next,
+        answer: Ok(()),
+        table: queue::stored(t, e, k, left, at, r),
     }
 }
 
@@ -149,7 +111,7 @@ pub fn step(t: Table, e: Event) -> Outcome
 {
     if !range::in_range(t) {
         return Outcome {
-            answer: Answer::NotInRange,
+            answer: Err(Refusal::NotInRange),
             table: t,
         };
     }
@@ -162,18 +124,20 @@ pub fn recovery(t: Table, i: u8) -> RecoveryAnswer
     ensures { RecoveryAnswered t i result }
 {
     let o = step(t, Event::Recover(i));
-    let answer = o.answer;
-    if !predicates::is_accepted(answer) {
-        let none = starting_node();
-        return RecoveryAnswer {
-            answer: answer,
-            records: [none; 8],
-        };
-    }
-    let at = (i as usize + 15) % 16; // place i - 1
-    let x = t.nodes[at];
-    RecoveryAnswer {
-        answer: Answer::Accepted,
-        records: node_step::recovery_records(i, x),
+    match o.answer {
+        Err(refusal) => {
+            let none = starting_node();
+            RecoveryAnswer {
+                answer: Err(refusal),
+                records: [none; 8],
+            }
+        }
+        Ok(()) => {
+            let x = t.nodes[grounds::seat_of(i)];
+            RecoveryAnswer {
+                answer: Ok(()),
+                records: node_step::recovery_records(i, x),
+            }
+        }
     }
 }

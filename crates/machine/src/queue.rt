@@ -1,11 +1,12 @@
 // The table around the local step: where the event's message stands, and the table with the record stored, that message out and another in.
+// kept: the messages and how many wait are two parameters with a clause, as they are two fields of 01's table; any two can be handed in, and the range tells those that fit.
 ghost use Rattle.std.specs.Prelude.{◌≡◌, ℕ, ◌+◌, ◌-◌, ◌≤◌, ◌<◌, length};
 ghost use Rattle.model.specs.State.{no_message, first_of, view};
 ghost use Rattle.model.specs.State as spec;
 ghost use Rattle.machine.specs.Parts as parts;
 
 use crate::grounds;
-use model::{Event, Message, Outgoing, Reaction, Table};
+use model::{Event, Message, Reaction, Table};
 
 fn goes(a: u8, b: u8, m: Message) -> bool
     ensures { result ≡ spec.goes a b m }
@@ -14,23 +15,20 @@ fn goes(a: u8, b: u8, m: Message) -> bool
 }
 
 // Where the oldest message from a to b stands, or how many wait.
+// kept: no Option, as `place` of specs/Parts is where the message is taken out, and nothing is taken out at the end.
 fn find(messages: [Message; 64], waiting: u8, a: u8, b: u8) -> usize
     requires { waiting ≤ 64 }
     ensures { (result ≡ parts.place a b (first_of waiting no_message messages)) × (result ≤ waiting) }
 {
     let end = waiting as usize;
-    let mut i: usize = 0;
-    while i < end {
-        let m = messages[i];
-        if goes(a, b, m) {
-            return i;
-        }
-        i += 1;
-    }
-    end
+    messages[..end]
+        .iter()
+        .position(|m| goes(a, b, *m))
+        .unwrap_or(end)
 }
 
 // Where the event's message stands; how many wait for an event that takes none. By the table's messages alone, so that no whole table is copied.
+#[tactic(auto, using(crate::proofs::Parts::place_taken, crate::proofs::Parts::place_none, model::proofs::Lists::first_length))]
 pub fn place_for(messages: [Message; 64], waiting: u8, e: Event) -> usize
     requires { waiting ≤ 64 }
     ensures { (result ≡ parts.place_for (first_of waiting no_message messages) e) × (result ≤ waiting) }
@@ -48,28 +46,23 @@ pub fn stored(t: Table, e: Event, k: usize, left: u8, at: usize, r: Reaction) ->
     requires small { parts.Small t.sent × parts.Small t.delivered × parts.Small t.lost }
     ensures { view result ≡ parts.stored (view t) e k at r }
 {
-    let node = r.node;
-    let outgoing = r.outgoing;
     let end = left as usize;
     let mut next = t;
-    let mut j = k;
-    while j < end {
-        let m = next.messages[j + 1];
-        next.messages[j] = m;
-        j += 1;
+    for j in k..end {
+        next.messages[j] = next.messages[j + 1];
     }
-    next.nodes[at] = node;
-    let p = grounds::sent_place(outgoing);
-    next.sent[p] = next.sent[p] + grounds::sent_by(outgoing);
+    next.nodes[at] = r.node;
+    let p = grounds::sent_place(r.outgoing);
+    next.sent[p] = next.sent[p] + grounds::sent_by(r.outgoing);
     let i = grounds::moved_place(e);
     next.delivered[i] = next.delivered[i] + grounds::delivered_by(e);
     next.lost[i] = next.lost[i] + grounds::lost_by(e);
-    match outgoing {
-        Outgoing::Nothing => {
+    match r.outgoing {
+        None => {
             next.waiting = left;
             next
         }
-        Outgoing::Send(m) => {
+        Some(m) => {
             next.messages[end] = m;
             next.waiting = left + 1;
             next

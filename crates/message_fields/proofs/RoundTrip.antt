@@ -7,6 +7,7 @@ use mathlib.Core.List.{List, [], ◌∷◌, ◌++◌}
 use lib.Dec.{eqb}
 use lib.ListN.{length, get_or, length-append, get_or-append}
 use borrow.Author.Tests.{eq-eqb, ne_eqb}
+use Rattle.std.specs.Prelude.{Option, Some, None}
 use Rattle.model.specs.Pick.{pick, pick_true, pick_false, by_test}
 use Rattle.model.specs.Range.{carries_group, message_in_range}
 use Rattle.model.proofs.Fields.{IsGroup, message_facts}
@@ -17,8 +18,6 @@ use Rattle.number_bytes.specs.Bytes.{number, bytes, same_bytes, yes_of, yes_numb
 use Rattle.number_bytes.proofs.Numbers.{read, one_is}
 use Rattle.number_bytes.proofs.Same.{same_self, same_is}
 use Rattle.number_bytes.proofs.Records.{yes_back, yes_small}
-use Rattle.message_fields.specs.declared.MessageRead.{MessageRead}
-use Rattle.message_fields.specs.declared.MessageRead.TheVariants.{Wrong, Got}
 use Rattle.message_fields.specs.Fields.{field, group_field, task_field, yes_field, carries_task, carries_yes, fields, message_in, is_message, read_number, reading, carried}
 use Rattle.message_fields.specs.Parts.{call_fields}
 use Rattle.message_fields.specs.Claims.{OneForm}
@@ -113,27 +112,27 @@ unfolding fields carried
 fields_carried m = rw (only_number (carries_group m.kind) 0x22 4 m.group.number, only_number (carries_task m.kind) 0x23 2 m.task.number, only_yes (carries_yes m.kind) m.yes)
 
 -- ── what is read ──
-apart : {m : Message} → Wrong ≡ Got m → ⊥
+apart : {m : Message} → None ≡ Some m → ⊥
 apart q = let z : ◌≡◌ {A = ℕ} 0 1 = cc in omega arith
 
-got_same : {m k : Message} → Got m ≡ Got k → m ≡ k
+got_same : {m k : Message} → Some m ≡ Some k → m ≡ k
 got_same q = cc
 
-pub reading_got : (n : ℕ) (l : List ℕ) → is_message n l ≡ true → reading n l ≡ Got (message_in l)
+pub reading_got : (n : ℕ) (l : List ℕ) → is_message n l ≡ true → reading n l ≡ Some (message_in l)
 unfolding reading
 reading_got n l h = rw (h, pick_true)
 
-pub reading_wrong : (n : ℕ) (l : List ℕ) → is_message n l ≡ false → reading n l ≡ Wrong
+pub reading_wrong : (n : ℕ) (l : List ℕ) → is_message n l ≡ false → reading n l ≡ None
 unfolding reading
 reading_wrong n l h = rw (h, pick_false)
 
-pub got_is : (n : ℕ) (l : List ℕ) (m : Message) → reading n l ≡ Got m → (is_message n l ≡ true) × (message_in l ≡ m)
+pub got_is : (n : ℕ) (l : List ℕ) (m : Message) → reading n l ≡ Some m → (is_message n l ≡ true) × (message_in l ≡ m)
 unfolding reading
-got_is n l m = by_test (λ (x : MessageRead). x ≡ Got m → (is_message n l ≡ true) × (message_in l ≡ m)) (λ h q. (h, got_same q)) (λ h q. absurd (apart q))
+got_is n l m = by_test (λ (x : Option Message). x ≡ Some m → (is_message n l ≡ true) × (message_in l ≡ m)) (λ h q. (h, got_same q)) (λ h q. absurd (apart q))
 
-pub wrong_is : (n : ℕ) (l : List ℕ) → reading n l ≡ Wrong → is_message n l ≡ false
+pub wrong_is : (n : ℕ) (l : List ℕ) → reading n l ≡ None → is_message n l ≡ false
 unfolding reading
-wrong_is n l = by_test (λ (x : MessageRead). x ≡ Wrong → is_message n l ≡ false) (λ h q. absurd (apart (sym q))) (λ h q. h)
+wrong_is n l = by_test (λ (x : Option Message). x ≡ None → is_message n l ≡ false) (λ h q. absurd (apart (sym q))) (λ h q. h)
 
 -- they are its bytes, and it is in range
 pub its_bytes : (n : ℕ) (l : List ℕ) → is_message n l ≡ true → l ≡ fields (message_in l)
@@ -164,8 +163,8 @@ fields_message n m h e =
     let b = message_back m (widths n m h e) in
     rw (b, fields_carried m, same_self (fields m)) (carried_in n m e)
 
-pub fields_read : (n : ℕ) (m : Message) → n ≤ 16 → message_in_range n m ≡ true → reading n (fields m) ≡ Got (carried m)
-fields_read n m h e = reading_got n (fields m) (fields_message n m h e) ∙ ap Got (message_back m (widths n m h e))
+pub fields_read : (n : ℕ) (m : Message) → n ≤ 16 → message_in_range n m ≡ true → reading n (fields m) ≡ Some (carried m)
+fields_read n m h e = reading_got n (fields m) (fields_message n m h e) ∙ ap Some (message_back m (widths n m h e))
 
 -- from whom and to whom
 pub sender_at : (n : ℕ) (m : Message) → n ≤ 16 → message_in_range n m ≡ true → get_or (fields m) 3 0 ≡ m.sender
@@ -226,14 +225,14 @@ number_is : (n : ℕ) (l : List ℕ) → read_number (reading n l) ≡ pick (is_
 unfolding reading pick
 number_is n l = by (is_message n l)
   where
-    by : (t : Bool) → read_number (pick t (Got (message_in l)) Wrong) ≡ pick t 0 20
+    by : (t : Bool) → read_number (pick t (Some (message_in l)) None) ≡ pick t 0 20
     by true = refl
     by false = refl
 
 pub one_form : OneForm
 one_form =
     record {
-      same = λ n m h e c. fields_read n m h e ∙ ap Got c;
+      same = λ n m h e c. fields_read n m h e ∙ ap Some c;
       back = fields_read;
       exactly = λ n l m h. let g = got_is n l m h in its_bytes n l g.0 ∙ ap fields g.1;
       decoded = λ n l m h. let g = got_is n l m h in (sym (ap (message_in_range n) g.1) ∙ its_range n l g.0, sym (ap carried g.1) ∙ read_carried l ∙ g.1);

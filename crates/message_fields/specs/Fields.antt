@@ -1,14 +1,12 @@
 -- A message on the cable (02, T-11): "A message crosses the cable as tagged fields in the house form: 0x20 sender, receiver and kind; 0x21 call number; 0x22 group; 0x23 task;
 -- 0x24 yes or no as 1 or 0. They take three single bytes, then 4, 4, 2 and 1, high byte first. Fields come in that order, only those that the kind carries, and the kind
 -- number is one byte." What is claimed of these bytes is in Claims.
-use Rattle.std.specs.Prelude.{ℕ, ◌≡◌, Bool, ◌&&◌, List, [], ◌++◌, eqb, length, replicate}
+use Rattle.std.specs.Prelude.{Option, Some, None, ℕ, ◌≡◌, Bool, ◌&&◌, List, [], ◌++◌, eqb, length, replicate}
 use Rattle.model.specs.Pick.{pick}
 use Rattle.model.specs.Range.{carries_group, message_in_range}
 use Rattle.model.specs.declared.Message.{Message}
 use Rattle.number_bytes.specs.Bytes.{number, bytes, same_bytes, written, yes_of, yes_number}
 use Rattle.message_fields.specs.declared.Packet.{Packet}
-use Rattle.message_fields.specs.declared.MessageRead.{MessageRead}
-use Rattle.message_fields.specs.declared.MessageRead.TheVariants.{Wrong, Got}
 
 -- ── the bytes of a message ──
 
@@ -83,13 +81,13 @@ unfoldable pub is_message : ℕ → List ℕ → Bool
 is_message n l = same_bytes l (fields (message_in l)) && message_in_range n (message_in l)
 
 -- 02's number of what bytes are answered: 20 where they are no message; a message that is read is not refused
-abbrev pub read_number : MessageRead → ℕ
-read_number Wrong = 20
-read_number (Got m) = 0
+abbrev pub read_number : Option Message → ℕ
+read_number None = 20
+read_number (Some m) = 0
 
 -- what bytes say: the message, or that they are none
-unfoldable pub reading : ℕ → List ℕ → MessageRead
-reading n l = pick (is_message n l) (Got (message_in l)) Wrong
+unfoldable pub reading : ℕ → List ℕ → Option Message
+reading n l = pick (is_message n l) (Some (message_in l)) None
 
 -- A message of a table with 0, or no, in the fields that its kind does not carry: these are free in a table, and do not cross the cable.
 unfoldable pub carried : Message → Message

@@ -23,8 +23,7 @@ use Rattle.model.proofs.Waiting.{waiting_in}
 use Rattle.model.specs.declared.Limits.{Limits}
 use Rattle.model.specs.declared.Node.{Node}
 use Rattle.model.specs.declared.Message.{Message}
-use Rattle.model.specs.declared.Outgoing.{Outgoing}
-use Rattle.model.specs.declared.Outgoing.TheVariants.{Nothing, Send}
+use Rattle.std.specs.Prelude.{Option, None, Some}
 use Rattle.model.specs.declared.Mark.{Mark}
 use Rattle.model.specs.declared.Event.{Event}
 use Rattle.model.specs.declared.Event.TheVariants.{Crash, Recover, Check, Timeout, Tick, Expire, Finish, Deliver, Lose}
@@ -53,16 +52,16 @@ counts_bounded (m ∷ ms) k = set_bounded (counts_of ms) _ k _ _ (omega (arith, 
 abbrev pub Room : ℕ → List ℕ → Type 0
 Room j l = (k : ℕ) → get_or l k 0 + j < traffic_end
 
-sent_room : (j : ℕ) (l : List ℕ) (o : Outgoing) → Room (suc j) l → Room j (with_sent l o)
-sent_room j l Nothing h k = omega (arith, h k)
-sent_room j l (Send m) h k =
+sent_room : (j : ℕ) (l : List ℕ) (o : Option Message) → Room (suc j) l → Room j (with_sent l o)
+sent_room j l None h k = omega (arith, h k)
+sent_room j l (Some m) h k =
     let p = pair_place m.sender m.receiver in
     let b = set_bounded l p k (get_or l p 0 + 1) (traffic_end - suc j) (omega (arith, h k)) (omega (arith, h p)) in
     omega (arith, b, h k)
 
-pub below : (l : List ℕ) (o : Outgoing) → BelowEnd l → pair_at_end l o ≡ false
-below l Nothing h = refl
-below l (Send m) h = let p = pair_place m.sender m.receiver in ne_eqb (get_or l p 0) traffic_end (λ q. omega (arith, q, h p))
+pub below : (l : List ℕ) (o : Option Message) → BelowEnd l → pair_at_end l o ≡ false
+below l None h = refl
+below l (Some m) h = let p = pair_place m.sender m.receiver in ne_eqb (get_or l p 0) traffic_end (λ q. omega (arith, q, h p))
 
 -- ── the step by the grounds between the first, 1, and the last, 17 ──
 abbrev pub later : List Ground → List Ground

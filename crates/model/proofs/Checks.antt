@@ -31,7 +31,7 @@ use Rattle.model.specs.declared.Status.{Status}
 use Rattle.model.specs.declared.Status.TheVariants.{Down, Election, Reorganization, Normal}
 use Rattle.model.specs.declared.Activity.TheVariants.{Asking}
 use Rattle.model.specs.declared.Node.{Node}
-use Rattle.model.specs.declared.Outgoing.TheVariants.{Send}
+use Rattle.std.specs.Prelude.{Some}
 use Rattle.model.specs.declared.Mark.{Mark}
 use Rattle.model.specs.declared.Mark.TheVariants.{Plain}
 use Rattle.model.specs.declared.Reaction.{Reaction}
@@ -41,12 +41,12 @@ use Rattle.model.specs.declared.Event.TheVariants.{Crash, Recover, Check, Timeou
 -- ── what a node that checks does ──
 
 -- the first other one is asked
-first_asked : (n i : ℕ) (c : Node) → 1 < n → ask_after n i c 0 0 ≡ reaction (calling c (Asking (first_other i) 0)) (Send (asks i (first_other i) (next_call c))) Plain
+first_asked : (n i : ℕ) (c : Node) → 1 < n → ask_after n i c 0 0 ≡ reaction (calling c (Asking (first_other i) 0)) (Some (asks i (first_other i) (next_call c))) Plain
 unfolding ask_after ask_at
 first_asked n i c h = by (eqb i 1) refl
   where
     asked : ℕ → Reaction
-    asked j = reaction (calling c (Asking j 0)) (Send (asks i j (next_call c))) Plain
+    asked j = reaction (calling c (Asking j 0)) (Some (asks i j (next_call c))) Plain
 
     by : (t : Bool) → eqb i 1 ≡ t → ask_after n i c 0 0 ≡ asked (pick (eqb i 1) 2 1)
     by true e =

@@ -19,8 +19,7 @@ use Rattle.model.proofs.Locality.{taken_out}
 use Rattle.model.proofs.Fields.{node_is, other_is, message_facts, Counting, oldest_goes}
 use Rattle.model.proofs.Range.{both, OutgoingIn}
 use Rattle.model.specs.declared.Message.{Message}
-use Rattle.model.specs.declared.Outgoing.{Outgoing}
-use Rattle.model.specs.declared.Outgoing.TheVariants.{Nothing, Send}
+use Rattle.std.specs.Prelude.{Option, None, Some}
 use Rattle.model.specs.declared.Event.{Event}
 use Rattle.model.specs.declared.Event.TheVariants.{Crash, Recover, Check, Timeout, Tick, Expire, Finish, Deliver, Lose}
 
@@ -92,11 +91,11 @@ is_count n a b x h e l =
 
 -- ── an accepted event ──
 
-pub sent_more : (n : ℕ) (l : List ℕ) (o : Outgoing) (a b : ℕ) → n ≤ 16 → length l ≡ 256 → OutgoingIn n o → Counting a b
+pub sent_more : (n : ℕ) (l : List ℕ) (o : Option Message) (a b : ℕ) → n ≤ 16 → length l ≡ 256 → OutgoingIn n o → Counting a b
     → count_at (with_sent l o) a b ≡ count_at l a b + how_many (goes a b) (sent o)
 unfolding how_many
-sent_more n l Nothing a b h e x p = omega arith
-sent_more n l (Send m) a b h e x p =
+sent_more n l None a b h e x p = omega arith
+sent_more n l (Some m) a b h e x p =
     let f = message_facts n m x in
     let q : Counting m.sender m.receiver = record { low = f.sender.low; high = omega (arith, f.sender.high); low_to = f.receiver.low; high_to = omega (arith, f.receiver.high) } in
     omega (arith, more_at l m.sender m.receiver a b e q p)
@@ -106,10 +105,10 @@ goes_pair : (a b : ℕ) (m : Message) → goes a b m ≡ true → (m.sender ≡ 
 goes_pair a b m e = (eqb-true m.sender a (both_left _ _ e), eqb-true m.receiver b (both_right (eqb m.sender a) _ e))
 
 -- there is room for what is sent, where 17 does not apply
-pub sent_room : (l : List ℕ) (o : Outgoing) (a b : ℕ) → pair_at_end l o ≡ false → count_at l a b ≤ traffic_end → count_at l a b + how_many (goes a b) (sent o) ≤ traffic_end
+pub sent_room : (l : List ℕ) (o : Option Message) (a b : ℕ) → pair_at_end l o ≡ false → count_at l a b ≤ traffic_end → count_at l a b + how_many (goes a b) (sent o) ≤ traffic_end
 unfolding how_many
-sent_room l Nothing a b e h = omega arith
-sent_room l (Send m) a b e h = by_goes (goes a b m) refl
+sent_room l None a b e h = omega arith
+sent_room l (Some m) a b e h = by_goes (goes a b m) refl
   where
     by_goes : (t : Bool) → goes a b m ≡ t → count_at l a b + (one t + 0) ≤ traffic_end
     by_goes true q =
@@ -118,9 +117,9 @@ sent_room l (Send m) a b e h = by_goes (goes a b m) refl
         omega arith
     by_goes false q = omega arith
 
-pub sent_length : (l : List ℕ) (o : Outgoing) → length (with_sent l o) ≡ length l
-sent_length l Nothing = refl
-sent_length l (Send m) = length-set l _ _
+pub sent_length : (l : List ℕ) (o : Option Message) → length (with_sent l o) ≡ length l
+sent_length l None = refl
+sent_length l (Some m) = length-set l _ _
 
 module _ (n : ℕ) (l : List ℕ) (a b : ℕ) (small : n ≤ 16) (h : length l ≡ 256) (p : Counting a b) where
   pub delivered_more : (s : State) (e : Event) → wrong_number n e ≡ false → count_at (with_delivered l e) a b ≡ count_at l a b + delivers a b s e

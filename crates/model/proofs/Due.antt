@@ -18,8 +18,7 @@ use Rattle.model.specs.declared.Activity.TheVariants.{Idle, Asking, Waiting, Inv
 use Rattle.model.specs.declared.Node.{Node}
 use Rattle.model.specs.declared.CallNo.{CallNo}
 use Rattle.model.specs.declared.Message.{Message}
-use Rattle.model.specs.declared.Outgoing.{Outgoing}
-use Rattle.model.specs.declared.Outgoing.TheVariants.{Nothing, Send}
+use Rattle.std.specs.Prelude.{Option, None, Some}
 use Rattle.model.specs.declared.Mark.{Mark}
 use Rattle.model.specs.declared.Mark.TheVariants.{Plain, Merges}
 use Rattle.model.specs.declared.Reaction.{Reaction}
@@ -43,18 +42,18 @@ due b (Forwarding rest now caller call) = one (eqb caller b)
 due b (Accepting caller call) = one (eqb caller b)
 
 -- a call to b that is sent, and a reply to b
-abbrev pub call_to : ℕ → Outgoing → ℕ
-call_to b Nothing = 0
-call_to b (Send m) = one (ltb m.kind 6 && eqb m.receiver b)
+abbrev pub call_to : ℕ → Option Message → ℕ
+call_to b None = 0
+call_to b (Some m) = one (ltb m.kind 6 && eqb m.receiver b)
 
-abbrev pub reply_to : ℕ → Outgoing → ℕ
-reply_to b Nothing = 0
-reply_to b (Send m) = one (not (ltb m.kind 6) && eqb m.receiver b)
+abbrev pub reply_to : ℕ → Option Message → ℕ
+reply_to b None = 0
+reply_to b (Some m) = one (not (ltb m.kind 6) && eqb m.receiver b)
 
 -- what is sent is from node i
-abbrev pub From : ℕ → Outgoing → Type 0
-From i Nothing = Unit {0}
-From i (Send m) = m.sender ≡ i
+abbrev pub From : ℕ → Option Message → Type 0
+From i None = Unit {0}
+From i (Some m) = m.sender ≡ i
 
 -- the call from b that an input is
 abbrev pub call_from : ℕ → Input → ℕ
@@ -75,12 +74,12 @@ pub record WithinDue (i l : ℕ) (w : ℕ → ℕ) (r : Reaction) : Type 0 where
 
 module _ {i : ℕ} {w : ℕ → ℕ} where
   -- nothing sent
-  quiet : (d : Node) (k : Mark) → ((b : ℕ) → due b d.activity ≤ w b) → WithinDue i d.last.number w (reaction d Nothing k)
+  quiet : (d : Node) (k : Mark) → ((b : ℕ) → due b d.activity ≤ w b) → WithinDue i d.last.number w (reaction d None k)
   quiet d k h = record { from = tt; numbered = λ b. omega arith; answered = λ b. omega (arith, h b) }
 
   -- a call, with a new number
   called : (c : Node) (a : Activity) (m : Message) (k : Mark) → m.sender ≡ i → ltb m.kind 6 ≡ true → ((b : ℕ) → due b a ≤ w b)
-      → WithinDue i c.last.number w (reaction (calling c a) (Send m) k)
+      → WithinDue i c.last.number w (reaction (calling c a) (Some m) k)
   called c a m k e q h =
       record {
         from = e;

@@ -33,8 +33,7 @@ use Rattle.model.specs.declared.Node.{Node}
 use Rattle.model.specs.declared.CallNo.{CallNo}
 use Rattle.model.specs.declared.TaskNo.{TaskNo}
 use Rattle.model.specs.declared.Message.{Message}
-use Rattle.model.specs.declared.Outgoing.{Outgoing}
-use Rattle.model.specs.declared.Outgoing.TheVariants.{Nothing, Send}
+use Rattle.std.specs.Prelude.{Option, None, Some}
 use Rattle.model.specs.declared.Mark.{Mark}
 use Rattle.model.specs.declared.Mark.TheVariants.{Plain, Merges}
 use Rattle.model.specs.declared.Reaction.{Reaction}
@@ -65,9 +64,9 @@ record MessageAfter (k : ℕ) (m : Message) : Type 0 where
   pub reply : m.kind ≡ 6 → 4 ≤ k
 
 -- what node i sends
-abbrev OutgoingAfter : ℕ → ℕ → Outgoing → Type 0
-OutgoingAfter k i Nothing = Unit {0}
-OutgoingAfter k i (Send m) = (m.sender ≡ i) × MessageAfter k m
+abbrev OutgoingAfter : ℕ → ℕ → Option Message → Type 0
+OutgoingAfter k i None = Unit {0}
+OutgoingAfter k i (Some m) = (m.sender ≡ i) × MessageAfter k m
 
 record ReactionAfter (k i : ℕ) (r : Reaction) : Type 0 where
   pub node : NodeAfter k i r.node
@@ -332,7 +331,7 @@ module _ (k : ℕ) (s : State) (few : k ≤ 5) (x : TableAfter k s) where
   -- what an accepted event's node does; and it runs, or sends nothing
   record EventAfter (e : Event) : Type 0 where
     pub reaction : ReactionAfter (k + 1) (actor e) (reaction_to s e)
-    pub runs : ((reaction_to s e).outgoing ≡ Nothing) ⊎ (is_down (node_at s (actor e)).status ≡ false)
+    pub runs : ((reaction_to s e).outgoing ≡ None) ⊎ (is_down (node_at s (actor e)).status ≡ false)
 
   here : (e : Event) → Clear s e → NodeAfter k (actor e) (node_at s (actor e))
   here e c = let p = actor_in s.n e c.number in x.nodes (actor e) p.0 p.1
@@ -392,9 +391,9 @@ module _ (k : ℕ) (s : State) (few : k ≤ 5) (x : TableAfter k s) where
     some_ran : (j : ℕ) → 1 ≤ j → j ≤ s.n → (j ≡ actor e → ⊥) → is_down (node_at (effect s e) j).status ≡ false → 1 ≤ k
     some_ran j l h d q = runs_some k j (node_at s j) (node_at s j).activity (running k j (node_at s j) (x.nodes j l h) (ran j l h d q))
 
-    sent_after : (o : Outgoing) → OutgoingAfter (k + 1) (actor e) o → All (MessageAfter (k + 1)) (sent o)
-    sent_after Nothing y = tt
-    sent_after (Send m) y = (y.1, tt)
+    sent_after : (o : Option Message) → OutgoingAfter (k + 1) (actor e) o → All (MessageAfter (k + 1)) (sent o)
+    sent_after None y = tt
+    sent_after (Some m) y = (y.1, tt)
 
     two_after : (i j : ℕ) → 1 ≤ i → i ≤ s.n → 1 ≤ j → j ≤ s.n → (i ≡ j → ⊥) → is_down (node_at (effect s e) i).status ≡ false → is_down (node_at (effect s e) j).status ≡ false → 2 ≤ k + 1
     two_after i j l h m u d a b = by (eqb i (actor e)) refl
@@ -403,10 +402,10 @@ module _ (k : ℕ) (s : State) (few : k ≤ 5) (x : TableAfter k s) where
         by true q = omega (arith, some_ran j m u (λ z. d (eqb-true i (actor e) q ∙ sym z)) b)
         by false q = omega (arith, some_ran i l h (eqb-false i (actor e) q) a)
 
-    crossing_sent : (j : ℕ) → 1 ≤ j → j ≤ s.n → is_down (node_at (effect s e) j).status ≡ false → (o : Outgoing) → OutgoingAfter (k + 1) (actor e) o
-        → (o ≡ Nothing) ⊎ (is_down (node_at s (actor e)).status ≡ false) → All (λ m. (m.sender ≡ j → ⊥) → 3 ≤ k + 1) (sent o)
-    crossing_sent j l h d Nothing y r = tt
-    crossing_sent j l h d (Send m) y r = ((λ f. omega (arith, both f)), tt)
+    crossing_sent : (j : ℕ) → 1 ≤ j → j ≤ s.n → is_down (node_at (effect s e) j).status ≡ false → (o : Option Message) → OutgoingAfter (k + 1) (actor e) o
+        → (o ≡ None) ⊎ (is_down (node_at s (actor e)).status ≡ false) → All (λ m. (m.sender ≡ j → ⊥) → 3 ≤ k + 1) (sent o)
+    crossing_sent j l h d None y r = tt
+    crossing_sent j l h d (Some m) y r = ((λ f. omega (arith, both f)), tt)
       where
         both : (m.sender ≡ j → ⊥) → 2 ≤ k
         both f =

@@ -28,8 +28,7 @@ use Rattle.model.proofs.Counts.{none_counted, many_append, up_to_all, is_count, 
 use Rattle.model.proofs.Range.{both, is_node_lem, Numbered, OutgoingIn, ReactionIn, Room, InputIn, react_in}
 use Rattle.model.specs.declared.Limits.{Limits}
 use Rattle.model.specs.declared.Message.{Message}
-use Rattle.model.specs.declared.Outgoing.{Outgoing}
-use Rattle.model.specs.declared.Outgoing.TheVariants.{Nothing, Send}
+use Rattle.std.specs.Prelude.{Option, None, Some}
 use Rattle.model.specs.declared.Input.{Input}
 use Rattle.model.specs.declared.Event.{Event}
 use Rattle.model.specs.declared.Event.TheVariants.{Crash, Recover, Check, Timeout, Tick, Expire, Finish, Deliver, Lose}
@@ -75,14 +74,14 @@ without_length a b q w =
     let x = taken_out a b q w in
     omega (arith, ap length x.whole, ap length x.left, length-append x.before (x.taken ∷ x.behind), length-append x.before x.behind)
 
-sent_fits : (limit : ℕ) (q : List Message) (o : Outgoing) → length q ≤ limit → is_sending o && eqb (length q) limit ≡ false → length (q ++ sent o) ≤ limit
-sent_fits limit q Nothing h e = simp length-append (omega arith)
-sent_fits limit q (Send m) h e = let d = eqb-false (length q) limit e in simp length-append (omega arith)
+sent_fits : (limit : ℕ) (q : List Message) (o : Option Message) → length q ≤ limit → is_sending o && eqb (length q) limit ≡ false → length (q ++ sent o) ≤ limit
+sent_fits limit q None h e = simp length-append (omega arith)
+sent_fits limit q (Some m) h e = let d = eqb-false (length q) limit e in simp length-append (omega arith)
 
-sent_in_lem : (n : ℕ) (o : Outgoing) → OutgoingIn n o → every (λ _. message_in_range n) 1 (sent o) ≡ true
+sent_in_lem : (n : ℕ) (o : Option Message) → OutgoingIn n o → every (λ _. message_in_range n) 1 (sent o) ≡ true
 unfolding every
-sent_in_lem n Nothing x = refl
-sent_in_lem n (Send m) x = both (message_in_range n m) _ x refl
+sent_in_lem n None x = refl
+sent_in_lem n (Some m) x = both (message_in_range n m) _ x refl
 
 -- ── an accepted event ──
 
@@ -173,10 +172,10 @@ event_counted s e c a b p =
 pub more_each : (n : ℕ) (l : List ℕ) (a b : ℕ) → n ≤ 16 → is_pair n a b ≡ true → every (count_in_range n) 0 l ≡ true → count_at l a b < traffic_end → every (count_in_range n) 0 (one_more l a b) ≡ true
 more_each n l a b h p e k = every_set (count_in_range n) 0 l (pair_place a b) (count_at l a b + 1) e (is_count n a b (count_at l a b + 1) h p (omega arith))
 
-sent_each : (n : ℕ) (l : List ℕ) (o : Outgoing) → n ≤ 16 → length l ≡ 256 → OutgoingIn n o → pair_at_end l o ≡ false → every (count_in_range n) 0 l ≡ true → every (count_in_range n) 0 (with_sent l o) ≡ true
+sent_each : (n : ℕ) (l : List ℕ) (o : Option Message) → n ≤ 16 → length l ≡ 256 → OutgoingIn n o → pair_at_end l o ≡ false → every (count_in_range n) 0 l ≡ true → every (count_in_range n) 0 (with_sent l o) ≡ true
 unfolding message_in_range
-sent_each n l Nothing h k x d e = e
-sent_each n l (Send m) h k x d e =
+sent_each n l None h k x d e = e
+sent_each n l (Some m) h k x d e =
     let p : is_pair n m.sender m.receiver ≡ true = both_left _ _ (both_left _ _ (both_left _ _ (both_left _ _ x))) in
     let b = count_bounded n l m.sender m.receiver k e (pair_counting n m.sender m.receiver h p) in
     let z = eqb-false (count_at l m.sender m.receiver) traffic_end d in

@@ -15,8 +15,7 @@ use Rattle.model.specs.declared.Activity.{Activity}
 use Rattle.model.specs.declared.Activity.TheVariants.{Idle, Asking, Waiting, Inviting, Collecting, Handing, Contacting, Forwarding, Accepting}
 use Rattle.model.specs.declared.Node.{Node}
 use Rattle.model.specs.declared.Message.{Message}
-use Rattle.model.specs.declared.Outgoing.{Outgoing}
-use Rattle.model.specs.declared.Outgoing.TheVariants.{Nothing, Send}
+use Rattle.std.specs.Prelude.{Option, None, Some}
 use Rattle.model.specs.declared.Mark.{Mark}
 use Rattle.model.specs.declared.Mark.TheVariants.{Plain, Recovers, Merges}
 use Rattle.model.specs.declared.Reaction.{Reaction}
@@ -101,9 +100,9 @@ pub record MessageOk (h : History) (m : Message) : Type 0 where
 pub record HistoryOk (h : History) : Type 0 where
   pub ahead : (g : ℕ) → h.count (owner_of g) < counter_of g → h.entry g ≡ NotFormed
 
-abbrev pub OutgoingOk : History → Outgoing → Type 0
-OutgoingOk h Nothing = Unit {0}
-OutgoingOk h (Send m) = MessageOk h m
+abbrev pub OutgoingOk : History → Option Message → Type 0
+OutgoingOk h None = Unit {0}
+OutgoingOk h (Some m) = MessageOk h m
 
 -- what a mark says: g is the node's group after the step
 abbrev pub MarkOk : History → ℕ → ℕ → Mark → Type 0

@@ -33,7 +33,7 @@ use Rattle.model.specs.declared.Status.TheVariants.{Election}
 use Rattle.model.specs.declared.Activity.TheVariants.{Forwarding, Accepting}
 use Rattle.model.specs.declared.Node.{Node}
 use Rattle.model.specs.declared.Message.{Message}
-use Rattle.model.specs.declared.Outgoing.TheVariants.{Send}
+use Rattle.std.specs.Prelude.{Some}
 use Rattle.model.specs.declared.Mark.TheVariants.{Plain}
 use Rattle.model.specs.declared.Reaction.{Reaction}
 use Rattle.model.specs.declared.Event.{Event}
@@ -139,19 +139,19 @@ module _ (s : State) (a b : ℕ) (x : InvitationReaches s a b) where
     lost = s.lost;
   }
 
-  leaves : (d : Node) (y : Message) → (count_at s.sent y.sender y.receiver ≡ traffic_end → ⊥) → reaction_to s (Deliver a b) ≡ reaction d (Send y) Plain → Clear s (Deliver a b)
-      → step s (Deliver a b) ≡ accepted (left (reaction d (Send y) Plain)) Plain
+  leaves : (d : Node) (y : Message) → (count_at s.sent y.sender y.receiver ≡ traffic_end → ⊥) → reaction_to s (Deliver a b) ≡ reaction d (Some y) Plain → Clear s (Deliver a b)
+      → step s (Deliver a b) ≡ accepted (left (reaction d (Some y) Plain)) Plain
   unfolding effect remaining
   leaves d y w e h =
       clear_accepts s (Deliver a b) h (ap (λ (r : Reaction). pair_at_end s.sent r.outgoing) e ∙ ne_eqb _ traffic_end w)
       ∙ ap (λ (r : Reaction). accepted (left r) r.mark) e
 
   module _ (e : only_replies b (node_at s b) (oldest a b s.queue).group ≡ true) where
-    answer : reaction_to s (Deliver a b) ≡ reaction (node_at s b) (Send (replies b a (oldest a b s.queue).call true)) Plain
+    answer : reaction_to s (Deliver a b) ≡ reaction (node_at s b) (Some (replies b a (oldest a b s.queue).call true)) Plain
     answer =
         reacts s a b x.kind
         ∙ plain_reply b (node_at s b) (oldest a b s.queue) e
-        ∙ ap (λ (j : ℕ). reaction (node_at s b) (Send (replies b j (oldest a b s.queue).call true)) Plain) from
+        ∙ ap (λ (j : ℕ). reaction (node_at s b) (Some (replies b j (oldest a b s.queue).call true)) Plain) from
 
     plain_clear : Clear s (Deliver a b)
     plain_clear = clear (ap (λ (r : Reaction). forms r.mark) answer) (ap (λ (r : Reaction). is_calling r.outgoing && eqb (node_at s b).last.number call_end) answer)
@@ -189,7 +189,7 @@ module _ (s : State) (a b : ℕ) (x : InvitationReaches s a b) where
         ∙ ap joins e
 
     -- what b sends meets 17, where the count of its pair is at its end
-    call_end_lem : (node_at s b).last.number < call_end → (d : Node) (m : Message) → reaction_to s (Deliver a b) ≡ reaction d (Send m) Plain
+    call_end_lem : (node_at s b).last.number < call_end → (d : Node) (m : Message) → reaction_to s (Deliver a b) ≡ reaction d (Some m) Plain
         → count_at s.sent m.sender m.receiver ≡ traffic_end → step s (Deliver a b) ≡ refused 17
     call_end_lem l d m e w = clear_ends s (Deliver a b) (calling_clear l) (ap (λ (r : Reaction). pair_at_end s.sent r.outgoing) e ∙ eq-eqb _ _ w)
 

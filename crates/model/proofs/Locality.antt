@@ -16,8 +16,7 @@ use Rattle.model.proofs.Numbers.{actor_in}
 use Rattle.model.proofs.Whole.{run_append}
 use Rattle.model.specs.declared.Limits.{Limits}
 use Rattle.model.specs.declared.Message.{Message}
-use Rattle.model.specs.declared.Outgoing.{Outgoing}
-use Rattle.model.specs.declared.Outgoing.TheVariants.{Nothing, Send}
+use Rattle.std.specs.Prelude.{Option, None, Some}
 use Rattle.model.specs.declared.Event.{Event}
 use Rattle.model.specs.declared.Event.TheVariants.{Crash, Recover, Check, Timeout, Tick, Expire, Finish, Deliver, Lose}
 
@@ -91,9 +90,9 @@ out_short q (Finish i t) r x = omega (arith, ap length x)
 out_short q (Deliver a b) r x = without_short a b q r x
 out_short q (Lose a b) r x = without_short a b q r x
 
-sent_short : (o : Outgoing) → length (sent o) ≤ 1
-sent_short Nothing = omega arith
-sent_short (Send m) = omega arith
+sent_short : (o : Option Message) → length (sent o) ≤ 1
+sent_short None = omega arith
+sent_short (Some m) = omega arith
 
 -- ── the claim ──
 effect_little : (s : State) (e : Event) → Clear s e → 1 ≤ actor e → ChangesLittle s e (effect s e)

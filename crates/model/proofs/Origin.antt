@@ -19,8 +19,7 @@ use Rattle.model.specs.declared.Node.{Node}
 use Rattle.model.specs.declared.CallNo.{CallNo}
 use Rattle.model.specs.declared.TaskNo.{TaskNo}
 use Rattle.model.specs.declared.Message.{Message}
-use Rattle.model.specs.declared.Outgoing.{Outgoing}
-use Rattle.model.specs.declared.Outgoing.TheVariants.{Nothing, Send}
+use Rattle.std.specs.Prelude.{Option, None, Some}
 use Rattle.model.specs.declared.Mark.{Mark}
 use Rattle.model.specs.declared.Mark.TheVariants.{Plain, Merges}
 use Rattle.model.specs.declared.Reaction.{Reaction}
@@ -177,9 +176,9 @@ oldest_held a b (m ∷ ms) g w u =
 -- ── messages out ──
 
 -- what is sent carries the group g, where it carries one
-abbrev pub Carries : ℕ → Outgoing → Type 0
-Carries g Nothing = Unit {0}
-Carries g (Send m) = carries_group m.kind ≡ true → m.group.number ≡ g
+abbrev pub Carries : ℕ → Option Message → Type 0
+Carries g None = Unit {0}
+Carries g (Some m) = carries_group m.kind ≡ true → m.group.number ≡ g
 
 -- and that is the group of the sender's record
 abbrev Own : Reaction → Type 0

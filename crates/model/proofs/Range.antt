@@ -28,8 +28,7 @@ use Rattle.model.specs.declared.Activity.TheVariants.{Idle, Asking, Waiting, Inv
 use Rattle.model.specs.declared.Node.{Node}
 use Rattle.model.specs.declared.CallNo.{CallNo}
 use Rattle.model.specs.declared.Message.{Message}
-use Rattle.model.specs.declared.Outgoing.{Outgoing}
-use Rattle.model.specs.declared.Outgoing.TheVariants.{Nothing, Send}
+use Rattle.std.specs.Prelude.{Option, None, Some}
 use Rattle.model.specs.declared.Mark.{Mark}
 use Rattle.model.specs.declared.Mark.TheVariants.{Plain, Merges}
 use Rattle.model.specs.declared.Reaction.{Reaction}
@@ -164,9 +163,9 @@ standing : {n i : ℕ} (c : Node) (a : Status) (t : ℕ) → is_down a ≡ false
     → Up n i a c.counter c.group.number c.coordinator t c.members c.last.number
 standing c a t e h u = record { up = e; counter = u.counter; group = u.group; led = u.led; task = h; members = u.members; last = u.last }
 
-abbrev pub OutgoingIn : ℕ → Outgoing → Type 0
-OutgoingIn n Nothing = Unit {0}
-OutgoingIn n (Send m) = message_in_range n m ≡ true
+abbrev pub OutgoingIn : ℕ → Option Message → Type 0
+OutgoingIn n None = Unit {0}
+OutgoingIn n (Some m) = message_in_range n m ≡ true
 
 pub record ReactionIn (n i : ℕ) (r : Reaction) : Type 0 where
   pub node : node_in_range n i r.node ≡ true
@@ -255,7 +254,7 @@ module _ {n i : ℕ} (p : Numbered n i) where
 
   -- a reply, from a node in range
   reply_in : {k l : ℕ} (d : Node) (r : ℕ) (x : CallNo) (y : Bool) → IsOther n i r → IsCall x.number → node_in_range n i d ≡ true
-      → Fits n i k l (reaction d (Send (replies i r x y)) Plain)
+      → Fits n i k l (reaction d (Some (replies i r x y)) Plain)
   reply_in d r x y o q h _ _ =
       record {
         node = h;
@@ -286,7 +285,7 @@ module _ {n i : ℕ} (p : Numbered n i) where
     -- a call, with its message's facts
     calling_in : {k : ℕ} (a : Activity) (m : Message) (x : Mark) → m.kind < 6 → Busy n i c.group.number c.task.number a
         → (IsCall (c.last.number + 1) → MessageFacts n m)
-        → Fits n i k c.last.number (reaction (calling c a) (Send m) x)
+        → Fits n i k c.last.number (reaction (calling c a) (Some m) x)
     calling_in a m x h b f _ room =
         let q : c.last.number < call_end = room (lt-ltb m.kind 6 h) in
         record {
@@ -306,7 +305,7 @@ module _ {n i : ℕ} (p : Numbered n i) where
 
     -- a call of kind 2 to 4
     calls_in : {k : ℕ} (a : Activity) (kind r : ℕ) (x : Mark) → 2 ≤ kind → kind ≤ 4 → IsOther n i r → Busy n i c.group.number c.task.number a
-        → Fits n i k c.last.number (reaction (calling c a) (Send (calls i kind r (next_call c) c.group)) x)
+        → Fits n i k c.last.number (reaction (calling c a) (Some (calls i kind r (next_call c) c.group)) x)
     calls_in a kind r x l h o b =
         calling_in a (calls i kind r (next_call c) c.group) x (omega arith) b
         (λ q. record {

@@ -26,8 +26,7 @@ use Rattle.model.proofs.InRange.{EventIn, event_in, event_counted, start_small, 
 use Rattle.model.proofs.Due.{due, call_to, reply_to, From, call_from, WithinDue, react_within}
 use Rattle.model.specs.declared.Limits.{Limits}
 use Rattle.model.specs.declared.Message.{Message}
-use Rattle.model.specs.declared.Outgoing.{Outgoing}
-use Rattle.model.specs.declared.Outgoing.TheVariants.{Nothing, Send}
+use Rattle.std.specs.Prelude.{Option, None, Some}
 use Rattle.model.specs.declared.Input.{Input}
 use Rattle.model.specs.declared.Event.{Event}
 use Rattle.model.specs.declared.Event.TheVariants.{Crash, Recover, Check, Timeout, Tick, Expire, Finish, Deliver, Lose}
@@ -56,9 +55,9 @@ total_set (y ∷ l) (suc p) x h = omega (arith, total_set l p x (omega arith))
 total_more : (l : List ℕ) (a b : ℕ) → length l ≡ 256 → Counting a b → total (one_more l a b) ≡ total l + 1
 total_more l a b h p = omega (arith, total_set l (pair_place a b) (count_at l a b + 1) (omega (arith, h, p.low, p.high, p.low_to, p.high_to)))
 
-sent_any : (n : ℕ) (l : List ℕ) (o : Outgoing) → n ≤ 16 → length l ≡ 256 → OutgoingIn n o → total (with_sent l o) ≡ total l + length (sent o)
-sent_any n l Nothing h e x = omega arith
-sent_any n l (Send m) h e x =
+sent_any : (n : ℕ) (l : List ℕ) (o : Option Message) → n ≤ 16 → length l ≡ 256 → OutgoingIn n o → total (with_sent l o) ≡ total l + length (sent o)
+sent_any n l None h e x = omega arith
+sent_any n l (Some m) h e x =
     let f = message_facts n m x in
     total_more l m.sender m.receiver e
     (record { low = f.sender.low; high = omega (arith, f.sender.high); low_to = f.receiver.low; high_to = omega (arith, f.receiver.high) })
@@ -193,25 +192,25 @@ split true false = refl
 split false true = refl
 split false false = refl
 
-sent_split : (i : ℕ) (o : Outgoing) (b : ℕ) → From i o → how_many (goes i b) (sent o) ≡ call_to b o + reply_to b o
+sent_split : (i : ℕ) (o : Option Message) (b : ℕ) → From i o → how_many (goes i b) (sent o) ≡ call_to b o + reply_to b o
 unfolding how_many
-sent_split i Nothing b f = refl
-sent_split i (Send m) b f = rw (eq-eqb m.sender i f) (omega (arith, split (ltb m.kind 6) (eqb m.receiver b)))
+sent_split i None b f = refl
+sent_split i (Some m) b f = rw (eq-eqb m.sender i f) (omega (arith, split (ltb m.kind 6) (eqb m.receiver b)))
 
-calls_split : (i : ℕ) (o : Outgoing) (b : ℕ) → From i o → how_many (is_call_to i b) (sent o) ≡ call_to b o
+calls_split : (i : ℕ) (o : Option Message) (b : ℕ) → From i o → how_many (is_call_to i b) (sent o) ≡ call_to b o
 unfolding how_many
-calls_split i Nothing b f = refl
-calls_split i (Send m) b f = rw (eq-eqb m.sender i f) (omega arith)
+calls_split i None b f = refl
+calls_split i (Some m) b f = rw (eq-eqb m.sender i f) (omega arith)
 
-none_from : (i : ℕ) (o : Outgoing) (j b : ℕ) → From i o → (j ≡ i → ⊥) → how_many (goes j b) (sent o) ≡ 0
+none_from : (i : ℕ) (o : Option Message) (j b : ℕ) → From i o → (j ≡ i → ⊥) → how_many (goes j b) (sent o) ≡ 0
 unfolding how_many
-none_from i Nothing j b f d = refl
-none_from i (Send m) j b f d = rw (ne_eqb m.sender j (λ e. d (sym e ∙ f))) refl
+none_from i None j b f d = refl
+none_from i (Some m) j b f d = rw (ne_eqb m.sender j (λ e. d (sym e ∙ f))) refl
 
-no_call_from : (i : ℕ) (o : Outgoing) (j b : ℕ) → From i o → (j ≡ i → ⊥) → how_many (is_call_to j b) (sent o) ≡ 0
+no_call_from : (i : ℕ) (o : Option Message) (j b : ℕ) → From i o → (j ≡ i → ⊥) → how_many (is_call_to j b) (sent o) ≡ 0
 unfolding how_many
-no_call_from i Nothing j b f d = refl
-no_call_from i (Send m) j b f d = rw (ne_eqb m.sender j (λ e. d (sym e ∙ f))) (never (ltb m.kind 6))
+no_call_from i None j b f d = refl
+no_call_from i (Some m) j b f d = rw (ne_eqb m.sender j (λ e. d (sym e ∙ f))) (never (ltb m.kind 6))
   where
     never : (t : Bool) → one (t && false) + 0 ≡ 0
     never true = refl
@@ -279,10 +278,10 @@ module _ (s : State) (e : Event) (c : Clear s e) where
       omega (arith, w a b l h m k, (event_counted s e c a b (counting a b l h m k)).sent, many_append (is_call_to b a) (remaining s e) (sent (reaction_to s e).outgoing), within a b l, grows a b l, grows b a m)
 
   -- there is room for one more in the pair of what is sent
-  below : (o : Outgoing) → From (actor e) o → OutgoingIn s.n o → is_calling o && eqb (node_at s (actor e)).last.number call_end ≡ false
+  below : (o : Option Message) → From (actor e) o → OutgoingIn s.n o → is_calling o && eqb (node_at s (actor e)).last.number call_end ≡ false
       → ((b : ℕ) → reply_to b o ≤ due b (node_at s (actor e)).activity + how_many (is_call_to b (actor e)) s.queue) → SentWithin s → pair_at_end s.sent o ≡ true → ⊥
-  below Nothing f i r p w t = true≢false (sym t)
-  below (Send m) f i r p w t = by_kind (ltb m.kind 6) refl
+  below None f i r p w t = true≢false (sym t)
+  below (Some m) f i r p w t = by_kind (ltb m.kind 6) refl
     where
       b : ℕ
       b = m.receiver

@@ -29,8 +29,7 @@ use Rattle.model.specs.declared.Status.TheVariants.{Down, Election, Reorganizati
 use Rattle.model.specs.declared.Node.{Node}
 use Rattle.model.specs.declared.TaskNo.{TaskNo}
 use Rattle.model.specs.declared.Message.{Message}
-use Rattle.model.specs.declared.Outgoing.{Outgoing}
-use Rattle.model.specs.declared.Outgoing.TheVariants.{Nothing, Send}
+use Rattle.std.specs.Prelude.{Option, None, Some}
 use Rattle.model.specs.declared.Mark.{Mark}
 use Rattle.model.specs.declared.Mark.TheVariants.{Plain, Recovers, Merges}
 use Rattle.model.specs.declared.Input.TheVariants as Input
@@ -79,9 +78,9 @@ record EventOk (h : History) (s : State) (e : Event) : Type 0 where
 none_ok : (h : History) → MessageOk h no_message
 none_ok h = record { counted = omega arith; ready = tt }
 
-outgoing_ok : (h : History) (o : Outgoing) → OutgoingOk h o → All (MessageOk h) (sent o)
-outgoing_ok h Nothing k = tt
-outgoing_ok h (Send m) k = (k, tt)
+outgoing_ok : (h : History) (o : Option Message) → OutgoingOk h o → All (MessageOk h) (sent o)
+outgoing_ok h None k = tt
+outgoing_ok h (Some m) k = (k, tt)
 
 module _ (h : History) (s : State) (hk : HistoryOk h) (ok : StateOk h s) where
   number : (i : ℕ) → (1 ≤ i) × (i ≤ s.n) → NodeNumber i
@@ -303,9 +302,9 @@ all_remaining P s (Deliver a b) h = all_without P a b s.queue h
 all_remaining P s (Lose a b) h = all_without P a b s.queue h
 
 -- what holds of the group of the sender's record holds of the group of the message out
-all_sent : (P : ℕ → Type 0) (g : ℕ) (o : Outgoing) → Carries g o → P g → All (λ (m : Message). carries_group m.kind ≡ true → P m.group.number) (sent o)
-all_sent P g Nothing c h = tt
-all_sent P g (Send m) c h = ((λ e. subst P (sym (c e)) h), tt)
+all_sent : (P : ℕ → Type 0) (g : ℕ) (o : Option Message) → Carries g o → P g → All (λ (m : Message). carries_group m.kind ≡ true → P m.group.number) (sent o)
+all_sent P g None c h = tt
+all_sent P g (Some m) c h = ((λ e. subst P (sym (c e)) h), tt)
 
 pub run_fixes : (rule : PairRule) (n : ℕ) (lim : Limits) → n ≤ 16 → RunFixes rule n lim
 unfolding effect wrong_activity run_from

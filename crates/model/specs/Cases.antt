@@ -1,7 +1,7 @@
 -- "Named cases": what is claimed of K1 to K13, jointly, over the definitions. Where 01 names one side of a rule, the other side stands beside it. "Wrong
 -- turnings in this protocol" follow, then further cases, those of 02's T-03 to T-06 and T-10, and the ends of what is in range; T-08's stand is beside K1 to K13. The tables are in range, and those of the tower, where nothing else is said;
 -- not each of them is one that a run reaches.
-use Rattle.std.specs.Prelude.{ℕ, ◌+◌, ◌-◌, Bool, true, false, ◌≡◌, List, [], ◌∷◌, ◌++◌, map, length, set, replicate}
+use Rattle.std.specs.Prelude.{Err, ℕ, ◌+◌, ◌-◌, Bool, true, false, ◌≡◌, List, [], ◌∷◌, ◌++◌, map, length, set, replicate}
 use Rattle.node_set.specs.NodeSet.{with, count}
 use Rattle.model.specs.Pick.{pick}
 use Rattle.model.specs.Limits.{tower, stand}
@@ -12,7 +12,7 @@ use Rattle.model.specs.Range.{TwoPairs, LeftOut, node_in_range, message_in_range
 use Rattle.model.specs.State.{State, starting_node, start_by, start, wrong_count, node_at, all_waiting, counts_aside, counts_in_range, in_range}
 use Rattle.model.specs.Step.{refused, accepted, aside, step, after, run_from, run_by, run}
 use Rattle.model.specs.History.{NoTask, Task, history}
-use Rattle.model.specs.Answers.{status_number, start_number, answer_number}
+use Rattle.model.specs.Answers.{Started, status_number, start_number, answer_number}
 use Rattle.model.specs.declared.Limits.{Limits}
 use Rattle.model.specs.declared.Status.{Status}
 use Rattle.model.specs.declared.Status.TheVariants.{Down, Election, Reorganization, Normal}
@@ -24,8 +24,8 @@ use Rattle.model.specs.declared.CallNo.{CallNo}
 use Rattle.model.specs.declared.GroupNo.{GroupNo}
 use Rattle.model.specs.declared.Message.{Message}
 use Rattle.model.specs.declared.Mark.TheVariants.{Plain, Recovers, Merges}
-use Rattle.model.specs.declared.StartAnswer.TheVariants.{Started, WrongLimits, WrongCount}
-use Rattle.model.specs.declared.Answer.TheVariants.{NotCoordinator, NoMajority, SentAtEnd}
+use Rattle.model.specs.declared.StartRefusal.TheVariants.{WrongLimits, WrongCount}
+use Rattle.model.specs.declared.Refusal.TheVariants.{NotCoordinator, NoMajority, SentAtEnd}
 use Rattle.model.specs.declared.Event.{Event}
 use Rattle.model.specs.declared.Event.TheVariants.{Crash, Recover, Check, Timeout, Tick, Expire, Finish, Deliver, Lose}
 
@@ -355,8 +355,8 @@ pub record StandCases : Type 0 where
   pub left_out : printed_fields (run_by LeftOut 2 (record { nodes = 4; messages = 64 }) (Recover 1 ∷ [])) 1 ≡ 1 ∷ 3 ∷ 1 ∷ 16 ∷ 1 ∷ 1 ∷ 0 ∷ []
   -- the numbers that a starting table is answered with: with another pair it is a table that is not in range
   pub started : start_number Started ≡ 0
-  pub wrong_limits : start_number WrongLimits ≡ 1
-  pub wrong_count_lem : start_number WrongCount ≡ 6
+  pub wrong_limits : start_number (Err WrongLimits) ≡ 1
+  pub wrong_count_lem : start_number (Err WrongCount) ≡ 6
 
 -- ── "Wrong turnings in this protocol": what happens instead. The first and the last of the five are K4 and K9. ──
 
@@ -956,7 +956,7 @@ pub record TrafficCases : Type 0 where
   pub range_pair : step (with_counts [] (only 2 2 1) (only 2 2 1) no_counts) (Crash 9) ≡ refused 1
   pub range_end : step (with_counts (some_wait 2) (only 1 2 33554431) (only 1 2 33554429) no_counts) (Crash 9) ≡ refused 1
   -- its number
-  pub number : answer_number SentAtEnd ≡ 17
+  pub number : answer_number (Err SentAtEnd) ≡ 17
   -- a row for each sender: from 1 to 2, 2 to 1, 16 to 15 and 16 to 16
   pub rows : pair_place 1 2 ∷ pair_place 2 1 ∷ pair_place 16 15 ∷ pair_place 16 16 ∷ [] ≡ 1 ∷ 16 ∷ 254 ∷ 255 ∷ []
 
@@ -1013,7 +1013,7 @@ pub record CheckCases : Type 0 where
   -- "it skips the event": what follows it is done as if it were not there
   pub skipped : run 2 tower (k10 ++ (Check 1 ∷ Check 2 ∷ [])) ≡ run 2 tower (k10 ++ (Check 2 ∷ []))
   -- its number
-  pub number : answer_number NotCoordinator ≡ 18
+  pub number : answer_number (Err NotCoordinator) ≡ 18
 
 -- ── 02, T-10: full peal only by a majority ──
 
@@ -1103,7 +1103,7 @@ pub record MajorityCases : Type 0 where
   pub both_counted_second : printed_fields (run 3 tower counted_twice) 2 ≡ 2 ∷ 3 ∷ 2 ∷ 33 ∷ 100 ∷ 2 ∷ 1 ∷ []
   pub both_counted_third : printed_fields (run 3 tower counted_twice) 3 ≡ 3 ∷ 3 ∷ 3 ∷ 34 ∷ 199 ∷ 2 ∷ 1 ∷ []
   -- its number
-  pub number : answer_number NoMajority ≡ 19
+  pub number : answer_number (Err NoMajority) ≡ 19
 
 -- ── records, messages and tables at the ends of what is in range, and just outside: node 2 of three, and messages among three ──
 

@@ -1,5 +1,5 @@
 -- What is claimed of the definitions. The proofs are in proofs/.
-use Rattle.std.specs.Prelude.{ℕ, ◌+◌, ◌-◌, ◌*◌, ◌^◌, ◌≤◌, ◌<◌, Bool, true, false, not, ◌&&◌, ◌||◌, ◌≡◌, ◌⊎◌, List, [], ◌∷◌, ◌++◌, map, eqb, leb, ltb, length, get_or, set}
+use Rattle.std.specs.Prelude.{ℕ, ◌+◌, ◌-◌, ◌*◌, ◌^◌, ◌≤◌, ◌<◌, Bool, true, false, not, ◌&&◌, ◌||◌, ◌≡◌, ◌⊎◌, List, [], ◌∷◌, ◌++◌, map, eqb, leb, ltb, length, get_or, set, Option, None, Some}
 use Rattle.node_set.specs.NodeSet.{has, with, without, highest, count}
 use Rattle.model.specs.Pick.{pick}
 use Rattle.model.specs.Limits.{node_limit, counter_end, call_end, traffic_end}
@@ -25,8 +25,6 @@ use Rattle.model.specs.declared.CallNo.{CallNo}
 use Rattle.model.specs.declared.GroupNo.{GroupNo}
 use Rattle.model.specs.declared.TaskNo.{TaskNo}
 use Rattle.model.specs.declared.Message.{Message}
-use Rattle.model.specs.declared.Outgoing.{Outgoing}
-use Rattle.model.specs.declared.Outgoing.TheVariants.{Nothing, Send}
 use Rattle.model.specs.declared.Mark.{Mark}
 use Rattle.model.specs.declared.Mark.TheVariants.{Plain, Recovers}
 use Rattle.model.specs.declared.Event.{Event}
@@ -399,19 +397,19 @@ pub record StepIsLocal : Type 0 where
 -- ── 02, T-02: higher numbers first ──
 
 -- a message goes out, to node j
-abbrev pub Sends : ℕ → Outgoing → Type 0
-Sends j Nothing = ⊥
-Sends j (Send m) = m.receiver ≡ j
+abbrev pub Sends : ℕ → Option Message → Type 0
+Sends j None = ⊥
+Sends j (Some m) = m.receiver ≡ j
 
 -- a message goes out, to a node of the set s, and no node of s is above that one
-abbrev pub SendsHighest : ℕ → Outgoing → Type 0
-SendsHighest s Nothing = ⊥
-SendsHighest s (Send m) = (has s m.receiver ≡ true) × ((k : ℕ) → has s k ≡ true → k ≤ m.receiver)
+abbrev pub SendsHighest : ℕ → Option Message → Type 0
+SendsHighest s None = ⊥
+SendsHighest s (Some m) = (has s m.receiver ≡ true) × ((k : ℕ) → has s k ≡ true → k ≤ m.receiver)
 
 -- a message goes out, to a node above j other than i, and not to one above k
-abbrev pub SendsUpward : ℕ → ℕ → ℕ → Outgoing → Type 0
-SendsUpward i j k Nothing = ⊥
-SendsUpward i j k (Send m) = (j < m.receiver) × (m.receiver ≤ k) × (m.receiver ≡ i → ⊥)
+abbrev pub SendsUpward : ℕ → ℕ → ℕ → Option Message → Type 0
+SendsUpward i j k None = ⊥
+SendsUpward i j k (Some m) = (j < m.receiver) × (m.receiver ≤ k) × (m.receiver ≡ i → ⊥)
 
 -- "whom now", of an inviting, handing or forwarding node; 0 for the others
 abbrev pub whom_now : Activity → ℕ
@@ -454,7 +452,7 @@ abbrev pub Below : ℕ → ℕ → Type 0
 Below s j = (k : ℕ) → has s k ≡ true → k < j
 
 -- an event made of its node's activity a another one, b, and sent o
-pub record Picked (a b : Activity) (o : Outgoing) : Type 0 where
+pub record Picked (a b : Activity) (o : Option Message) : Type 0 where
   -- if it calls one of a set now, the message goes to that one
   pub sends : 0 < whom_now b → Sends (whom_now b) o
   -- and those of the same set whom it is still to call are below; of an inviting node, those found

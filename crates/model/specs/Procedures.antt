@@ -1,6 +1,6 @@
 -- The procedures of one node: what it does next, each as a reaction (its new record, the message out or none, the mark for the history).
 -- No procedure speaks of a refusal: Step holds the grounds.
-use Rattle.std.specs.Prelude.{ℕ, ◌+◌, ◌-◌, Bool, not, eqb, leb, ltb}
+use Rattle.std.specs.Prelude.{ℕ, ◌+◌, ◌-◌, Bool, not, eqb, leb, ltb, Option, None, Some}
 use Rattle.node_set.specs.NodeSet.{without, highest}
 use Rattle.model.specs.Pick.{pick}
 use Rattle.model.specs.Node.{next_call, turned, calling, settled, tasked, merged, asks, calls, readies, replies}
@@ -11,26 +11,24 @@ use Rattle.model.specs.declared.Node.{Node}
 use Rattle.model.specs.declared.CallNo.{CallNo}
 use Rattle.model.specs.declared.TaskNo.{TaskNo}
 use Rattle.model.specs.declared.Message.{Message}
-use Rattle.model.specs.declared.Outgoing.{Outgoing}
-use Rattle.model.specs.declared.Outgoing.TheVariants.{Nothing, Send}
 use Rattle.model.specs.declared.Mark.{Mark}
 use Rattle.model.specs.declared.Mark.TheVariants.{Plain, Recovers, Merges}
 use Rattle.model.specs.declared.Reaction.{Reaction}
 
-abbrev pub reaction : Node → Outgoing → Mark → Reaction
+abbrev pub reaction : Node → Option Message → Mark → Reaction
 reaction c o k = record { node = c; outgoing = o; mark = k }
 
 -- the record c, and nothing sent
 abbrev pub stays : Node → Reaction
-stays c = reaction c Nothing Plain
+stays c = reaction c None Plain
 
 -- the record c, and a reply to the sender of m
 abbrev pub answers : ℕ → Node → Message → Bool → Reaction
-answers i c m y = reaction c (Send (replies i m.sender m.call y)) Plain
+answers i c m y = reaction c (Some (replies i m.sender m.call y)) Plain
 
 -- "recover i: .. 'Recovers' below means this."
 abbrev pub recovers : ℕ → Node → Reaction
-recovers i c = reaction (recovered i c) Nothing Recovers
+recovers i c = reaction (recovered i c) None Recovers
 
 -- 02, T-02: "Whoever picks the next cabinet from a set shall now pick the highest, in inviting, forwarding and handing. Asking still goes from 1 up." So 01's "Sets
 -- are walked from the lowest number up" holds of asking alone, which is ask_after.
@@ -41,10 +39,10 @@ next s = highest s
 unfoldable pub invite_next : ℕ → Node → Mark → ℕ → ℕ → Reaction
 invite_next i c k found former =
     pick (not (eqb found 0))
-    (reaction (calling c (Inviting (without found (next found)) former (next found))) (Send (calls i 3 (next found) (next_call c) c.group)) k)
+    (reaction (calling c (Inviting (without found (next found)) former (next found))) (Some (calls i 3 (next found) (next_call c) c.group)) k)
     (pick (not (eqb former 0))
-    (reaction (calling c (Inviting 0 (without former (next former)) (next former))) (Send (calls i 3 (next former) (next_call c) c.group)) k)
-    (reaction (turned c Collecting) Nothing k))
+    (reaction (calling c (Inviting 0 (without former (next former)) (next former))) (Some (calls i 3 (next former) (next_call c) c.group)) k)
+    (reaction (turned c Collecting) None k))
 
 -- "merge: Election; counter plus one, new group, coordinator i; members are set aside and emptied."
 unfoldable pub merges : ℕ → Node → ℕ → Reaction
@@ -56,7 +54,7 @@ hand_next i c rest =
     pick (eqb rest 0)
     (stays (settled c Normal))
     (reaction (calling c (Handing (without rest (next rest)) (next rest)))
-    (Send (readies i (next rest) (next_call c) c.group c.task)) Plain)
+    (Some (readies i (next rest) (next_call c) c.group c.task)) Plain)
 
 -- "finish i with task t: Reorganization, task t."
 unfoldable pub finishes : ℕ → Node → TaskNo → Reaction
@@ -67,9 +65,9 @@ unfoldable pub forward_next : ℕ → Node → ℕ → ℕ → CallNo → Reacti
 forward_next i c rest caller call =
     pick (eqb rest 0)
     (reaction (calling c (Accepting caller call))
-    (Send (calls i 4 c.coordinator (next_call c) c.group)) Plain)
+    (Some (calls i 4 c.coordinator (next_call c) c.group)) Plain)
     (reaction (calling c (Forwarding (without rest (next rest)) (next rest) caller call))
-    (Send (calls i 3 (next rest) (next_call c) c.group)) Plain)
+    (Some (calls i 3 (next rest) (next_call c) c.group)) Plain)
 
 -- "After the last: none found, idle. Else let p be the highest found: if i < p it waits p − i ticks, else it merges."
 unfoldable pub asked_all : ℕ → Node → ℕ → Reaction
@@ -84,7 +82,7 @@ asked_all i c found =
 unfoldable pub ask_at : ℕ → ℕ → Node → ℕ → ℕ → Reaction
 ask_at n i c j found =
     pick (leb j n)
-    (reaction (calling c (Asking j found)) (Send (asks i j (next_call c))) Plain)
+    (reaction (calling c (Asking j found)) (Some (asks i j (next_call c))) Plain)
     (asked_all i c found)
 
 -- "it asks every other cabinet in turn"; 02, T-02: "from 1 up". The one after j is asked, i itself left out.

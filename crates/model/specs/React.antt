@@ -1,7 +1,7 @@
 -- The local step of one node: what it does with an event, and on delivery. It sees the number of nodes, its own number, its own record and the input.
 -- Where Step refuses an event by the table, by its numbers, by the node's record and n, or for want of a message (1, 7 to 11, 18, 19), what is written here does not matter.
 -- Grounds 12 to 14 and 17 are read off what is written here.
-use Rattle.std.specs.Prelude.{ℕ, ◌-◌, Bool, true, not, ◌&&◌, ◌||◌, eqb, ltb}
+use Rattle.std.specs.Prelude.{ℕ, ◌-◌, Bool, true, not, ◌&&◌, ◌||◌, eqb, ltb, Some}
 use Rattle.node_set.specs.NodeSet.{has, with}
 use Rattle.model.specs.Pick.{pick}
 use Rattle.model.specs.Node.{is_election, is_reorganization, is_normal, owner_of, next_call, turned, calling, settled, tasked, joined, invited, calls, replies}
@@ -12,7 +12,6 @@ use Rattle.model.specs.declared.Activity.TheVariants.{Idle, Asking, Waiting, Inv
 use Rattle.model.specs.declared.Node.{Node}
 use Rattle.model.specs.declared.GroupNo.{GroupNo}
 use Rattle.model.specs.declared.Message.{Message}
-use Rattle.model.specs.declared.Outgoing.TheVariants.{Send}
 use Rattle.model.specs.declared.Mark.TheVariants.{Plain}
 use Rattle.model.specs.declared.Reaction.{Reaction}
 use Rattle.model.specs.declared.Input.{Input}
@@ -32,7 +31,7 @@ unfoldable pub timed_out : ℕ → Node → Reaction
 timed_out i c =
     pick (eqb c.coordinator i)
     (stays c)
-    (reaction (calling c Contacting) (Send (calls i 2 c.coordinator (next_call c) c.group)) Plain)
+    (reaction (calling c Contacting) (Some (calls i 2 c.coordinator (next_call c) c.group)) Plain)
 
 -- "tick i: one tick less; at none it merges." By the activity, which is waiting.
 unfoldable pub ticked : ℕ → Node → Activity → Reaction
@@ -70,7 +69,7 @@ resumed n i c y Collecting = stays c
 resumed n i c y (Handing rest now) = hand_next i c rest
 resumed n i c y Contacting = pick y (stays (turned c Idle)) (recovers i c)
 resumed n i c y (Forwarding rest now caller call) = forward_next i c rest caller call
-resumed n i c y (Accepting caller call) = reaction (settled c Reorganization) (Send (replies i caller call true)) Plain
+resumed n i c y (Accepting caller call) = reaction (settled c Reorganization) (Some (replies i caller call true)) Plain
 
 -- ── on delivery, by the kind ──
 

@@ -1,5 +1,5 @@
 -- The step: the table of grounds, the effect of an event, and runs.
-use Rattle.std.specs.Prelude.{ℕ, ◌-◌, Bool, true, false, not, ◌&&◌, List, [], ◌∷◌, ◌++◌, eqb, ltb, length, set}
+use Rattle.std.specs.Prelude.{ℕ, ◌-◌, Bool, true, false, not, ◌&&◌, List, [], ◌∷◌, ◌++◌, eqb, ltb, length, set, Option, None, Some}
 use Rattle.model.specs.Grounds.{Ground, ground, judged}
 use Rattle.model.specs.Limits.{counter_end, call_end, traffic_end}
 use Rattle.model.specs.Counts.{count_at, one_more}
@@ -13,8 +13,6 @@ use Rattle.model.specs.declared.Status.{Status}
 use Rattle.model.specs.declared.Activity.{Activity}
 use Rattle.model.specs.declared.Node.{Node}
 use Rattle.model.specs.declared.Message.{Message}
-use Rattle.model.specs.declared.Outgoing.{Outgoing}
-use Rattle.model.specs.declared.Outgoing.TheVariants.{Nothing, Send}
 use Rattle.model.specs.declared.Mark.{Mark}
 use Rattle.model.specs.declared.Mark.TheVariants.{Plain, Recovers, Merges}
 use Rattle.model.specs.declared.Reaction.{Reaction}
@@ -74,14 +72,14 @@ remaining s (Finish i t) = s.queue
 remaining s (Deliver a b) = without_oldest a b s.queue
 remaining s (Lose a b) = without_oldest a b s.queue
 
-abbrev pub sent : Outgoing → List Message
-sent Nothing = []
-sent (Send m) = m ∷ []
+abbrev pub sent : Option Message → List Message
+sent None = []
+sent (Some m) = m ∷ []
 
 -- T-05: the counts with what is sent, with what the event delivers, and with what it loses
-abbrev pub with_sent : List ℕ → Outgoing → List ℕ
-with_sent l Nothing = l
-with_sent l (Send m) = one_more l m.sender m.receiver
+abbrev pub with_sent : List ℕ → Option Message → List ℕ
+with_sent l None = l
+with_sent l (Some m) = one_more l m.sender m.receiver
 
 abbrev pub with_delivered : List ℕ → Event → List ℕ
 with_delivered l (Crash i) = l
@@ -212,19 +210,19 @@ forms Recovers = true
 forms Merges = true
 
 -- 13: "a call is needed": what is sent is no reply
-abbrev pub is_calling : Outgoing → Bool
-is_calling Nothing = false
-is_calling (Send m) = ltb m.kind 6
+abbrev pub is_calling : Option Message → Bool
+is_calling None = false
+is_calling (Some m) = ltb m.kind 6
 
 -- 14: "a message is needed"
-abbrev pub is_sending : Outgoing → Bool
-is_sending Nothing = false
-is_sending (Send m) = true
+abbrev pub is_sending : Option Message → Bool
+is_sending None = false
+is_sending (Some m) = true
 
 -- 17: "a message must be sent and its pair's sent count is 33,554,430", by the counts of what was sent
-abbrev pub pair_at_end : List ℕ → Outgoing → Bool
-pair_at_end l Nothing = false
-pair_at_end l (Send m) = eqb (count_at l m.sender m.receiver) traffic_end
+abbrev pub pair_at_end : List ℕ → Option Message → Bool
+pair_at_end l None = false
+pair_at_end l (Some m) = eqb (count_at l m.sender m.receiver) traffic_end
 
 -- the table of grounds of an event, in 01's order, with 02's 17, 18 and 19 in their places; 2 to 6 are the list's, 15 is the listing's, 16 and 22 those of the programs of T-01 and T-12, and 20 and 21 a controller's (T-11)
 unfoldable pub grounds : State → Event → List Ground

@@ -2,7 +2,7 @@
 use Prim.Native.Nat.{ℕ, zero, suc, ◌+◌, ◌-◌, ◌*◌, ◌^◌, ◌%◌, ◌/◌, ◌≤◌, ◌<◌, min}
 use mathlib.Core.Path.{◌≡◌, refl, sym, ap, ◌∙◌, subst}
 use mathlib.Core.Bool.{Bool, true, false, true≢false}
-use native.Mathlib.Nat.{mod-eq_of_lt, one-mul, pow-suc, div-div-eq-div-mul, mul_comm, div-one, div_self, div-eq_of_lt, div-eq_of_lt-le, add-sub_cancel}
+use native.Mathlib.Nat.{mod-eq_of_lt, pow-suc, div-div-eq-div-mul, mul_comm, div-one, div_self, div-eq_of_lt, div-eq_of_lt-le, add-sub_cancel}
 use native.Mathlib.Nat.{lt_of_le_of_lt, lt_of_lt_of_le, lt_of_not-le, mod-lt, min-zero, min-le_left, min-eq_left}
 use native.Mathlib.Omega.{arith}
 use lib.Dec.{eqb, lit<}
@@ -12,10 +12,6 @@ use lib.Count.{ones, ones-le, ones_step, ones-ones, leading_of_zero, leading_top
 use borrow.Author.Tests.{eqb-false, eqb-true, eq-eqb, ne_eqb, ltb-true, lt-ltb}
 use Rattle.node_set.specs.NodeSet.{bit_of, has, with, without, highest, count, up_to, within}
 use Rattle.node_set.specs.Claims.{SetLaws}
-
--- one shifted by k in a word of more than k bits
-pub one_shifted : (k w : ℕ) → k < w → 1 * 2 ^ k % 2 ^ w ≡ 2 ^ k
-one_shifted k w h = rw one-mul (mod-eq_of_lt (pow-lt {j = w} h))
 
 -- ---- binary digits
 

@@ -4,6 +4,8 @@
 ghost use Rattle.std.specs.Prelude.{◌≡◌, ◌≤◌};
 ghost use Rattle.node_set.specs.NodeSet as spec;
 
+// kept: a node is a u8 with a clause, here and in node_step and bully_machine: an event or a table may name any number, 0 for none among them, and what is outside 1 to 16 is refused with a
+// number. A type for 1 to 16 would be made anew from the u8 at each call. So with n, how many nodes there are.
 // The set of node `i` alone.
 fn bit_of(i: u8) -> u16
     requires { (1 ≤ i) × (i ≤ 16) }
@@ -37,17 +39,18 @@ pub fn remove(s: u16, i: u8) -> u16
 }
 
 // The node of `s` with the highest number; 0 for the empty set.
+// kept: no Option, since `highest` of specs/NodeSet is 0 there, and `next` of model's specs/Procedures goes by it.
 pub fn highest(s: u16) -> u8
     ensures { result ≡ spec.highest s }
 {
-    16 - (u16::leading_zeros(s) as u8)
+    16 - (s.leading_zeros() as u8)
 }
 
 // How many nodes `s` has.
 pub fn count(s: u16) -> u32
     ensures { result ≡ spec.count s }
 {
-    u16::count_ones(s)
+    s.count_ones()
 }
 
 // All nodes, 1 to `n`.

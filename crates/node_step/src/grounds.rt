@@ -6,21 +6,20 @@ ghost use Rattle.model.specs.Step as spec;
 ghost use Rattle.node_step.specs.Grounds.{number_grounds, node_grounds, own_end_grounds};
 
 use crate::{leads, node, range, step};
-use model::{Activity, Answer, Event, Node, Reaction, Status};
+use model::{Activity, Answer, Event, Node, Reaction, Refusal, Status};
 
 fn wrong_number(n: u8, e: Event) -> bool
     ensures { result ≡ spec.wrong_number n e }
 {
     match e {
-        Event::Crash(i) => !predicates::is_node(n, i),
-        Event::Recover(i) => !predicates::is_node(n, i),
-        Event::Check(i) => !predicates::is_node(n, i),
-        Event::Timeout(i) => !predicates::is_node(n, i),
-        Event::Tick(i) => !predicates::is_node(n, i),
-        Event::Expire(i) => !predicates::is_node(n, i),
-        Event::Finish(i, _) => !predicates::is_node(n, i),
-        Event::Deliver(a, b) => !predicates::is_pair(n, a, b),
-        Event::Lose(a, b) => !predicates::is_pair(n, a, b),
+        Event::Crash(i)
+        | Event::Recover(i)
+        | Event::Check(i)
+        | Event::Timeout(i)
+        | Event::Tick(i)
+        | Event::Expire(i)
+        | Event::Finish(i, _) => !predicates::is_node(n, i),
+        Event::Deliver(a, b) | Event::Lose(a, b) => !predicates::is_pair(n, a, b),
     }
 }
 
@@ -28,15 +27,8 @@ fn wrong_task(e: Event) -> bool
     ensures { result ≡ spec.wrong_task e }
 {
     match e {
-        Event::Crash(_) => false,
-        Event::Recover(_) => false,
-        Event::Check(_) => false,
-        Event::Timeout(_) => false,
-        Event::Tick(_) => false,
-        Event::Expire(_) => false,
         Event::Finish(_, t) => !predicates::is_given_task(t),
-        Event::Deliver(_, _) => false,
-        Event::Lose(_, _) => false,
+        _ => false,
     }
 }
 
@@ -45,15 +37,9 @@ fn wrong_status(s: Status, e: Event) -> bool
 {
     let down = predicates::is_down(s);
     match e {
-        Event::Crash(_) => down,
         Event::Recover(_) => !down,
-        Event::Check(_) => down,
-        Event::Timeout(_) => down,
-        Event::Tick(_) => down,
-        Event::Expire(_) => down,
-        Event::Finish(_, _) => down,
-        Event::Deliver(_, _) => down,
         Event::Lose(_, _) => false,
+        _ => down,
     }
 }
 
@@ -61,15 +47,11 @@ fn wrong_activity(a: Activity, e: Event) -> bool
     ensures { result ≡ spec.wrong_activity a e }
 {
     match e {
-        Event::Crash(_) => false,
-        Event::Recover(_) => false,
-        Event::Check(_) => !node::is_idle(a),
-        Event::Timeout(_) => !node::is_idle(a),
+        Event::Check(_) | Event::Timeout(_) => !node::is_idle(a),
         Event::Tick(_) => !node::is_waiting(a),
         Event::Expire(_) => !node::has_open_call(a),
         Event::Finish(_, _) => !node::is_collecting(a),
-        Event::Deliver(_, _) => false,
-        Event::Lose(_, _) => false,
+        _ => false,
     }
 }
 
@@ -77,15 +59,8 @@ fn not_coordinator(c: Node, e: Event) -> bool
     ensures { result ≡ spec.not_coordinator c e }
 {
     match e {
-        Event::Crash(_) => false,
-        Event::Recover(_) => false,
         Event::Check(i) => !leads(i, c),
-        Event::Timeout(_) => false,
-        Event::Tick(_) => false,
-        Event::Expire(_) => false,
-        Event::Finish(_, _) => false,
-        Event::Deliver(_, _) => false,
-        Event::Lose(_, _) => false,
+        _ => false,
     }
 }
 
@@ -93,64 +68,57 @@ fn no_majority(n: u8, c: Node, e: Event) -> bool
     ensures { result ≡ spec.no_majority n c e }
 {
     match e {
-        Event::Crash(_) => false,
-        Event::Recover(_) => false,
-        Event::Check(_) => false,
-        Event::Timeout(_) => false,
-        Event::Tick(_) => false,
-        Event::Expire(_) => false,
-        Event::Finish(_, t) => predicates::is_full_peal(t)
-            & predicates::is_at_most_half(n, c.members),
-        Event::Deliver(_, _) => false,
-        Event::Lose(_, _) => false,
+        Event::Finish(_, t) => {
+            predicates::is_full_peal(t) & predicates::is_at_most_half(n, c.members)
+        }
+        _ => false,
     }
 }
 
 // Grounds 7 and 8.
+#[tactic(auto, unfolding(model::specs::Grounds::first, model::specs::Pick::pick))]
 pub fn number_answer(n: u8, e: Event) -> Answer
     ensures { answer_number result ≡ first (number_grounds n e) }
 {
     if wrong_number(n, e) {
-        return Answer::WrongNumber;
+        return Err(Refusal::WrongNumber);
     }
     if wrong_task(e) {
-        return Answer::WrongTask;
+        return Err(Refusal::WrongTask);
     }
-    Answer::Accepted
+    Ok(())
 }
 
 // Grounds 9, 10, 18 and 19; c is the record of the event's node.
+#[tactic(auto, unfolding(model::specs::Grounds::first, model::specs::Pick::pick))]
 pub fn node_answer(n: u8, c: Node, e: Event) -> Answer
     ensures { answer_number result ≡ first (node_grounds n c e) }
 {
-    let status = c.status;
-    let activity = c.activity;
-    if wrong_status(status, e) {
-        return Answer::WrongStatus;
+    if wrong_status(c.status, e) {
+        return Err(Refusal::WrongStatus);
     }
-    if wrong_activity(activity, e) {
-        return Answer::WrongActivity;
+    if wrong_activity(c.activity, e) {
+        return Err(Refusal::WrongActivity);
     }
     if not_coordinator(c, e) {
-        return Answer::NotCoordinator;
+        return Err(Refusal::NotCoordinator);
     }
     if no_majority(n, c, e) {
-        return Answer::NoMajority;
+        return Err(Refusal::NoMajority);
     }
-    Answer::Accepted
+    Ok(())
 }
 
 // Grounds 12 and 13: the ends of the node's own numbers; r is what it does.
+#[tactic(auto, unfolding(model::specs::Grounds::first, model::specs::Pick::pick))]
 pub fn own_end_answer(c: Node, r: Reaction) -> Answer
     ensures { answer_number result ≡ first (own_end_grounds c r) }
 {
-    let mark = r.mark;
-    let outgoing = r.outgoing;
-    if step::forms(mark) & (c.counter == range::COUNTER_END) {
-        return Answer::CounterAtEnd;
+    if step::forms(r.mark) & (c.counter == range::COUNTER_END) {
+        return Err(Refusal::CounterAtEnd);
     }
-    if step::is_calling(outgoing) & (c.last.number == range::CALL_END) {
-        return Answer::CallsAtEnd;
+    if step::is_calling(r.outgoing) & (c.last.number == range::CALL_END) {
+        return Err(Refusal::CallsAtEnd);
     }
-    Answer::Accepted
+    Ok(())
 }

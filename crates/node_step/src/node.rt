@@ -5,104 +5,37 @@ ghost use Rattle.model.specs.Node as spec;
 
 use model::{Activity, CallNo, GroupNo, Message, Node, Status, TaskNo};
 
+// kept: here and below a function for each definition of model's specs/Node, by its name; each is one `matches!`.
 pub fn is_idle(a: Activity) -> bool
     ensures { result ≡ spec.is_idle a }
 {
-    match a {
-        Activity::Idle => true,
-        Activity::Asking { asked: _, found: _ } => false,
-        Activity::Waiting { ticks: _, found: _ } => false,
-        Activity::Inviting {
-            found: _,
-            former: _,
-            now: _,
-        } => false,
-        Activity::Collecting => false,
-        Activity::Handing { rest: _, now: _ } => false,
-        Activity::Contacting => false,
-        Activity::Forwarding {
-            rest: _,
-            now: _,
-            caller: _,
-            call: _,
-        } => false,
-        Activity::Accepting { caller: _, call: _ } => false,
-    }
+    matches!(a, Activity::Idle)
 }
 
 pub fn is_waiting(a: Activity) -> bool
     ensures { result ≡ spec.is_waiting a }
 {
-    match a {
-        Activity::Idle => false,
-        Activity::Asking { asked: _, found: _ } => false,
-        Activity::Waiting { ticks: _, found: _ } => true,
-        Activity::Inviting {
-            found: _,
-            former: _,
-            now: _,
-        } => false,
-        Activity::Collecting => false,
-        Activity::Handing { rest: _, now: _ } => false,
-        Activity::Contacting => false,
-        Activity::Forwarding {
-            rest: _,
-            now: _,
-            caller: _,
-            call: _,
-        } => false,
-        Activity::Accepting { caller: _, call: _ } => false,
-    }
+    matches!(a, Activity::Waiting { .. })
 }
 
 pub fn is_collecting(a: Activity) -> bool
     ensures { result ≡ spec.is_collecting a }
 {
-    match a {
-        Activity::Idle => false,
-        Activity::Asking { asked: _, found: _ } => false,
-        Activity::Waiting { ticks: _, found: _ } => false,
-        Activity::Inviting {
-            found: _,
-            former: _,
-            now: _,
-        } => false,
-        Activity::Collecting => true,
-        Activity::Handing { rest: _, now: _ } => false,
-        Activity::Contacting => false,
-        Activity::Forwarding {
-            rest: _,
-            now: _,
-            caller: _,
-            call: _,
-        } => false,
-        Activity::Accepting { caller: _, call: _ } => false,
-    }
+    matches!(a, Activity::Collecting)
 }
 
 pub fn has_open_call(a: Activity) -> bool
     ensures { result ≡ spec.has_open_call a }
 {
-    match a {
-        Activity::Idle => false,
-        Activity::Asking { asked: _, found: _ } => true,
-        Activity::Waiting { ticks: _, found: _ } => false,
-        Activity::Inviting {
-            found: _,
-            former: _,
-            now: _,
-        } => true,
-        Activity::Collecting => false,
-        Activity::Handing { rest: _, now: _ } => true,
-        Activity::Contacting => true,
-        Activity::Forwarding {
-            rest: _,
-            now: _,
-            caller: _,
-            call: _,
-        } => true,
-        Activity::Accepting { caller: _, call: _ } => true,
-    }
+    matches!(
+        a,
+        Activity::Asking { .. }
+            | Activity::Inviting { .. }
+            | Activity::Handing { .. }
+            | Activity::Contacting
+            | Activity::Forwarding { .. }
+            | Activity::Accepting { .. }
+    )
 }
 
 pub fn group_of(counter: u32, owner: u8) -> GroupNo
@@ -208,6 +141,7 @@ pub fn invited(c: Node, g: GroupNo) -> Node
     }
 }
 
+// kept: a function for each definition of a message, by its name; what they have in common is the struct.
 pub fn asks(i: u8, r: u8, k: CallNo) -> Message
     ensures { result ≡ spec.asks i r k }
 {

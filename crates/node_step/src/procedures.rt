@@ -1,14 +1,14 @@
 // The procedures of one node: the definitions of model's specs/Procedures as functions.
-ghost use Rattle.std.specs.Prelude.{◌≡◌, ◌≤◌, ◌<◌};
+ghost use Rattle.std.specs.Prelude.{Some, ◌≡◌, ◌≤◌, ◌<◌};
 ghost use Rattle.model.specs.Limits.{node_limit, counter_end, call_end};
 ghost use Rattle.model.specs.Node.{next_call, calling, calls};
 ghost use Rattle.model.specs.Procedures as spec;
 ghost use Rattle.node_step.specs.Fits.{Fits};
 
 use crate::{node, recovery};
-use model::{Activity, CallNo, Mark, Message, Node, Outgoing, Reaction, Status, TaskNo};
+use model::{Activity, CallNo, Mark, Message, Node, Reaction, Status, TaskNo};
 
-pub fn reaction(c: Node, o: Outgoing, k: Mark) -> Reaction
+pub fn reaction(c: Node, o: Option<Message>, k: Mark) -> Reaction
     ensures { result ≡ spec.reaction c o k }
 {
     Reaction {
@@ -23,7 +23,7 @@ pub fn stays(c: Node) -> Reaction
 {
     Reaction {
         node: c,
-        outgoing: Outgoing::Nothing,
+        outgoing: None,
         mark: Mark::Plain,
     }
 }
@@ -32,28 +32,23 @@ pub fn answers(i: u8, c: Node, m: Message, y: bool) -> Reaction
     ensures { result ≡ spec.answers i c m y }
 {
     let call = m.call;
-    reaction(
-        c,
-        Outgoing::Send(node::replies(i, m.sender, call, y)),
-        Mark::Plain,
-    )
+    reaction(c, Some(node::replies(i, m.sender, call, y)), Mark::Plain)
 }
 
 pub fn recovers(i: u8, c: Node) -> Reaction
     requires { (1 ≤ i) × (c.counter ≤ counter_end) }
     ensures { result ≡ spec.recovers i c }
 {
-    reaction(recovery::recovered(i, c), Outgoing::Nothing, Mark::Recovers)
+    reaction(recovery::recovered(i, c), None, Mark::Recovers)
 }
 
 // Node `i` calls node `to`, with its group, in activity `a`.
 pub fn call(i: u8, c: Node, a: Activity, kind: u8, to: u8, k: Mark) -> Reaction
     requires { c.last.number ≤ call_end }
-    ensures { result ≡ spec.reaction (calling c a) (Outgoing.Send (calls i kind to (next_call c) c.group)) k }
+    ensures { result ≡ spec.reaction (calling c a) (Some (calls i kind to (next_call c) c.group)) k }
 {
-    let group = c.group;
-    let m = node::calls(i, kind, to, node::next_call(c), group);
-    reaction(node::calling(c, a), Outgoing::Send(m), k)
+    let m = node::calls(i, kind, to, node::next_call(c), c.group);
+    reaction(node::calling(c, a), Some(m), k)
 }
 
 // Whom inviting, forwarding and handing take next: the highest of the set.
@@ -64,6 +59,7 @@ pub fn next_of(s: u16) -> u8
     node_set::highest(s)
 }
 
+#[tactic(auto, unfolding(model::specs::Procedures::invite_next, model::specs::Pick::pick))]
 pub fn invite_next(i: u8, c: Node, k: Mark, found: u16, former: u16) -> Reaction
     requires { c.last.number ≤ call_end }
     ensures { result ≡ spec.invite_next i c k found former }
@@ -100,9 +96,10 @@ pub fn invite_next(i: u8, c: Node, k: Mark, found: u16, former: u16) -> Reaction
             k,
         );
     }
-    reaction(node::turned(c, Activity::Collecting), Outgoing::Nothing, k)
+    reaction(node::turned(c, Activity::Collecting), None, k)
 }
 
+#[tactic(auto, unfolding(model::specs::Procedures::merges, model::specs::Pick::pick))]
 pub fn merges(i: u8, c: Node, found: u16) -> Reaction
     requires { Fits i c }
     ensures { result ≡ spec.merges i c found }
@@ -112,6 +109,7 @@ pub fn merges(i: u8, c: Node, found: u16) -> Reaction
     invite_next(i, d, Mark::Merges, found, c.members)
 }
 
+#[tactic(auto, unfolding(model::specs::Procedures::hand_next, model::specs::Pick::pick))]
 pub fn hand_next(i: u8, c: Node, rest: u16) -> Reaction
     requires { c.last.number ≤ call_end }
     ensures { result ≡ spec.hand_next i c rest }
@@ -121,9 +119,7 @@ pub fn hand_next(i: u8, c: Node, rest: u16) -> Reaction
     }
     let now = next_of(rest);
     let others = node_set::remove(rest, now);
-    let group = c.group;
-    let task = c.task;
-    let m = node::readies(i, now, node::next_call(c), group, task);
+    let m = node::readies(i, now, node::next_call(c), c.group, c.task);
     reaction(
         node::calling(
             c,
@@ -132,11 +128,12 @@ pub fn hand_next(i: u8, c: Node, rest: u16) -> Reaction
                 now: now,
             },
         ),
-        Outgoing::Send(m),
+        Some(m),
         Mark::Plain,
     )
 }
 
+#[tactic(auto, unfolding(model::specs::Procedures::finishes, model::specs::Pick::pick))]
 pub fn finishes(i: u8, c: Node, t: TaskNo) -> Reaction
     requires { c.last.number ≤ call_end }
     ensures { result ≡ spec.finishes i c t }
@@ -144,6 +141,7 @@ pub fn finishes(i: u8, c: Node, t: TaskNo) -> Reaction
     hand_next(i, node::tasked(c, Status::Reorganization, t), c.members)
 }
 
+#[tactic(auto, unfolding(model::specs::Procedures::forward_next, model::specs::Pick::pick))]
 pub fn forward_next(i: u8, c: Node, rest: u16, caller: u8, k: CallNo) -> Reaction
     requires { c.last.number ≤ call_end }
     ensures { result ≡ spec.forward_next i c rest caller k }
@@ -178,6 +176,7 @@ pub fn forward_next(i: u8, c: Node, rest: u16, caller: u8, k: CallNo) -> Reactio
     )
 }
 
+#[tactic(auto, unfolding(model::specs::Procedures::asked_all, model::specs::Pick::pick))]
 pub fn asked_all(i: u8, c: Node, found: u16) -> Reaction
     requires { Fits i c }
     ensures { result ≡ spec.asked_all i c found }
@@ -198,6 +197,7 @@ pub fn asked_all(i: u8, c: Node, found: u16) -> Reaction
     merges(i, c, found)
 }
 
+#[tactic(auto, unfolding(model::specs::Procedures::ask_at, model::specs::Pick::pick))]
 pub fn ask_at(n: u8, i: u8, c: Node, j: u8, found: u16) -> Reaction
     requires { Fits i c }
     ensures { result ≡ spec.ask_at n i c j found }
@@ -212,13 +212,14 @@ pub fn ask_at(n: u8, i: u8, c: Node, j: u8, found: u16) -> Reaction
                     found: found,
                 },
             ),
-            Outgoing::Send(m),
+            Some(m),
             Mark::Plain,
         );
     }
     asked_all(i, c, found)
 }
 
+#[tactic(auto, unfolding(model::specs::Procedures::ask_after, model::specs::Pick::pick))]
 pub fn ask_after(n: u8, i: u8, c: Node, j: u8, found: u16) -> Reaction
     requires { Fits i c × (j ≤ node_limit) }
     ensures { result ≡ spec.ask_after n i c j found }

@@ -25,6 +25,7 @@ fn is_call(k: CallNo) -> bool
     (1 <= k.number) & (k.number <= CALL_END)
 }
 
+#[tactic(auto, unfolding(model::specs::Range::activity_in_range))]
 fn activity_in_range(n: u8, i: u8, g: GroupNo, t: TaskNo, a: Activity) -> bool
     requires { (1 ≤ i) × (i ≤ node_limit) × (n ≤ node_limit) }
     ensures { result ≡ spec.activity_in_range n i g.number t.number a }
@@ -76,24 +77,21 @@ fn is_led(n: u8, down: bool, g: GroupNo, coordinator: u8) -> bool
     down | (is_group(n, g) & (node::owner_of(g) == coordinator))
 }
 
+#[tactic(auto, unfolding(model::specs::Range::node_in_range))]
 pub fn node_in_range(n: u8, i: u8, c: Node) -> bool
     requires { (1 ≤ i) × (i ≤ node_limit) × (n ≤ node_limit) }
     ensures { result ≡ spec.node_in_range n i c }
 {
-    let status = c.status;
-    let group = c.group;
-    let task = c.task;
-    let activity = c.activity;
-    let down = predicates::is_down(status);
+    let down = predicates::is_down(c.status);
     (c.counter <= COUNTER_END)
-        & is_group_or_none(n, group)
+        & is_group_or_none(n, c.group)
         & (c.coordinator <= n)
         & (c.task.number <= predicates::TASK_END)
         & predicates::is_set_of_others(n, i, c.members)
         & (c.last.number <= CALL_END)
-        & is_led(n, down, group, c.coordinator)
-        & (!down | node::is_idle(activity))
-        & activity_in_range(n, i, group, task, activity)
+        & is_led(n, down, c.group, c.coordinator)
+        & (!down | node::is_idle(c.activity))
+        & activity_in_range(n, i, c.group, c.task, c.activity)
 }
 
 pub fn carries_group(kind: u8) -> bool
@@ -102,16 +100,14 @@ pub fn carries_group(kind: u8) -> bool
     (2 <= kind) & (kind <= 5)
 }
 
+#[tactic(auto, unfolding(model::specs::Range::message_in_range))]
 pub fn message_in_range(n: u8, m: Message) -> bool
     ensures { result ≡ spec.message_in_range n m }
 {
-    let call = m.call;
-    let group = m.group;
-    let task = m.task;
     predicates::is_node(n, m.sender)
         & predicates::is_other(n, m.sender, m.receiver)
         & ((1 <= m.kind) & (m.kind <= 6))
-        & is_call(call)
-        & (!carries_group(m.kind) | is_group(n, group))
-        & (!(m.kind == 5) | predicates::is_given_task(task))
+        & is_call(m.call)
+        & (!carries_group(m.kind) | is_group(n, m.group))
+        & (!(m.kind == 5) | predicates::is_given_task(m.task))
 }

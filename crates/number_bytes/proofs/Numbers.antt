@@ -1,13 +1,15 @@
 -- Numbers of k bytes: what the code's sums and quotients are, and that a number is read back from its bytes.
-use Prim.Native.Nat.{ℕ, zero, suc, ◌+◌, ◌*◌, ◌/◌, ◌%◌, ◌^◌, ◌≤◌, ◌<◌}
+use Prim.Native.Nat.{ℕ, zero, suc, ◌+◌, ◌/◌, ◌%◌, ◌^◌, ◌≤◌, ◌<◌}
 use native.Mathlib.Nat.{mod-one, mod-eq_of_lt, pow-succ'}
 use lib.Arith.{mod-mul}
 use native.Mathlib.Numerals.{add-one}
 use native.Mathlib.Omega.{arith}
-use mathlib.Core.Path.{◌≡◌, refl, sym, ◌∙◌, ap}
+use mathlib.Core.Path.{◌≡◌, refl, sym, ◌∙◌}
 use mathlib.Core.List.{List, [], ◌∷◌, ◌++◌}
 use lib.ListN.{length, get_or, drop, set}
 use lib.Seq.{get_or-append-add, sets, sets-eq}
+use Rattle.std.specs.Int.{w16, w32, to_be_bytes, from_be_bytes}
+pub use Rattle.number_bytes.specs.Sizes.{length_bytes}
 use Rattle.number_bytes.specs.Bytes.{number, bytes, written}
 
 -- ── reading ──
@@ -16,15 +18,16 @@ pub one_is : (l : List ℕ) (k : ℕ) → number 1 l k ≡ get_or l k 0
 unfolding number
 one_is l k = omega arith
 
-pub two_is : (l : List ℕ) (k : ℕ) → number 2 l k ≡ get_or l k 0 * 256 + get_or l (k + 1) 0
+pub two_is : (l : List ℕ) (k : ℕ) → number 2 l k ≡ from_be_bytes w16 (get_or l k 0 ∷ get_or l (k + 1) 0 ∷ [])
 unfolding number
 two_is l k = omega arith
 
-pub four_is : (l : List ℕ) (k : ℕ) → number 4 l k ≡ number 2 l k * 65536 + number 2 l (k + 2)
+pub four_is : (l : List ℕ) (k : ℕ) → number 4 l k ≡ from_be_bytes w32 (get_or l k 0 ∷ get_or l (k + 1) 0 ∷ get_or l (k + 2) 0 ∷ get_or l (k + 3) 0 ∷ [])
 unfolding number
 four_is l k =
-    let e : k + 2 ≡ k + 1 + 1 = omega arith in
-    rw e (omega arith)
+    let e : k + 1 + 1 ≡ k + 2 = omega arith in
+    let f : k + 2 + 1 ≡ k + 3 = omega arith in
+    rw (e, f) (omega arith)
 
 -- ── writing ──
 
@@ -34,21 +37,13 @@ one_bytes x h =
     let e : x / 1 % 256 ≡ x = omega arith in
     rw e
 
-pub two_bytes : (x : ℕ) → x < 65536 → bytes 2 x ≡ x / 256 ∷ x % 256 ∷ []
+pub two_bytes : (x : ℕ) → bytes 2 x ≡ to_be_bytes w16 x
 unfolding bytes
-two_bytes x h =
-    let e : x / 256 % 256 ≡ x / 256 = omega arith in
-    let f : x / 1 % 256 ≡ x % 256 = omega arith in
-    rw (e, f)
+two_bytes x = let e : x / 1 ≡ x = omega arith in rw e
 
-pub four_bytes : (x : ℕ) → bytes 4 x ≡ bytes 2 (x / 65536) ++ bytes 2 (x % 65536)
+pub four_bytes : (x : ℕ) → bytes 4 x ≡ to_be_bytes w32 x
 unfolding bytes
-four_bytes x =
-    let a : x / 65536 / 256 % 256 ≡ x / 16777216 % 256 = omega arith in
-    let b : x / 65536 / 1 % 256 ≡ x / 65536 % 256 = omega arith in
-    let c : x % 65536 / 256 % 256 ≡ x / 256 % 256 = omega arith in
-    let d : x % 65536 / 1 % 256 ≡ x / 1 % 256 = omega arith in
-    rw (a, b, c, d)
+four_bytes x = let e : x / 1 ≡ x = omega arith in rw e
 
 -- bytes written one after another
 pub written_append : (out : List ℕ) (at : ℕ) (a b : List ℕ) → written out at (a ++ b) ≡ written (written out at a) (at + length a) b
@@ -59,11 +54,6 @@ written_append out at [] b =
 written_append out at (x ∷ a) b =
     let e : at + suc (length a) ≡ at + 1 + length a = omega arith in
     rw e (written_append (set out at x) (at + 1) a b)
-
-pub length_bytes : (k x : ℕ) → length (bytes k x) ≡ k
-unfolding bytes
-length_bytes zero x = refl
-length_bytes (suc k) x = ap suc (length_bytes k x)
 
 -- a is written, and then b behind it
 pub then : (out : List ℕ) (at : ℕ) (a b : List ℕ) (n : ℕ) {p q : List ℕ} → p ≡ written out at a → length a ≡ n → q ≡ written p (at + n) b → q ≡ written out at (a ++ b)

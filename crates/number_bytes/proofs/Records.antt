@@ -3,11 +3,16 @@ use Prim.Native.Nat.{ℕ, zero, suc, ◌+◌, ◌*◌, ◌≤◌, ◌<◌}
 use native.Mathlib.Nat.{suc-mul, zero-mul}
 use native.Mathlib.Numerals.{add-one}
 use native.Mathlib.Omega.{arith}
-use mathlib.Core.Path.{◌≡◌, refl, sym, ◌∙◌, ap}
+use mathlib.Core.Path.{◌≡◌, refl, sym, ◌∙◌, ap, subst}
 use mathlib.Core.Bool.{Bool, true, false}
 use mathlib.Core.List.{List, [], ◌∷◌, ◌++◌, append_assoc}
 use lib.ListN.{length, get_or, take, drop, set, length-append, drop_of_length-le}
 use lib.Seq.{drop-cons, drop-drop, drop_at, take-suc-set, take_all}
+use lib.Dec.{leb}
+use borrow.Author.Tests.{leb-true, leb-false}
+use denote.Param.Members.{Mut}
+use Rattle.std.specs.Fn.{Called}
+use Rattle.std.specs.Array.{IsFromFnResultFrom, IsFromFnResult}
 use Rattle.model.specs.Pick.{pick}
 use Rattle.model.specs.Answers.{status_number}
 use Rattle.model.specs.declared.Status.{Status}
@@ -34,6 +39,36 @@ module _ {A : Type 0} (f : List ℕ → A) (size : ℕ) where
     many_end n long a b =
         let e : i ≡ n = omega arith in
         rw (← e) (sym (take_all i xs (omega arith)) ∙ read)
+
+-- what is read record by record, given what each is
+many_each : {A : Type 0} (f : List ℕ → A) (size k : ℕ) (l : List ℕ) (xs : List A) → length xs ≡ k
+    → ((i : ℕ) (d : A) → i < k → get_or xs i d ≡ f (drop (i * size) l)) → xs ≡ many f size k l
+unfolding many
+many_each f size zero l [] e h = refl
+many_each f size zero l (x ∷ xs) e h = absurd (omega arith)
+many_each f size (suc k) l [] e h = absurd (omega arith)
+many_each f size (suc k) l (x ∷ xs) e h =
+    let first : x ≡ f l = h 0 x (omega arith) ∙ rw zero-mul in
+    let later : xs ≡ many f size k (drop size l) =
+    many_each f size k (drop size l) xs (omega arith)
+    (λ i d q. let e : size + i * size ≡ suc i * size = rw (suc-mul i size) (omega arith) in h (suc i) d (omega arith) ∙ rw (drop-drop (i * size) size l, e)) in
+    rw (← first, ← later)
+
+-- the same of the answers of a closure s that no call changes
+module _ {F A : Type 0} (g : Mut F (ℕ × Unit {0}) A) (f : List ℕ → A) (size : ℕ) (l : List ℕ) (s : F) (xs : List A)
+    (h : (i : ℕ) (x : A) (q : F) → Called g s (i, tt) x q → (x ≡ f (drop (i * size) l)) × (q ≡ s)) where
+  each_call : (i n : ℕ) (q : F) → q ≡ s → IsFromFnResultFrom g q xs i n → (j : ℕ) (d : A) → i ≤ j → j < i + n → get_or xs j d ≡ f (drop (j * size) l)
+  each_call i zero q u k j d a b = absurd (omega arith)
+  each_call i (suc n) q u k j d a b =
+      let one = h i k.1 k.0 (subst (λ (y : F). Called g y (i, tt) k.1 k.0) u k.3) in
+      by (leb (i + 1) j) refl (λ w. each_call (i + 1) n k.0 one.1 k.4 j d w (omega arith)) one.0
+    where
+      by : (t : Bool) → leb (i + 1) j ≡ t → (i + 1 ≤ j → get_or xs j d ≡ f (drop (j * size) l)) → k.1 ≡ f (drop (i * size) l) → get_or xs j d ≡ f (drop (j * size) l)
+      by true e later one = later (leb-true (i + 1) j e)
+      by false e later one = let w = leb-false (i + 1) j e in let same : j ≡ i = omega arith in rw same (k.2.1 d ∙ one)
+
+  pub many_made : (n : ℕ) → IsFromFnResult g s xs n → xs ≡ many f size n l
+  many_made n made = many_each f size n l xs made.long (λ i d q. each_call 0 n s refl made.each i d (omega arith) (omega arith))
 
 -- ── writing ──
 

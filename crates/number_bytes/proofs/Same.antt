@@ -6,6 +6,8 @@ use mathlib.Core.List.{List, [], ◌∷◌}
 use lib.Dec.{eqb}
 use lib.ListN.{length}
 use borrow.Author.Tests.{eqb-true, eq-eqb}
+use Rattle.std.specs.Cmp.Lexicographic.{pointwise}
+use Rattle.std.specs.Prelude.{nat_eq}
 use Rattle.model.proofs.Local.{both_left, both_right, right_fails}
 use Rattle.number_bytes.specs.Bytes.{same_bytes}
 
@@ -27,3 +29,11 @@ same_is [] [] h = refl
 same_is [] (y ∷ ys) h = absurd (true≢false (sym h))
 same_is (x ∷ xs) [] h = absurd (true≢false (sym h))
 same_is (x ∷ xs) (y ∷ ys) h = rw (eqb-true x y (both_left (eqb x y) _ h), same_is xs ys (both_right (eqb x y) _ h))
+
+-- the library's test is the same
+pub same_pointwise : (xs ys : List ℕ) → pointwise nat_eq xs ys ≡ same_bytes xs ys
+unfolding same_bytes
+same_pointwise [] [] = refl
+same_pointwise [] (y ∷ ys) = refl
+same_pointwise (x ∷ xs) [] = refl
+same_pointwise (x ∷ xs) (y ∷ ys) = rw (same_pointwise xs ys)

@@ -1,2 +1,3 @@
 -- Numbers as bytes.
 pub mod Bytes
+pub mod Sizes

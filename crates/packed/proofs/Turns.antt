@@ -9,8 +9,11 @@ use lib.ListN.{length, get_or, set, length-set}
 use Rattle.model.specs.Claims.{BelowEnd}
 use Rattle.model.specs.State.{State, start, no_message, in_range, first_of, view}
 use Rattle.model.specs.Step.{actor, reaction_to, sent, pair_at_end, effect, refused, accepted, step, kept, after}
-use Rattle.model.specs.Answers.{answer_number, result_number, is_accepted}
-use Rattle.model.proofs.Answers.{refused_some}
+use Rattle.std.specs.Prelude.{Ok, Err}
+use Rattle.model.specs.Answers.{refusal_number, result_number}
+use Rattle.model.specs.declared.Refusal.{Refusal}
+use Rattle.model.specs.declared.Reaction.{Reaction}
+use Rattle.model.proofs.Answers.{ground_some}
 use Rattle.model.specs.declared.Limits.{Limits}
 use Rattle.model.specs.declared.Node.{Node}
 use Rattle.model.specs.declared.Table.{Table}
@@ -20,14 +23,14 @@ use Rattle.model.proofs.Fields.{in_range_places}
 use Rattle.model.proofs.InRange.{stays_in_range}
 use Rattle.model.proofs.Traffic.{SentWithin, pair_below}
 use Rattle.model.proofs.Aside.{below}
-use Rattle.machine.specs.Parts.{without, sent_place, sent_by, moved_place, delivered_by, lost_by, raised, Small, Room, left_of}
+use Rattle.machine.specs.Parts.{Judged, without, sent_place, sent_by, moved_place, delivered_by, lost_by, raised, Small, Room, left_of}
 use Rattle.model.proofs.Lists.{first_length, first_set}
 use Rattle.machine.proofs.Laws.{Sized, state_is}
 use Rattle.machine.proofs.Places.{small, counts_small}
 use Rattle.machine.proofs.Judged.{judging, refuses, seated, room, reacts, is_clear, stores, model_accepts}
 use Rattle.machine.proofs.Runs.{by_number}
 use Rattle.packed.specs.declared.Ruling.{Ruling}
-use Rattle.packed.specs.Packed.{queue, Rulable, Ruled}
+use Rattle.packed.specs.Packed.{queue, message_at, Rulable, Ruled}
 use Rattle.packed.specs.Seen.{whole, seen}
 use Rattle.packed.proofs.Laws.{held_long, within}
 
@@ -73,56 +76,64 @@ module _ (n : ℕ) (lim : Limits) (cs : List Node) (ws : List ℕ) (w : ℕ) (se
     rulable = judging t z h.range e _ refl (within ws w e) at ha d _ refl no_message _ refl
 
     module _ (r : Ruling) (j : Ruled ws n lim.messages w (get_or cs at d) e r) where
-      -- refused: its number, and the same state
-      pub refused_turn : is_accepted r.verdict.answer ≡ false → (answer_number r.verdict.answer ≡ result_number (step (view t) e)) × (view t ≡ after (view t) e)
-      refused_turn q = let s = refuses t z h.range e _ j.place j.reach at ha d _ refl no_message _ refl r.verdict j.judged r.verdict.answer refl q in (s.answer, s.table)
+      -- refused by g: its number, and the same state
+      module _ (g : Refusal) (q : r.verdict ≡ Err g) where
+        met : Judged n lim.messages w r.place (get_or cs at d) (message_at ws r.place) e (Err g)
+        met = rw q at j.judged
 
-      -- the same of the step
-      pub refused_step : is_accepted r.verdict.answer ≡ false → step (view t) e ≡ refused (answer_number r.verdict.answer)
-      refused_step q = by_number (step (view t) e) (answer_number r.verdict.answer) (refused_some r.verdict.answer q) (refused_turn q).0
+        pub refused_turn : (refusal_number g ≡ result_number (step (view t) e)) × (view t ≡ after (view t) e)
+        refused_turn = let s = refuses t z h.range e _ j.place j.reach at ha d _ refl no_message _ refl g met in (s.answer, s.table)
 
-      module _ (q : is_accepted r.verdict.answer ≡ true) where
-        pub has_room : Room r.verdict.reaction.outgoing (left_of w r.place)
-        has_room = room t z h.range e _ j.place j.reach at ha d _ refl no_message _ refl r.verdict j.judged q
+        -- the same of the step
+        pub refused_step : step (view t) e ≡ refused (refusal_number g)
+        refused_step = by_number (step (view t) e) (refusal_number g) (ground_some g) refused_turn.0
+
+      -- or x is what the node does
+      module _ (x : Reaction) (q : r.verdict ≡ Ok x) where
+        none_met : Judged n lim.messages w r.place (get_or cs at d) (message_at ws r.place) e (Ok x)
+        none_met = rw q at j.judged
+
+        pub has_room : Room x.outgoing (left_of w r.place)
+        has_room = room t z h.range e _ j.place j.reach at ha d _ refl no_message _ refl x none_met
 
         clear : Clear (view t) e
-        clear = is_clear t z h.range e _ j.place j.reach at ha d _ refl no_message _ refl r.verdict j.judged q
+        clear = is_clear t z h.range e _ j.place j.reach at ha d _ refl no_message _ refl x none_met
 
-        own : r.verdict.reaction ≡ reaction_to (view t) e
-        own = reacts t z h.range e _ j.place j.reach at ha d _ refl no_message _ refl r.verdict j.judged q
+        own : x ≡ reaction_to (view t) e
+        own = reacts t z h.range e _ j.place j.reach at ha d _ refl no_message _ refl x none_met
 
         -- 17 is not met: where no more was sent than a run can send
-        pub within_below : SentWithin (view t) → pair_at_end sends r.verdict.reaction.outgoing ≡ false
-        within_below x = by (pair_at_end sends (reaction_to (view t) e).outgoing) refl
+        pub within_below : SentWithin (view t) → pair_at_end sends x.outgoing ≡ false
+        within_below few_sent = by (pair_at_end sends (reaction_to (view t) e).outgoing) refl
           where
-            by : (y : Bool) → pair_at_end sends (reaction_to (view t) e).outgoing ≡ y → pair_at_end sends r.verdict.reaction.outgoing ≡ false
-            by true p = absurd (pair_below (view t) e clear x p)
+            by : (y : Bool) → pair_at_end sends (reaction_to (view t) e).outgoing ≡ y → pair_at_end sends x.outgoing ≡ false
+            by true p = absurd (pair_below (view t) e clear few_sent p)
             by false p = rw own p
 
         -- or where no count is at its end
-        pub end_below : BelowEnd sends → pair_at_end sends r.verdict.reaction.outgoing ≡ false
-        end_below x = below sends r.verdict.reaction.outgoing x
+        pub end_below : BelowEnd sends → pair_at_end sends x.outgoing ≡ false
+        end_below low = below sends x.outgoing low
 
-        module _ (p : pair_at_end sends r.verdict.reaction.outgoing ≡ false) where
+        module _ (p : pair_at_end sends x.outgoing ≡ false) where
           -- accepted: the step is, whatever is then done with the words
           pub step_accepts : step (view t) e ≡ accepted (effect (view t) e) (reaction_to (view t) e).mark
-          step_accepts = model_accepts t z h.range e _ j.place j.reach at ha d _ refl no_message _ refl r.verdict j.judged q p
+          step_accepts = model_accepts t z h.range e _ j.place j.reach at ha d _ refl no_message _ refl x none_met p
 
           -- accepted: the state after it, where us are the words after the exchange and v is how many wait then
-          module _ (us : List ℕ) (v : ℕ) (x : queue us v ≡ without r.place (queue ws w) ++ sent r.verdict.reaction.outgoing) where
+          module _ (us : List ℕ) (v : ℕ) (y : queue us v ≡ without r.place (queue ws w) ++ sent x.outgoing) where
             -- the table after it
             abbrev next : Table
             next =
-                whole n lim (set cs at r.verdict.reaction.node) us v
-                (raised sends (sent_place r.verdict.reaction.outgoing) (sent_by r.verdict.reaction.outgoing))
+                whole n lim (set cs at x.node) us v
+                (raised sends (sent_place x.outgoing) (sent_by x.outgoing))
                 (raised delivers (moved_place e) (delivered_by e))
                 (raised loses (moved_place e) (lost_by e))
 
             pub next_is : view next ≡ effect (view t) e
             next_is =
-                let below = seated t z h.range e _ j.place j.reach at ha d _ refl no_message _ refl r.verdict j.judged q in
-                state_is n lim _ _ _ (first_set n at _ cs r.verdict.reaction.node below (omega (arith, h.nodes, (small t z h.range e).1))) x
-                ∙ stores t z h.range e _ j.place j.reach at ha d _ refl no_message _ refl r.verdict j.judged q p
+                let below = seated t z h.range e _ j.place j.reach at ha d _ refl no_message _ refl x none_met in
+                state_is n lim _ _ _ (first_set n at _ cs x.node below (omega (arith, h.nodes, (small t z h.range e).1))) y
+                ∙ stores t z h.range e _ j.place j.reach at ha d _ refl no_message _ refl x none_met p
 
             pub accepted_turn : (0 ≡ result_number (step (view t) e)) × (view next ≡ after (view t) e)
             accepted_turn = (sym (ap result_number step_accepts), next_is ∙ sym (ap (kept (view t)) step_accepts))
@@ -132,6 +143,6 @@ module _ (n : ℕ) (lim : Limits) (cs : List Node) (ws : List ℕ) (w : ℕ) (se
             accepted_step = step_accepts ∙ ap (λ (s : State). accepted s (reaction_to (view t) e).mark) (sym next_is)
 
             -- and the table is ready for the next turn
-            pub ready_again : length us ≡ 256 → Ready n lim (set cs at r.verdict.reaction.node) us v next.sent next.delivered next.lost
+            pub ready_again : length us ≡ 256 → Ready n lim (set cs at x.node) us v next.sent next.delivered next.lost
             ready_again k =
                 record { words = k; nodes = simp length-set h.nodes; range = stays_in_range.keeps (view t) e (view next) (reaction_to (view t) e).mark accepted_step }

@@ -1,5 +1,6 @@
 // The waiting messages as numbers, so that they can be lent: message k stands in the four words from 4 * k on.
 // What the words mean is in specs/Packed. Nothing is asked of them: any words are messages.
+// kept: the words and how many messages wait are two parameters with a clause: the table of a run has the number, and the words are lent beside it.
 #![tactic(auto)]
 
 ghost use Rattle.std.specs.Prelude.{◌≡◌, ◌++◌, ◌+◌, ◌*◌, ◌%◌, ◌≤◌, ◌<◌, length, get_or, take, set};
@@ -8,16 +9,16 @@ ghost use Rattle.model.specs.Step.{actor, sent};
 ghost use Rattle.machine.specs.Parts as parts;
 ghost use Rattle.packed.specs.Packed as spec;
 
-use machine::Verdict;
-use model::{CallNo, Event, GroupNo, Message, Node, Outgoing, TaskNo};
+use model::{CallNo, Event, GroupNo, Message, Node, Reaction, Refusal, TaskNo};
 
 pub const WORDS: usize = 256;
 
-// What is ruled on an event: where its message stands, or how many wait; and the judgement.
+// What is ruled on an event: where its message stands, or how many wait; and the judgement, what its node does or the ground of the refusal.
+// kept: `place` is no Option: it is where the words are closed up, and at the end nothing is.
 #[derive(Clone, Copy)]
 pub struct Ruling {
     pub place: usize,
-    pub verdict: Verdict,
+    pub verdict: Result<Reaction, Refusal>,
 }
 
 // Words for a queue in which no message waits yet: which messages they hold does not matter.
@@ -25,12 +26,6 @@ pub fn none() -> [u32; WORDS]
     ensures { length result ≡ 256 }
 {
     [0; WORDS]
-}
-
-fn one_if(y: bool) -> u32
-    ensures { (result ≡ spec.one_if y) × (result ≤ 1) }
-{
-    if y { 1 } else { 0 }
 }
 
 // The first word of a message from a to b.
@@ -44,8 +39,7 @@ fn route(a: u8, b: u8) -> u32
 fn content(m: Message) -> u32
     ensures { result ≡ spec.content m }
 {
-    let task = m.task;
-    ((task.number as u32) * 2 + one_if(m.yes)) * 256 + m.kind as u32
+    ((m.task.number as u32) * 2 + m.yes as u32) * 256 + m.kind as u32
 }
 
 fn unpacked(a: u32, b: u32, c: u32, d: u32) -> Message
@@ -65,8 +59,8 @@ fn unpacked(a: u32, b: u32, c: u32, d: u32) -> Message
 }
 
 // The message at k, where that is one of the 64 places.
+#[tactic(auto, using(crate::proofs::Laws::held_at))]
 fn message_at(q: &[u32; WORDS], k: usize) -> Message
-    requires { length q.now ≡ 256 }
     ensures { result ≡ get_or (spec.held q.now) (k % 64) no_message }
 {
     let i = k % 64 * 4;
@@ -75,22 +69,20 @@ fn message_at(q: &[u32; WORDS], k: usize) -> Message
 
 // m at k.
 fn put(q: &mut [u32; WORDS], k: usize, m: Message)
-    requires { (length q.old ≡ 256) × (k < 64) }
-    ensures { (length q.new ≡ 256) × (spec.held q.new ≡ set (spec.held q.old) k m) }
+    requires { k < 64 }
+    ensures { spec.held q.new ≡ set (spec.held q.old) k m }
 {
-    let call = m.call;
-    let group = m.group;
     let i = k * 4;
     q[i] = route(m.sender, m.receiver);
     q[i + 1] = content(m);
-    q[i + 2] = call.number;
-    q[i + 3] = group.number;
+    q[i + 2] = m.call.number;
+    q[i + 3] = m.group.number;
 }
 
 // The message at k + 1 also at k.
 fn move_down(q: &mut [u32; WORDS], k: usize)
-    requires { (length q.old ≡ 256) × (k < 63) }
-    ensures { (length q.new ≡ 256) × (spec.held q.new ≡ set (spec.held q.old) k (get_or (spec.held q.old) (k + 1) no_message)) }
+    requires { k < 63 }
+    ensures { spec.held q.new ≡ set (spec.held q.old) k (get_or (spec.held q.old) (k + 1) no_message) }
 {
     let i = k * 4;
     let a = q[i + 4];
@@ -111,24 +103,24 @@ fn is_route(word: u32, key: u32) -> bool
 }
 
 // Where the oldest message from a to b stands, or how many wait.
+// kept: beside `find` and `place_for` of machine's queue, since a place has four words here and is a message there.
 fn find(q: &[u32; WORDS], waiting: usize, a: u8, b: u8) -> usize
-    requires { (length q.now ≡ 256) × (waiting ≤ 64) }
+    requires { waiting ≤ 64 }
     ensures { (result ≡ parts.place a b (spec.queue q.now waiting)) × (result ≤ waiting) }
 {
     let key = route(a, b);
-    let mut i: usize = 0;
-    while i < waiting {
+    for i in 0..waiting {
         if is_route(q[i * 4], key) {
             return i;
         }
-        i += 1;
     }
     waiting
 }
 
 // Where the event's message stands; how many wait for an event that takes none.
+#[tactic(auto, using(machine::proofs::Parts::place_taken, machine::proofs::Parts::place_none, model::proofs::Lists::first_length))]
 fn place_for(q: &[u32; WORDS], waiting: u8, e: Event) -> usize
-    requires { (length q.now ≡ 256) × (waiting ≤ 64) }
+    requires { waiting ≤ 64 }
     ensures { (result ≡ parts.place_for (spec.queue q.now waiting) e) × (result ≤ waiting) }
 {
     if machine::takes(e) {
@@ -141,12 +133,12 @@ fn place_for(q: &[u32; WORDS], waiting: u8, e: Event) -> usize
 pub fn seat(e: Event) -> usize
     ensures { (result ≡ (actor e + 15) % 16) × (result < 16) }
 {
-    (node_step::actor(e) as usize + 15) % 16
+    machine::seat_of(node_step::actor(e))
 }
 
 // The judgement of an event on a node's record c, with its message as it stands in q; limit is how many messages may wait.
 pub fn rule(q: &[u32; WORDS], n: u8, limit: u8, waiting: u8, c: Node, e: Event) -> Ruling
-    requires { (length q.now ≡ 256) × (waiting ≤ 64) × spec.Rulable q.now n waiting c e }
+    requires { (waiting ≤ 64) × spec.Rulable q.now n waiting c e }
     ensures { spec.Ruled q.now n limit waiting c e result }
 {
     let k = place_for(q, waiting, e);
@@ -159,24 +151,22 @@ pub fn rule(q: &[u32; WORDS], n: u8, limit: u8, waiting: u8, c: Node, e: Event) 
 
 // The messages behind k, up to the one at end, each a place down.
 fn remove(q: &mut [u32; WORDS], k: usize, end: usize)
-    requires { (length q.old ≡ 256) × (k ≤ end) × (end < 64) }
-    ensures { (length q.new ≡ 256) × (take end (spec.held q.new) ≡ parts.without k (take (end + 1) (spec.held q.old))) }
+    requires { (k ≤ end) × (end < 64) }
+    ensures { take end (spec.held q.new) ≡ parts.without k (take (end + 1) (spec.held q.old)) }
 {
-    let mut j = k;
-    while j < end {
+    for j in k..end {
         move_down(q, j);
-        j += 1;
     }
 }
 
 // What is sent behind the left messages: how many wait then.
-fn append(q: &mut [u32; WORDS], left: u8, o: Outgoing) -> u8
-    requires { (length q.old ≡ 256) × (left ≤ 64) × parts.Room o left }
-    ensures { (length q.new ≡ 256) × (result ≤ 64) × (take result (spec.held q.new) ≡ take left (spec.held q.old) ++ sent o) }
+fn append(q: &mut [u32; WORDS], left: u8, o: Option<Message>) -> u8
+    requires { (left ≤ 64) × parts.Room o left }
+    ensures { (result ≤ 64) × (take result (spec.held q.new) ≡ take left (spec.held q.old) ++ sent o) }
 {
     match o {
-        Outgoing::Nothing => left,
-        Outgoing::Send(m) => {
+        None => left,
+        Some(m) => {
             put(q, left as usize, m);
             left + 1
         }
@@ -184,8 +174,8 @@ fn append(q: &mut [u32; WORDS], left: u8, o: Outgoing) -> u8
 }
 
 // The message at k out, if k is below waiting, and what is sent in: how many wait then.
-pub fn exchange(q: &mut [u32; WORDS], k: usize, waiting: u8, o: Outgoing) -> u8
-    requires { (length q.old ≡ 256) × (waiting ≤ 64) × (k ≤ waiting) × parts.Room o (parts.left_of waiting k) }
+pub fn exchange(q: &mut [u32; WORDS], k: usize, waiting: u8, o: Option<Message>) -> u8
+    requires { (waiting ≤ 64) × (k ≤ waiting) × parts.Room o (parts.left_of waiting k) }
     ensures { (length q.new ≡ 256) × (result ≤ 64) × (spec.queue q.new result ≡ parts.without k (spec.queue q.old waiting) ++ sent o) }
 {
     if k < waiting as usize {

@@ -2,28 +2,9 @@
 // Where the list can't be read nothing is printed, and standard error says why; so it does where the text can't be written.
 #![tactic(auto)]
 
-ghost use Rattle.std.specs.Prelude.{◌≡◌, length};
-
 use rest_list::REST_LIMIT;
-use standard_io::Input;
-
-fn text_space() -> [u8; REST_LIMIT]
-    ensures { 279163 ≡ length result }
-{
-    [0; REST_LIMIT]
-}
-
-// The text of the list, to standard output.
-fn print(rt: &HostRuntime, list: &[u8]) {
-    let mut text = text_space();
-    let n = rest_list::print_whole(list, &mut text);
-    standard_io::write_all(rt, &text[..n]);
-}
+use standard_io::LIST_SPACE;
 
 fn main(rt: HostRuntime) {
-    let mut list = standard_io::list_space();
-    match standard_io::read_all(&rt, &mut list) {
-        Input::Failed => {}
-        Input::Read(n) => print(&rt, &list[..n]),
-    }
+    standard_io::print_text::<LIST_SPACE, _, _>(&rt, &mut [0; REST_LIMIT], rest_list::print_whole);
 }

@@ -23,8 +23,7 @@ use Rattle.model.proofs.TowerAndStand.{tower_and_stand}
 use Rattle.model.specs.declared.Limits.{Limits}
 use Rattle.model.specs.declared.Node.{Node}
 use Rattle.model.specs.declared.Message.{Message}
-use Rattle.model.specs.declared.Outgoing.{Outgoing}
-use Rattle.model.specs.declared.Outgoing.TheVariants.{Nothing, Send}
+use Rattle.std.specs.Prelude.{Option, None, Some}
 use Rattle.model.specs.declared.Event.{Event}
 use Rattle.model.specs.declared.Event.TheVariants.{Crash, Recover, Check, Timeout, Tick, Expire, Finish, Deliver, Lose}
 use Rattle.rest_bound.specs.Quiet.{quiet, all_quiet}
@@ -60,10 +59,10 @@ queue_without a b q w =
     let x = taken_out a b q w in
     omega (arith, ap queue_weight x.whole, ap queue_weight x.left, queue_append x.before (x.taken ∷ x.behind), queue_append x.before x.behind, ap (λ (m : Message). message_weight m) x.oldest_is)
 
-queue_sent : (o : Outgoing) → queue_weight (sent o) ≡ outgoing_weight o
+queue_sent : (o : Option Message) → queue_weight (sent o) ≡ outgoing_weight o
 unfolding queue_weight
-queue_sent Nothing = refl
-queue_sent (Send m) = omega arith
+queue_sent None = refl
+queue_sent (Some m) = omega arith
 
 queue_most : (q : List Message) → queue_weight q ≤ 4 * length q
 unfolding queue_weight

@@ -24,8 +24,7 @@ use Rattle.model.specs.declared.Node.{Node}
 use Rattle.model.specs.declared.CallNo.{CallNo}
 use Rattle.model.specs.declared.TaskNo.{TaskNo}
 use Rattle.model.specs.declared.Message.{Message}
-use Rattle.model.specs.declared.Outgoing.{Outgoing}
-use Rattle.model.specs.declared.Outgoing.TheVariants.{Nothing, Send}
+use Rattle.std.specs.Prelude.{Option, None, Some}
 use Rattle.model.specs.declared.Mark.{Mark}
 use Rattle.model.specs.declared.Mark.TheVariants.{Plain, Merges}
 use Rattle.model.specs.declared.Reaction.{Reaction}
@@ -59,9 +58,9 @@ kind_call k h = by_test (λ x. 2 ≤ x) (λ _. omega arith) (λ _. by_test (λ x
 kind_invites : (k : ℕ) → k ≡ 3 → kind_weight k ≡ 4
 kind_invites k e = ap kind_weight e ∙ kinds.invites
 
-abbrev pub outgoing_weight : Outgoing → ℕ
-outgoing_weight Nothing = 0
-outgoing_weight (Send m) = message_weight m
+abbrev pub outgoing_weight : Option Message → ℕ
+outgoing_weight None = 0
+outgoing_weight (Some m) = message_weight m
 
 -- ── members ──
 count_none : count 0 ≡ 0

@@ -21,7 +21,7 @@ use Rattle.model.proofs.Traffic.{run_n}
 use Rattle.model.proofs.Aside.{Room, by_between, room_after, room_below, counting, run_counting, start_room, room_run}
 use Rattle.model.specs.declared.Limits.{Limits}
 use Rattle.model.specs.declared.Event.TheVariants.{Deliver, Lose}
-use Rattle.event_list.specs.declared.First.TheVariants as First
+use Rattle.std.specs.Prelude.{Ok}
 use Rattle.event_list.specs.Format.{length_of, cut_short, checked, event_of as event_in, next_at, limits_of, nodes_of, first_of, read_from, rest, reading}
 use Rattle.event_list.proofs.Reading.{first_good}
 use Rattle.event_list.specs.Cases.{nodes, stand_nodes, crash, recover, check}
@@ -141,7 +141,7 @@ unfolding driven
 rest_none s e = let z = within_empty (turn_bound s) (drive s first_pair) e in ap (λ (i : ℕ). turns_line i ∷ table_lines (driven (drive s first_pair) (replicate i turn)).table) z
 
 -- ── texts ──
-module _ (l : List ℕ) (n : ℕ) (lim : Limits) (i : First.Nodes n lim ≡ first_of l) (few : length (rest l 4).events < 1000000) where
+module _ (l : List ℕ) (n : ℕ) (lim : Limits) (i : Ok (n, lim) ≡ first_of l) (few : length (rest l 4).events < 1000000) where
   -- f and g print the same of the last table
   same_text : (f g : State → List (List ℕ)) → f (run n lim (rest l 4).events) ≡ g (run n lim (rest l 4).events) → joined (lines_with f l) ≡ joined (quick_lines g n lim (rest l 4))
   same_text f g e =

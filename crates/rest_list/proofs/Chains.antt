@@ -12,7 +12,7 @@ use Rattle.model.specs.Range.{TwoPairs}
 use Rattle.model.specs.State.{State, no_message, view}
 use Rattle.model.specs.Step.{Result, refused, accepted, step, run}
 use Rattle.model.specs.Traffic.{of_accepted, tally, accepted_from}
-use Rattle.model.specs.Answers.{answer_number, result_number, is_accepted}
+use Rattle.model.specs.Answers.{Answer, answer_number, result_number, is_accepted}
 use Rattle.model.specs.Claims.{MayStart}
 use Rattle.model.proofs.Answers.{accepted_zero}
 use Rattle.model.proofs.Lists.{first_length}
@@ -21,7 +21,6 @@ use Rattle.model.proofs.TowerAndStand.{holds}
 use Rattle.model.specs.declared.Limits.{Limits}
 use Rattle.model.specs.declared.Table.{Table}
 use Rattle.model.specs.declared.Event.{Event}
-use Rattle.model.specs.declared.Answer.{Answer}
 use Rattle.model.specs.declared.Outcome.{Outcome}
 use Rattle.machine.specs.Stepped.{Stepped}
 use Rattle.machine.specs.Claims.{Chain, Reached, CodeRuns}

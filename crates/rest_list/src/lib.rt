@@ -4,31 +4,21 @@
 
 ghost use Rattle.std.specs.Prelude.{◌≡◌, true};
 ghost use Rattle.model.specs.State.{view, in_range};
-ghost use Rattle.listing.specs.Printing.{shown, printed, Printed, Whole};
+ghost use Rattle.listing.specs.Printing.{Printed, Whole, WroteLines};
 ghost use Rattle.round.specs.Order.{first_pair};
 ghost use Rattle.rest_bound.specs.Potential.{suited};
 ghost use Rattle.rest_list.specs.Text.{rest_lines, rest_lines_of};
 ghost use Rattle.rest_list.specs.Rested.{RestedFrom};
 
-use listing::Put;
+use listing::{NoRoom, TextBuffer};
 use model::Table;
 use round::Place;
-use session_list::Left;
 
 // The table in which no message waits, and how many turns were made until then.
 #[derive(Clone, Copy)]
 struct Rested {
     table: Table,
     turns: u32,
-}
-
-fn rested_with(table: Table, turns: u32) -> Rested
-    ensures { result ≡ record { table = table; turns = turns } }
-{
-    Rested {
-        table: table,
-        turns: turns,
-    }
 }
 
 fn first_pair() -> Place
@@ -49,55 +39,41 @@ fn turns_to_rest(t: Table) -> Rested
     let mut u = t;
     let mut p = first_pair();
     let mut k: u32 = 0;
-    loop {
-        let waiting = u.waiting;
-        if waiting == 0 {
-            return rested_with(u, k);
-        }
+    // kept: k counts the turns, which is what is asked for
+    while u.waiting != 0 {
         let o = driver::turn(u, p);
-        let v = o.table;
-        let q = o.place;
-        u = v;
-        p = q;
+        u = o.table;
+        p = o.place;
         k += 1;
     }
+    Rested { table: u, turns: k }
 }
 
 // How many turns are made from the table on, and the table in which no message waits.
-fn put_rest(out: &mut [u8], at: usize, t: Table) -> Put
+fn put_rest(out: &mut TextBuffer, t: Table) -> Result<(), NoRoom>
     requires { (in_range (view t) ≡ true) × (suited (view t) ≡ true) }
-    ensures { shown result out.new ≡ printed out.old at (rest_lines (view t)) }
+    ensures { WroteLines out.old (rest_lines (view t)) result out.new }
 {
     let r = turns_to_rest(t);
-    match listing::put_turns(out, at, r.turns) {
-        Put::NoRoom => Put::NoRoom,
-        Put::Next(q) => {
-            let u = r.table;
-            listing::put_table(out, q, u)
-        }
-    }
+    out.put_turns(r.turns)?;
+    out.put_table(r.table)
 }
 
-// The lines of list, written into out from its start.
-fn print_lines(list: &[u8], out: &mut [u8]) -> Put
-    ensures { shown result out.new ≡ printed out.old 0 (rest_lines_of list.now) }
+// The lines of list, behind what is written in out.
+fn print_lines(list: &[u8], out: &mut TextBuffer) -> Result<(), NoRoom>
+    ensures { WroteLines out.old (rest_lines_of list.now) result out.new }
 {
-    let r = session_list::run_all(list, out);
-    let left = r.left;
-    match left {
-        Left::Nothing(a) => a,
-        Left::Table(at) => {
-            let t = r.table;
-            put_rest(out, at, t)
-        }
+    match session_list::run_all(list, out)? {
+        None => Ok(()),
+        Some(table) => put_rest(out, table),
     }
 }
 
 // The text of list at the start of out, and its length; or refusal 15, and then its lines up to the first that has no room.
-pub fn print(list: &[u8], out: &mut [u8]) -> Put
+pub fn print(list: &[u8], out: &mut [u8]) -> Result<usize, NoRoom>
     ensures { Printed (rest_lines_of list.now) out.old out.new result }
 {
-    print_lines(list, out)
+    listing::print_into(out, |text| print_lines(list, text))
 }
 
 // No text is longer.
@@ -107,8 +83,5 @@ pub const REST_LIMIT: usize = 279163;
 pub fn print_whole(list: &[u8], out: &mut [u8; REST_LIMIT]) -> usize
     ensures { Whole (rest_lines_of list.now) out.old out.new result }
 {
-    match print(list, out) {
-        Put::Next(n) => n,
-        Put::NoRoom => 0,
-    }
+    print(list, out).unwrap_or(0)
 }

@@ -27,8 +27,7 @@ use Rattle.model.proofs.Traffic.{sent_by_node}
 use Rattle.model.proofs.Refusals.{clear_ends}
 use Rattle.model.specs.declared.Node.{Node}
 use Rattle.model.specs.declared.Message.{Message}
-use Rattle.model.specs.declared.Outgoing.{Outgoing}
-use Rattle.model.specs.declared.Outgoing.TheVariants.{Send}
+use Rattle.std.specs.Prelude.{Option, None, Some}
 use Rattle.model.specs.declared.Mark.{Mark}
 use Rattle.model.specs.declared.Mark.TheVariants.{Plain}
 use Rattle.model.specs.declared.Event.{Event}
@@ -348,10 +347,10 @@ whole_queue q a b w = by (pair_queue q a b) (queue_first a b q) some
     by (m ∷ l) e h = ap (λ (x : Message). x ∷ l) e
 
 -- what node b sends does not go from another
-sent_elsewhere : (a b : ℕ) (o : Outgoing) → (b ≡ a → ⊥) → From b o → pair_queue (sent o) a b ≡ []
+sent_elsewhere : (a b : ℕ) (o : Option Message) → (b ≡ a → ⊥) → From b o → pair_queue (sent o) a b ≡ []
 unfolding pair_queue pick
-sent_elsewhere a b Outgoing.Nothing d f = refl
-sent_elsewhere a b (Send m) d f = rw (ne_eqb m.sender a (λ e. d (sym f ∙ e)))
+sent_elsewhere a b None d f = refl
+sent_elsewhere a b (Some m) d f = rw (ne_eqb m.sender a (λ e. d (sym f ∙ e)))
 
 delivered_queue : (s : State) (a b : ℕ) (u : State) (k : Mark) → AtPair s (pair a b) → step s (Deliver a b) ≡ accepted u k → pair_queue u.queue a b ≡ drop 1 (pair_queue s.queue a b)
 unfolding effect remaining

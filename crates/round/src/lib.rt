@@ -20,6 +20,7 @@ pub enum Done {
 }
 
 // What a turn gives: the table after it, the place of the next turn, what was done, and the answer, accepted or the ground of its refusal.
+// kept: no Result, since `Turned` of driver says what table, place and `done` stand beside a refusal.
 #[derive(Clone, Copy)]
 pub struct TurnOutcome {
     pub table: Table,

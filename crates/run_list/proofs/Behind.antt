@@ -18,8 +18,8 @@ use Rattle.model.proofs.TowerAndStand.{holds}
 use Rattle.model.proofs.Fields.{in_range_size}
 use Rattle.model.proofs.InRange.{stays_in_range}
 use Rattle.machine.proofs.Runs.{run_nodes}
-use Rattle.event_list.specs.declared.First.{First}
-use Rattle.event_list.specs.Format.{first_of, Reading, begun, listed, reading}
+use Rattle.std.specs.Prelude.{Ok, Err}
+use Rattle.event_list.specs.Format.{First, first_of, Reading, begun, listed, reading}
 use Rattle.event_list.proofs.Reading.{first_good}
 use Rattle.listing.specs.Lines.{cabinets_line, node_line, messages_line, node_lines, table_lines, total_lines}
 use Rattle.run_list.specs.Text.{refused_lines, ending_lines, run_lines, lines_with}
@@ -30,8 +30,8 @@ unfolding reading
 nodes_good l n lim r e = by (first_of l) refl e
   where
     by : (x : First) → x ≡ first_of l → listed l x ≡ begun n lim r → MayStart TwoPairs n lim
-    by (First.Stopped s) i f = let z : ◌≡◌ {A = ℕ} 0 1 = cc in absurd (omega arith)
-    by (First.Nodes m k) i f =
+    by (Err s) i f = let z : ◌≡◌ {A = ℕ} 0 1 = cc in absurd (omega arith)
+    by (Ok (m, k)) i f =
         let g = (first_good l i refl).2 in
         let z : m ≡ n = cc in
         let y : k ≡ lim = cc in

@@ -18,8 +18,8 @@ use Rattle.model.proofs.Fields.{in_range_size}
 use Rattle.model.proofs.InRange.{start_small, stays_in_range}
 use Rattle.event_list.specs.declared.Stop.{Stop}
 use Rattle.event_list.specs.declared.Stop.TheVariants.{TooLong, CutShort, WrongTag, WrongLength, WrongCount}
-use Rattle.event_list.specs.declared.First.{First}
-use Rattle.event_list.specs.Format.{stop_number, first_of, Ending, complete, stopped, rest}
+use Rattle.std.specs.Prelude.{Ok, Err}
+use Rattle.event_list.specs.Format.{First, stop_number, first_of, Ending, complete, stopped, rest}
 use Rattle.event_list.proofs.Reading.{first_good, reads_all}
 use Rattle.listing.specs.Lines.{cabinets_line, refused_line, stopped_line, table_lines}
 use Rattle.listing.specs.Printing.{joined}
@@ -74,8 +74,8 @@ module _ (f : State → List (List ℕ)) (k : ℕ) (most : (s : State) → in_ra
   text_fits_with l = by (first_of l) refl
     where
       by : (x : First) → x ≡ first_of l → length (joined (lines_with f l)) ≤ 12 + 17 * 16384 + k
-      by (First.Stopped s) i = rw (lines_failed f l i refl, joined_one (stopped_line 0 (stop_number s))) (let h = stopped_long 0 (stop_number s) (omega arith) (stop_small s) in omega arith)
-      by (First.Nodes n lim) i =
+      by (Err s) i = rw (lines_failed f l i refl, joined_one (stopped_line 0 (stop_number s))) (let h = stopped_long 0 (stop_number s) (omega arith) (stop_small s) in omega arith)
+      by (Ok (n, lim)) i =
           let g = first_good l i refl in
           let c = cabinets_long n (start_small n lim g.2) in
           let r = left_long l n lim g.2 g.0 g.1 in

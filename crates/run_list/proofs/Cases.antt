@@ -20,7 +20,7 @@ use Rattle.model.proofs.Aside.{Room, between, by_between, room_after, room_below
 use Rattle.model.proofs.Cases.{named_cases, stand_cases}
 use Rattle.model.specs.declared.Limits.{Limits}
 use Rattle.model.specs.declared.Event.{Event}
-use Rattle.event_list.specs.declared.First.{First}
+use Rattle.std.specs.Prelude.{Ok}
 use Rattle.event_list.specs.Format.{Reading, length_of, cut_short, checked, event_of, next_at, limits_of, nodes_of, first_of, read_from, rest, reading}
 use Rattle.listing.specs.Decimal.{digits, decimal}
 use Rattle.listing.specs.Lines.{row, cabinets_line, refused_line, stopped_line, node_line, messages_line, total_line, total_lines, node_lines, table_lines}
@@ -49,7 +49,7 @@ quick_refused_lem s e (v ∷ vs) r h =
 abbrev pub quick_lines : (State → List (List ℕ)) → ℕ → Limits → Reading → List (List ℕ)
 quick_lines f n lim r = cabinets_line n ∷ (quick_refused (start n lim) 1 r.events ++ (ending_lines r.ending ++ f (counting (start n lim) r.events)))
 
-pub quick_lines_lem : (f : State → List (List ℕ)) (l : List ℕ) (n : ℕ) (lim : Limits) → First.Nodes n lim ≡ first_of l → length (rest l 4).events < traffic_end → lines_with f l ≡ quick_lines f n lim (rest l 4)
+pub quick_lines_lem : (f : State → List (List ℕ)) (l : List ℕ) (n : ℕ) (lim : Limits) → Ok (n, lim) ≡ first_of l → length (rest l 4).events < traffic_end → lines_with f l ≡ quick_lines f n lim (rest l 4)
 quick_lines_lem f l n lim i k =
     let g = start_in_range l i refl in
     let m = start_room (length (rest l 4).events) k in
@@ -58,7 +58,7 @@ quick_lines_lem f l n lim i k =
     (ap₂ (λ (x : List (List ℕ)) (s : State). x ++ (ending_lines (rest l 4).ending ++ f s)) (quick_refused_lem (start n lim) 1 (rest l 4).events g m) (run_counting (start n lim) (rest l 4).events g m))
 
 -- and the bench program's text
-pub quick_text : (l : List ℕ) (n : ℕ) (lim : Limits) → First.Nodes n lim ≡ first_of l → length (rest l 4).events < traffic_end → text_of l ≡ joined (quick_lines table_lines n lim (rest l 4))
+pub quick_text : (l : List ℕ) (n : ℕ) (lim : Limits) → Ok (n, lim) ≡ first_of l → length (rest l 4).events < traffic_end → text_of l ≡ joined (quick_lines table_lines n lim (rest l 4))
 quick_text l n lim i k = ap joined (quick_lines_lem table_lines l n lim i k)
 
 pub list_cases : ListCases

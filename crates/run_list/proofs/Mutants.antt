@@ -21,8 +21,8 @@ use Rattle.event_list.specs.Format.{length_of, cut_short, checked, event_of, nex
 use Rattle.listing.specs.Decimal.{digits, decimal}
 use Rattle.listing.specs.Lines.{row, cabinets_line, refused_line, stopped_line, node_line, messages_line, node_lines, table_lines, total_line, total_lines}
 use Rattle.model.specs.Counts.{total}
-use Rattle.listing.specs.Printing.{joined}
-use Rattle.listing.specs.declared.Put.TheVariants.{Next, NoRoom}
+use Rattle.std.specs.Prelude.{Ok}
+use Rattle.listing.specs.Printing.{refused, joined}
 use Rattle.run_list.specs.Text.{note_lines, text_of}
 use Rattle.event_list.specs.Cases.{nodes, recover}
 use Rattle.listing.specs.Ascii.{bytes}
@@ -168,8 +168,8 @@ no_mutant_text =
       from_zero = λ o y h e. let t = begins _ o _ h texts.refused in apart o _ _ 19 50 49 t.whole e refl refl (λ z. omega arith);
       next_ground = λ o y h e. let t = begins _ o _ h texts.refused in apart o _ _ 21 57 49 t.whole e refl refl (λ z. omega arith);
       stops_elsewhere = λ o y h e. let t = begins _ o _ h texts.stopped in apart o _ _ 19 52 48 t.whole e refl refl (λ z. omega arith);
-      no_room = λ b o {a} p h e. apart_answers (sym (p.answer ∙ ap (λ (t : Bool). pick t (Next (length (text_of k10_list))) NoRoom) (le-leb _ _ h) ∙ pick_true _ _) ∙ e);
+      no_room = λ b o {a} p h e. apart_answers (sym (p.answer ∙ ap (λ (t : Bool). pick t (Ok (length (text_of k10_list))) refused) (le-leb _ _ h) ∙ pick_true _ _) ∙ e);
     }
   where
-    apart_answers : {k : ℕ} → Next k ≡ NoRoom → ⊥
+    apart_answers : {k : ℕ} → Ok k ≡ refused → ⊥
     apart_answers e = let z : ◌≡◌ {A = ℕ} 0 1 = cc in omega arith

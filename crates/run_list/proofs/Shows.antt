@@ -17,8 +17,8 @@ use Rattle.model.specs.declared.Node.{Node}
 use Rattle.model.proofs.InRange.{start_small, stays_in_range}
 use Rattle.event_list.specs.declared.Stop.{Stop}
 use Rattle.event_list.specs.declared.Stop.TheVariants.{TooLong, CutShort, WrongTag, WrongLength, WrongCount}
-use Rattle.event_list.specs.declared.First.{First}
-use Rattle.event_list.specs.Format.{stop_number, first_of, Ending, complete, stopped, Reading, failed, begun, reading, rest}
+use Rattle.std.specs.Prelude.{Ok, Err}
+use Rattle.event_list.specs.Format.{First, stop_number, first_of, Ending, complete, stopped, Reading, failed, begun, reading, rest}
 use Rattle.event_list.proofs.Reading.{reading_failed, reading_begun, first_good, reads_all}
 use Rattle.listing.specs.Lines.{cabinets_line, refused_line, stopped_line, messages_line, node_lines, table_lines, total_lines}
 use Rattle.listing.specs.Printing.{joined}
@@ -162,8 +162,8 @@ begun_sized : (l : List ℕ) (n : ℕ) (lim : Limits) (r : Reading) → reading 
 begun_sized l n lim r e = by (first_of l) refl
   where
     by : (x : First) → x ≡ first_of l → Sized r
-    by (First.Stopped s) i = let f = reading_failed l i refl in let z : ◌≡◌ {A = ℕ} 0 1 = cc in absurd (omega arith)
-    by (First.Nodes m j) i =
+    by (Err s) i = let f = reading_failed l i refl in let z : ◌≡◌ {A = ℕ} 0 1 = cc in absurd (omega arith)
+    by (Ok (m, j)) i =
         let g = first_good l i refl in
         let f = reading_begun l i refl in
         let k : rest l 4 ≡ r = cc in

@@ -8,10 +8,8 @@ use Rattle.model.specs.declared.Limits.{Limits}
 use Rattle.model.specs.declared.Node.{Node}
 use Rattle.event_list.specs.Format.{Reading, begun, reading}
 use Rattle.listing.specs.Lines.{node_line}
-use Rattle.listing.specs.Printing.{joined, Printed, Whole}
+use Rattle.listing.specs.Printing.{Put, refused, joined, Printed, Whole}
 use Rattle.listing.specs.Decimal.{decimal}
-use Rattle.listing.specs.declared.Put.{Put}
-use Rattle.listing.specs.declared.Put.TheVariants.{NoRoom}
 use Rattle.run_list.specs.Text.{lines_of, text_of}
 use Rattle.run_list.specs.Claims.{lines_before}
 use Rattle.event_list.specs.Cases.{nodes, recover}
@@ -54,4 +52,4 @@ pub record NoMutantText : Type 0 where
   pub next_ground : (o y : List ℕ) → Holds (nodes 2 ++ (recover 1 ++ recover 1)) o → o ≡ bytes "cabinets 2\nrefused 2 1" ++ y → ⊥
   pub stops_elsewhere : (o y : List ℕ) → Holds (nodes 2 ++ (0x11 ∷ [])) o → o ≡ bytes "cabinets 2\nstopped 0" ++ y → ⊥
   -- and none that finds no room where there is
-  pub no_room : (b o : List ℕ) {a : Put} → Printed (lines_of k10_list) b o a → length (text_of k10_list) ≤ length b → a ≡ NoRoom → ⊥
+  pub no_room : (b o : List ℕ) {a : Put} → Printed (lines_of k10_list) b o a → length (text_of k10_list) ≤ length b → a ≡ refused → ⊥

@@ -1,17 +1,16 @@
 -- What is printed for a list: one definition from input bytes to printed bytes, after 01's "The list and the printed table".
-use Rattle.std.specs.Prelude.{◌≡◌, List, [], ◌∷◌, ◌++◌, ℕ, ◌+◌, ◌*◌, ◌≤◌, length, eqb}
+use Rattle.std.specs.Prelude.{◌≡◌, Option, Some, None, Result, Ok, Err, is_ok, List, [], ◌∷◌, ◌++◌, ℕ, ◌+◌, ◌*◌, ◌≤◌, length, eqb}
 use Rattle.model.specs.Pick.{pick}
 use Rattle.model.specs.State.{State, start}
 use Rattle.model.specs.Step.{step, after, run_from}
 use Rattle.model.specs.Answers.{result_number}
+use Rattle.model.specs.declared.Limits.{Limits}
 use Rattle.model.specs.declared.Event.{Event}
-use Rattle.event_list.specs.declared.First.{First}
-use Rattle.event_list.specs.Format.{first_of, stop_number, Ending, complete, stopped, Reading, Listed, failed, begun, reading}
+use Rattle.event_list.specs.Format.{First, first_of, stop_number, Ending, complete, stopped, Reading, Listed, failed, begun, reading}
 use Rattle.listing.specs.Lines.{cabinets_line, refused_line, stopped_line, table_lines}
-use Rattle.listing.specs.Printing.{put_number, shown, printed, joined}
-use Rattle.listing.specs.declared.Put.{Put}
-use Rattle.listing.specs.declared.Put.TheVariants.{Next}
-use Rattle.run_list.specs.declared.Heading.{Heading}
+use Rattle.listing.specs.Printing.{joined, WroteLines}
+use Rattle.listing.specs.declared.NoRoom.{NoRoom}
+use Rattle.listing.specs.declared.buffer.TextBuffer.{TextBuffer}
 
 -- "for each event refused `refused e r`": event e with the number r, which is 0 where it is accepted
 unfoldable pub note_lines : ℕ → ℕ → List (List ℕ)
@@ -66,25 +65,29 @@ TextFits = (l : List ℕ) → length (text_of l) ≤ text_limit
 
 -- by what the first field says: its line
 abbrev pub first_line : First → List ℕ
-first_line (First.Stopped s) = stopped_line 0 (stop_number s)
-first_line (First.Nodes n lim) = cabinets_line n
+first_line (Err s) = stopped_line 0 (stop_number s)
+first_line (Ok x) = cabinets_line x.0
 
--- and the starting table of the run behind it, where one follows
+-- the starting table of a run of n nodes with these limits, where one follows
+abbrev pub starting_table : Option (ℕ × Limits) → List State
+starting_table None = []
+starting_table (Some x) = start x.0 x.1 ∷ []
+
+-- and that of the run behind the first field
 abbrev pub first_start : First → List State
-first_start (First.Stopped s) = []
-first_start (First.Nodes n lim) = start n lim ∷ []
+first_start (Err s) = []
+first_start (Ok x) = starting_table (Some x)
 
--- of an answer: what printing the line answers, and the starting table of the run behind it, where one follows
-abbrev pub heading_put : Heading → Put
-heading_put (Heading.Ended a) = a
-heading_put (Heading.Nodes n lim p) = Next p
+-- of an answer: whether the line was written, and the starting table of the run behind it, where one follows
+abbrev pub heading_put : Result (Option (ℕ × Limits)) NoRoom → Result (Unit {0}) NoRoom
+heading_put (Ok h) = Ok tt
+heading_put (Err e) = Err e
 
-abbrev pub heading_start : Heading → List State
-heading_start (Heading.Ended a) = []
-heading_start (Heading.Nodes n lim p) = start n lim ∷ []
+abbrev pub heading_start : Result (Option (ℕ × Limits)) NoRoom → List State
+heading_start (Ok h) = starting_table h
+heading_start (Err e) = []
 
--- What printing the first line of the list l into a buffer that held b answers, h, and leaves there, o. A run follows where the first field is good and its line
--- has room.
-pub record Headed (l b o : List ℕ) (h : Heading) : Type 0 where
-  pub line : shown (heading_put h) o ≡ printed b 0 (first_line (first_of l) ∷ [])
-  pub starts : heading_start h ≡ pick (eqb (put_number (heading_put h)) 0) (first_start (first_of l)) []
+-- What writing the first line of the list l into the buffer b answers, h, and leaves, o. A run follows where the first field is good and its line has room.
+pub record Headed (l : List ℕ) (b o : TextBuffer) (h : Result (Option (ℕ × Limits)) NoRoom) : Type 0 where
+  pub line : WroteLines b (first_line (first_of l) ∷ []) (heading_put h) o
+  pub starts : heading_start h ≡ pick (is_ok h) (first_start (first_of l)) []

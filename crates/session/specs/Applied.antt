@@ -4,7 +4,7 @@ use Rattle.model.specs.Limits.{node_limit}
 use Rattle.model.specs.declared.Limits.{Limits}
 use Rattle.model.specs.declared.Table.{Table}
 use Rattle.model.specs.declared.Event.{Event}
-use Rattle.model.specs.declared.Answer.{Answer}
+use Rattle.model.specs.Answers.{Answer}
 use Rattle.machine.specs.Stepped.{Stepped}
 use Rattle.machine.specs.Folded.{Folded}
 use Rattle.machine.specs.Claims.{CodeRuns, CodeFixes, CodeTowerAndStand}

@@ -1,92 +1,111 @@
 -- The table that is left at a field, by what is read there; the ways in which a run ends; and what may be printed behind it.
-use Prim.Native.Nat.{ℕ}
-use mathlib.Core.Path.{◌≡◌, refl, sym, ◌∙◌, ap, subst}
-use mathlib.Core.List.{List, [], ◌∷◌}
+use Prim.Native.Nat.{ℕ, ◌+◌}
+use mathlib.Core.Path.{◌≡◌, refl, sym, ◌∙◌, ap}
+use mathlib.Core.List.{List, [], ◌∷◌, ◌++◌}
 use Rattle.model.specs.State.{State, start, view}
-use Rattle.model.specs.Step.{after, run_from}
+use Rattle.model.specs.Step.{step, after, run_from}
+use Rattle.model.specs.Answers.{result_number}
 use Rattle.model.specs.declared.Limits.{Limits}
 use Rattle.model.specs.declared.Table.{Table}
 use Rattle.model.specs.declared.Event.{Event}
 use Rattle.event_list.specs.declared.Stop.{Stop}
-use Rattle.event_list.specs.declared.Next.{Next}
-use Rattle.event_list.specs.declared.First.TheVariants as First
-use Rattle.event_list.specs.Format.{stop_number, next_at, first_of, rest}
+use Rattle.std.specs.Prelude.{Option, Some, None, Result, Ok, Err, IsErr}
+use Rattle.event_list.specs.Format.{Next, stop_number, next_at, first_of, rest}
 use Rattle.event_list.proofs.Reading.{rest_done, rest_stopped, rest_got, reading_begun, first_good}
-use Rattle.listing.specs.declared.Put.{Put}
+use Rattle.listing.specs.declared.NoRoom.{NoRoom}
+use Rattle.listing.specs.declared.buffer.TextBuffer.{TextBuffer}
 use Rattle.listing.specs.Lines.{stopped_line, table_lines}
-use Rattle.listing.specs.Printing.{shown, printed}
+use Rattle.listing.specs.Printing.{WroteLines, shown, printed}
 use Rattle.listing.proofs.Printing.{then_next, then_refused}
-use Rattle.run_list.specs.Text.{lines_with, Headed}
-use Rattle.run_list.specs.declared.Heading.TheVariants as Heading
-use Rattle.run_list.proofs.Laws.{left, left_done, left_stopped, headed_ended, headed_nodes}
-use Rattle.session_list.specs.Ran.{printed_behind, where_table, RanFrom, RunTable, RanAll}
-use Rattle.session_list.specs.declared.Left.{Left}
-use Rattle.session_list.specs.declared.Ran.{Ran}
+use Rattle.listing.proofs.Written.{refused_at}
+use Rattle.run_list.specs.Text.{note_lines, lines_with, Headed}
+use Rattle.run_list.proofs.Laws.{left, left_done, left_stopped, left_got, lines_begun, headed_refused, headed_ended, headed_nodes}
+use Rattle.session_list.specs.Ran.{LastTable, RanFrom, RunTable, RanAll}
+
+-- Lines that were written, x behind them none other; and that were refused.
+module _ {b c : TextBuffer} {xs : List (List ℕ)} {a : Result (Unit {0}) NoRoom} (ys : List (List ℕ)) (w : WroteLines b xs a c) where
+  pub next_printed : {u : Unit {0}} → a ≡ Ok u → printed c.bytes.now c.end ys ≡ printed b.bytes.now b.end (xs ++ ys)
+  next_printed e = sym (then_next b.bytes.now c.bytes.now b.end c.end _ xs ys w.lines (rw e))
+
+  pub refused_printed : {d : NoRoom} → a ≡ Err d → shown (Err d) c.bytes.now ≡ printed b.bytes.now b.end (xs ++ ys)
+  refused_printed e = sym (then_refused b.bytes.now c.bytes.now b.end _ xs ys w.lines (rw e))
 
 -- ── at a field ──
 module _ (l : List ℕ) (s : State) (at : ℕ) {x : Next} (i : x ≡ next_at l at) where
-  events_done : x ≡ Next.Done → run_from s (rest l at).events ≡ s
+  events_done : x ≡ Ok None → run_from s (rest l at).events ≡ s
   unfolding run_from
   events_done g = rw (rest_done l at i g)
 
-  events_stopped : {r : Stop} → x ≡ Next.Stopped r → run_from s (rest l at).events ≡ s
+  events_stopped : {r : Stop} → x ≡ Err r → run_from s (rest l at).events ≡ s
   unfolding run_from
   events_stopped g = rw (rest_stopped l at i g)
 
-  pub events_got : {v : Event} {next : ℕ} → x ≡ Next.Got v next → (u : State) → u ≡ after s v → run_from s (rest l at).events ≡ run_from u (rest l next).events
+  pub events_got : {v : Event} {next : ℕ} → x ≡ Ok (Some (v, next)) → {u : State} → u ≡ after s v → run_from s (rest l at).events ≡ run_from u (rest l next).events
   unfolding run_from
-  events_got g u k = rw (rest_got l at i g, k)
+  events_got g k = rw (rest_got l at i g, k)
 
--- ── the ways in which a run ends ──
+-- What is left to do at the offset at of the list l, with the table t, event e the next, and the buffer o, is what was to do at its start: with the table s, and the buffer b.
+pub record Left (l : List ℕ) (s : State) (b : TextBuffer) (at e : ℕ) (t : State) (o : TextBuffer) : Type 0 where
+  pub same : o.bytes.ghost_name ≡ b.bytes.ghost_name
+  pub lines : (f : State → List (List ℕ)) → printed o.bytes.now o.end (left f l t at e) ≡ printed b.bytes.now b.end (left f l s 4 1)
+  pub table : run_from t (rest l at).events ≡ run_from s (rest l 4).events
 
--- at the offset at, with the table t, where the lines that are left and the table that is left are those of the whole run
-module _ (l b : List ℕ) (from : ℕ) (s : State) (o : List ℕ) (p at e : ℕ) (t : Table)
-    (n : (f : State → List (List ℕ)) → printed o p (left f l (view t) at e) ≡ printed b from (left f l s 4 1)) (m : run_from (view t) (rest l at).events ≡ run_from s (rest l 4).events) where
-  abbrev Ends : List ℕ → Ran → Type 0
-  Ends u y = RanFrom s (rest l 4) b from u y
+module _ {l : List ℕ} {s : State} {b : TextBuffer} {at e : ℕ} (t : Table) {o : TextBuffer} (h : Left l s b at e (view t) o) {x : Next} (i : x ≡ next_at l at) where
+  abbrev Ends : TextBuffer → Result (Option Table) NoRoom → Type 0
+  Ends u y = RanFrom s (rest l 4) b u y
 
-  module _ {x : Next} (i : x ≡ next_at l at) where
-    -- at the list's end
-    pub ends_done : x ≡ Next.Done → (y : Ran) → y ≡ record { left = Left.Table p; table = t } → Ends o y
-    ends_done g y z =
-        subst (Ends o) (sym z)
-        (record { lines = λ f. ap (printed o p) (sym (left_done f l (view t) at e i g)) ∙ n f; table = sym (events_done l (view t) at i g) ∙ m })
+  -- at the list's end
+  pub ends_done : x ≡ Ok None → Ends o (Ok (Some t))
+  ends_done g = record { same = h.same; lines = λ f. ap (printed o.bytes.now o.end) (sym (left_done f l (view t) at e i g)) ∙ h.lines f; table = sym (events_done l (view t) at i g) ∙ h.table }
 
-    -- at a field that stops the list, the number of which is k, and whose line is written
-    module _ {r : Stop} (g : x ≡ Next.Stopped r) (k : ℕ) (j : k ≡ stop_number r) (u : List ℕ) (a : Put) (w : shown a u ≡ printed o p (stopped_line at k ∷ [])) where
-      stop_line : shown a u ≡ printed o p (stopped_line at (stop_number r) ∷ [])
-      stop_line = w ∙ ap (λ (d : ℕ). printed o p (stopped_line at d ∷ [])) j
+  -- at a field that stops the list, the number of which is k
+  module _ {r : Stop} (g : x ≡ Err r) {k : ℕ} (j : k ≡ stop_number r) {u : TextBuffer} {a : Result (Unit {0}) NoRoom} (w : WroteLines o (stopped_line at k ∷ []) a u) where
+    stop_line : (f : State → List (List ℕ)) → left f l (view t) at e ≡ stopped_line at k ∷ f (view t)
+    stop_line f = rw j (left_stopped f l (view t) at e i g)
 
-      pub ends_stopped : (q : ℕ) → a ≡ Put.Next q → (y : Ran) → y ≡ record { left = Left.Table q; table = t } → Ends u y
-      ends_stopped q h y z =
-          subst (Ends u) (sym z)
-          (record {
-            lines = λ f. sym (then_next o u p q a (stopped_line at (stop_number r) ∷ []) (f (view t)) stop_line h) ∙ ap (printed o p) (sym (left_stopped f l (view t) at e i g)) ∙ n f;
-            table = sym (events_stopped l (view t) at i g) ∙ m;
-          })
+    -- whose line is written,
+    pub ends_stopped : {v : Unit {0}} → a ≡ Ok v → Ends u (Ok (Some t))
+    ends_stopped y = record { same = w.same ∙ h.same; lines = λ f. next_printed (f (view t)) w y ∙ rw (← stop_line f) (h.lines f); table = sym (events_stopped l (view t) at i g) ∙ h.table }
 
-      pub stop_refused : a ≡ Put.NoRoom → (f : State → List (List ℕ)) → printed o p (left f l (view t) at e) ≡ shown Put.NoRoom u
-      stop_refused h f = ap (printed o p) (left_stopped f l (view t) at e i g) ∙ then_refused o u p a (stopped_line at (stop_number r) ∷ []) (f (view t)) stop_line h
+    -- or refused
+    pub stop_refused : {d : NoRoom} → a ≡ Err d → Ends u (Err d)
+    stop_refused y = record { same = w.same ∙ h.same; lines = λ f. refused_printed (f (view t)) w y ∙ rw (← stop_line f) (h.lines f); table = tt }
 
-  -- where a line has no room
-  pub ends_refused : (u : List ℕ) → ((f : State → List (List ℕ)) → printed o p (left f l (view t) at e) ≡ shown Put.NoRoom u) → (y : Ran) → y ≡ record { left = Left.Nothing Put.NoRoom; table = t } → Ends u y
-  ends_refused u w y z = subst (Ends u) (sym z) (record { lines = λ f. sym (w f) ∙ n f; table = tt })
+  -- an event that is answered with the number r and leaves the table n
+  module _ {v : Event} {next : ℕ} (g : x ≡ Ok (Some (v, next))) {r : ℕ} (j : r ≡ result_number (step (view t) v)) {n : State} (k : n ≡ after (view t) v)
+      {u : TextBuffer} {a : Result (Unit {0}) NoRoom} (w : WroteLines o (note_lines e r) a u) where
+    got_lines : (f : State → List (List ℕ)) → left f l (view t) at e ≡ note_lines e r ++ left f l n next (e + 1)
+    got_lines f = left_got f l (view t) at e i g r j n k
+
+    pub goes_on : {y : Unit {0}} → a ≡ Ok y → Left l s b next (e + 1) n u
+    goes_on y = record { same = w.same ∙ h.same; lines = λ f. next_printed (left f l n next (e + 1)) w y ∙ rw (← got_lines f) (h.lines f); table = sym (events_got l (view t) at i g k) ∙ h.table }
+
+    -- its line has no room
+    pub note_refused : {d : NoRoom} → a ≡ Err d → Ends u (Err d)
+    note_refused y = record { same = w.same ∙ h.same; lines = λ f. refused_printed (left f l n next (e + 1)) w y ∙ rw (← got_lines f) (h.lines f); table = tt }
 
 -- ── all of a list ──
-pub all_ended : (l b o : List ℕ) (a : Put) (t : Table) → Headed l b o (Heading.Ended a) → (y : Ran) → y ≡ record { left = Left.Nothing a; table = t } → RanAll l b o y
-all_ended l b o a t h y z = subst (RanAll l b o) (sym z) (record { lines = λ f. headed_ended f l b o a h; table = tt })
+module _ {l : List ℕ} {b o : TextBuffer} where
+  pub all_refused : {e : NoRoom} → Headed l b o (Err e) → RanAll l b o (Err e)
+  all_refused {e} h = record { same = h.line.same; lines = λ f. (headed_refused f l {r = Err e} h refl).lines; table = tt }
 
-where_more : {P Q : Type 0} (x : Left) → (P → Q) → where_table P x → where_table Q x
-where_more (Left.Nothing a) f h = tt
-where_more (Left.Table p) f h = f h
+  pub all_ended : Headed l b o (Ok None) → RanAll l b o (Ok None)
+  all_ended h = record { same = h.line.same; lines = λ f. (headed_ended f l h).lines; table = tt }
 
-pub all_run : (l b o : List ℕ) (n : ℕ) (lim : Limits) (p : ℕ) → Headed l b o (Heading.Nodes n lim p) → (s : State) → s ≡ start n lim → (u : List ℕ) (y : Ran) → RanFrom s (rest l 4) o p u y → RanAll l b u y
-all_run l b o n lim p h s e u y r =
-    let first : first_of l ≡ First.Nodes n lim = (headed_nodes table_lines l b o n lim p h).first in
+last_more : (P Q : State → Type 0) (x : Result (Option Table) NoRoom) → ((u : State) → P u → Q u) → LastTable P x → LastTable Q x
+last_more P Q (Err e) f h = tt
+last_more P Q (Ok None) f h = tt
+last_more P Q (Ok (Some t)) f h = f (view t) h
+
+pub all_run : {l : List ℕ} {b o : TextBuffer} {n : ℕ} {lim : Limits} → Headed l b o (Ok (Some (n, lim)))
+    → {s : State} → s ≡ start n lim → {u : TextBuffer} {y : Result (Option Table) NoRoom} → RanFrom s (rest l 4) o u y → RanAll l b u y
+all_run {l} {b} {o} {n} {lim} hd {s} e {u} {y} r =
+    let first : first_of l ≡ Ok (n, lim) = (headed_nodes table_lines l hd).first in
     record {
-      lines = λ f. r.lines f ∙ ap (λ (s : State). printed o p (left f l s 4 1)) e ∙ (headed_nodes f l b o n lim p h).behind;
-      table = where_more y.left
-          (λ q. record {
+      same = r.same ∙ hd.line.same;
+      lines = λ f. r.lines f ∙ rw (e, lines_begun f l refl first) (next_printed (left f l (start n lim) 4 1) (rw first at hd.line) refl);
+      table = last_more (λ v. v ≡ run_from s (rest l 4).events) (RunTable l) y
+          (λ v q. record {
             n = n;
             limits = lim;
             reads = rest l 4;
@@ -98,12 +117,13 @@ all_run l b o n lim p h s e u y r =
     }
 
 -- what is printed behind it
-module _ (f : State → List (List ℕ)) (l b o : List ℕ) (y : Ran) (h : RanAll l b o y) where
-  pub none_behind : (a : Put) → y.left ≡ Left.Nothing a → shown a o ≡ printed b 0 (lines_with f l)
-  none_behind a e = ap (printed_behind f o (view y.table)) (sym e) ∙ h.lines f
+module _ (f : State → List (List ℕ)) {l : List ℕ} {b o : TextBuffer} where
+  pub none_behind : RanAll l b o (Ok None) → WroteLines b (lines_with f l) (Ok tt) o
+  none_behind h = record { same = h.same; lines = h.lines f }
 
-  pub table_behind : (p : ℕ) → y.left ≡ Left.Table p → printed o p (f (view y.table)) ≡ printed b 0 (lines_with f l)
-  table_behind p e = ap (printed_behind f o (view y.table)) (sym e) ∙ h.lines f
+  pub last_behind : {t : Table} → RanAll l b o (Ok (Some t)) → {r : Result (Unit {0}) NoRoom} {d : TextBuffer} → WroteLines o (f (view t)) r d → WroteLines b (lines_with f l) r d
+  last_behind h w = record { same = w.same ∙ h.same; lines = w.lines ∙ h.lines f }
 
-pub run_table : (l b o : List ℕ) (y : Ran) → RanAll l b o y → (p : ℕ) → y.left ≡ Left.Table p → RunTable l (view y.table)
-run_table l b o y h p e = subst (where_table (RunTable l (view y.table))) e h.table
+  -- a refusal, as it is handed on
+  pub refused_behind : {e : NoRoom} → RanAll l b o (Err e) → {r : Result (Unit {0}) NoRoom} → IsErr r → WroteLines b (lines_with f l) r o
+  refused_behind {e} h {r} i = record { same = h.same; lines = rw (refused_at r o.end i) (h.lines f) }

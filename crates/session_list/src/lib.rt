@@ -5,70 +5,35 @@
 ghost use Rattle.std.specs.Prelude.{◌≡◌, ◌≤◌, length};
 ghost use Rattle.model.specs.State.{view};
 ghost use Rattle.event_list.specs.Format.{rest};
-ghost use Rattle.listing.specs.Printing.{shown, printed, Whole};
+ghost use Rattle.listing.specs.Printing.{Printed, Whole, WroteLines};
 ghost use Rattle.run_list.specs.Text.{lines_of};
 ghost use Rattle.session_list.specs.Ran.{RanFrom, RanAll};
 
-use event_list::Next;
-use listing::Put;
+use listing::{NoRoom, TextBuffer};
 use model::Table;
-use run_list::{Heading, TEXT_LIMIT};
+use run_list::TEXT_LIMIT;
 
-// What is left to print where a list was run: nothing, and then what printing answered; or its last table, from this offset on.
-#[derive(Clone, Copy)]
-pub enum Left {
-    Nothing(Put),
-    Table(usize),
-}
-
-// What running a list gives: what is left to print, and its last table. Where nothing is left the table is of no use.
-#[derive(Clone, Copy)]
-pub struct Ran {
-    pub left: Left,
-    pub table: Table,
-}
-
-fn ran_with(left: Left, table: Table) -> Ran
-    ensures { result ≡ record { left = left; table = table } }
-{
-    Ran {
-        left: left,
-        table: table,
-    }
-}
-
-// The events of list behind its first field, applied to the table, which starts as start; and the lines of those that are refused, and of the place where the list stopped.
-fn run(list: &[u8], out: &mut [u8], from: usize, start: Table) -> Ran
+// The events of list behind its first field, applied to the table, which starts as start; and the lines of those that are refused, and of the place where the list stopped. The last
+// table is not printed yet.
+fn run(list: &[u8], out: &mut TextBuffer, start: Table) -> Result<Option<Table>, NoRoom>
     requires { (4 ≤ length list.now) × (length list.now ≤ 65536) }
-    ensures { RanFrom (view start) (rest list.now 4) out.old from out.new result }
+    ensures { RanFrom (view start) (rest list.now 4) out.old out.new result }
 {
     let mut table = start;
     let mut at: usize = 4;
     let mut e: u32 = 1;
-    let mut p = from;
+    // kept: a loop over offsets, and the number of the event beside them, as in run_list; here the step is another, and the table is a session's.
     loop {
         match event_list::event_at(list, at) {
-            Next::Done => return ran_with(Left::Table(p), table),
-            Next::Stopped(s) => match listing::put_stopped(
-                out,
-                p,
-                at as u32,
-                event_list::stop_number(s),
-            ) {
-                Put::NoRoom => return ran_with(Left::Nothing(Put::NoRoom), table),
-                Put::Next(q) => return ran_with(Left::Table(q), table),
-            },
-            Next::Got(event, next) => {
+            Ok(None) => return Ok(Some(table)),
+            Err(s) => {
+                out.put_stopped(at as u32, event_list::stop_number(s))?;
+                return Ok(Some(table));
+            }
+            Ok(Some((event, next))) => {
                 let o = session::stepped_in_place(table, event);
-                let answer = o.answer;
-                match run_list::note(out, p, e, answer) {
-                    Put::NoRoom => return ran_with(Left::Nothing(Put::NoRoom), table),
-                    Put::Next(q) => {
-                        p = q;
-                    }
-                }
-                let kept = o.table;
-                table = kept;
+                run_list::note(out, e, o.answer)?;
+                table = o.table;
                 at = next;
                 e += 1;
             }
@@ -76,45 +41,39 @@ fn run(list: &[u8], out: &mut [u8], from: usize, start: Table) -> Ran
     }
 }
 
-// All of list, and all that is printed of it into out, from its start, but for its last table.
-pub fn run_all(list: &[u8], out: &mut [u8]) -> Ran
+// All of list, and all that is printed of it, behind what is written in out, but for its last table, which is answered; none where the first field is not good.
+pub fn run_all(list: &[u8], out: &mut TextBuffer) -> Result<Option<Table>, NoRoom>
     ensures { RanAll list.now out.old out.new result }
 {
-    match run_list::put_heading(list, out) {
-        Heading::Ended(a) => {
-            let none = machine::starting(0, predicates::tower());
-            let t = none.table;
-            ran_with(Left::Nothing(a), t)
-        }
-        Heading::Nodes(n, limits, at) => {
+    match run_list::put_heading(list, out)? {
+        None => Ok(None),
+        Some((n, limits)) => {
             let begun = machine::starting(n, limits);
-            let t = begun.table;
-            run(list, out, at, t)
+            run(list, out, begun.table)
         }
     }
 }
 
-// The lines of list, written into out from its start.
-fn print_lines(list: &[u8], out: &mut [u8]) -> Put
-    ensures { shown result out.new ≡ printed out.old 0 (lines_of list.now) }
+// The lines of list, behind what is written in out.
+fn print_lines(list: &[u8], out: &mut TextBuffer) -> Result<(), NoRoom>
+    ensures { WroteLines out.old (lines_of list.now) result out.new }
 {
-    let r = run_all(list, out);
-    let left = r.left;
-    match left {
-        Left::Nothing(a) => a,
-        Left::Table(at) => {
-            let t = r.table;
-            listing::put_table(out, at, t)
-        }
+    match run_all(list, out)? {
+        None => Ok(()),
+        Some(table) => out.put_table(table),
     }
+}
+
+// The text of list at the start of out, and its length; or refusal 15.
+fn print(list: &[u8], out: &mut [u8]) -> Result<usize, NoRoom>
+    ensures { Printed (lines_of list.now) out.old out.new result }
+{
+    listing::print_into(out, |text| print_lines(list, text))
 }
 
 // The text of list at the start of out, and its length: `run_list::print_whole`, with the events applied in place.
 pub fn print_whole(list: &[u8], out: &mut [u8; TEXT_LIMIT]) -> usize
     ensures { Whole (lines_of list.now) out.old out.new result }
 {
-    match print_lines(list, out) {
-        Put::Next(n) => n,
-        Put::NoRoom => 0,
-    }
+    print(list, out).unwrap_or(0)
 }

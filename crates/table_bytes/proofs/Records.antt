@@ -1,23 +1,14 @@
 -- How long each record is, and where each part of a table ends.
 use Prim.Native.Nat.{ℕ, ◌+◌}
-use mathlib.Core.Path.{◌≡◌, refl}
+use mathlib.Core.Path.{◌≡◌}
 use mathlib.Core.List.{List, ◌++◌}
 use lib.ListN.{length, length-append}
-use Rattle.model.specs.declared.Node.{Node}
-use Rattle.model.specs.declared.Message.{Message}
 use Rattle.model.specs.declared.Table.{Table}
 use Rattle.number_bytes.specs.Bytes.{bytes, all}
 use Rattle.number_bytes.proofs.Numbers.{length_bytes}
 use Rattle.number_bytes.proofs.Records.{all_long}
-use Rattle.table_bytes.specs.Bytes.{limits_bytes, parts_bytes, node_bytes, message_bytes, size, encoded, Fits}
-
-pub node_long : (c : Node) → length (node_bytes c) ≡ 29
-unfolding bytes parts_bytes node_bytes
-node_long c = refl
-
-pub message_long : (m : Message) → length (message_bytes m) ≡ 14
-unfolding bytes message_bytes
-message_long m = refl
+pub use Rattle.table_bytes.specs.Sizes.{node_long, message_long}
+use Rattle.table_bytes.specs.Bytes.{limits_bytes, node_bytes, message_bytes, size, encoded, Fits}
 
 -- how many elements each array of a table has
 pub record Lengths (t : Table) : Type 0 where

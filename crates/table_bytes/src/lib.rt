@@ -11,13 +11,16 @@
 // What is read and written is in specs/Bytes.
 #![tactic(auto)]
 
-ghost use Rattle.std.specs.Prelude.{◌≡◌, ◌≤◌};
-ghost use Rattle.number_bytes.specs.Bytes.{bytes, many, all, written};
+ghost use Rattle.std.specs.Prelude.{◌≡◌, ◌^◌, ◌≤◌};
+ghost use Rattle.number_bytes.specs.Bytes.{bytes, written};
+ghost use Rattle.number_bytes.specs.Sizes.{length_bytes};
 ghost use Rattle.table_bytes.specs.Bytes as spec;
+ghost use Rattle.table_bytes.specs.Sizes.{node_long, message_long};
 
 use model::{Activity, CallNo, GroupNo, Limits, Message, Node, Table, TaskNo};
 use number_bytes::{
-    four, from, one, put_four, put_one, put_two, status_number, status_of, two, yes_number,
+    Form, four, from, one, put_four, put_many, put_one, put_two, read_many, status_number,
+    status_of, two, yes_number,
 };
 
 // How long a table's bytes are, and those of eight records.
@@ -26,6 +29,7 @@ pub const SIZE: usize = 4436;
 pub const RECORDS_SIZE: usize = 232;
 
 // An activity with a place for each thing that one of them holds.
+// kept: `tag` is a byte of 01's form, and the bytes read may hold any.
 #[derive(Clone, Copy)]
 struct Parts {
     tag: u8,
@@ -40,27 +44,31 @@ fn parts_with(tag: u8, set: u16, former: u16, node: u8, caller: u8, call: u32) -
     ensures { result ≡ spec.parts tag set former node caller call }
 {
     Parts {
-        tag: tag,
-        set: set,
-        former: former,
-        node: node,
-        caller: caller,
-        call: call,
+        tag,
+        set,
+        former,
+        node,
+        caller,
+        call,
     }
 }
 
 // ── reading ──
 
+#[tactic(auto, unfolding(crate::specs::Bytes::activity_of, model::specs::Pick::pick))]
 fn activity_of(p: Parts) -> Activity
     ensures { result ≡ spec.activity_of p }
 {
-    let set = p.set;
-    let former = p.former;
-    let node = p.node;
-    let caller = p.caller;
-    let call = CallNo { number: p.call };
-    let k = p.tag % 9;
-    match k {
+    let Parts {
+        tag,
+        set,
+        former,
+        node,
+        caller,
+        call: number,
+    } = p;
+    let call = CallNo { number };
+    match tag % 9 {
         0 => Activity::Idle,
         1 => Activity::Asking {
             asked: node,
@@ -72,7 +80,7 @@ fn activity_of(p: Parts) -> Activity
         },
         3 => Activity::Inviting {
             found: set,
-            former: former,
+            former,
             now: node,
         },
         4 => Activity::Collecting,
@@ -84,17 +92,15 @@ fn activity_of(p: Parts) -> Activity
         7 => Activity::Forwarding {
             rest: set,
             now: node,
-            caller: caller,
-            call: call,
+            caller,
+            call,
         },
-        8..=255 => Activity::Accepting {
-            caller: caller,
-            call: call,
-        },
+        _ => Activity::Accepting { caller, call },
     }
 }
 
 // The node whose record starts s, of any bytes: what they are too few for is 0.
+#[tactic(auto, unfolding(crate::specs::Bytes::node_of))]
 pub fn node_of(s: &[u8]) -> Node
     ensures { result ≡ spec.node_of s.now }
 {
@@ -121,6 +127,7 @@ pub fn node_of(s: &[u8]) -> Node
 }
 
 // The message whose record starts s.
+#[tactic(auto, unfolding(crate::specs::Bytes::message_of))]
 fn message_of(s: &[u8]) -> Message
     ensures { result ≡ spec.message_of s.now }
 {
@@ -135,50 +142,8 @@ fn message_of(s: &[u8]) -> Message
     }
 }
 
-// The nodes whose records start s.
-fn nodes_of(s: &[u8]) -> [Node; 16]
-    ensures { result ≡ many spec.node_of 29 16 s.now }
-{
-    let first = node_of(s);
-    let mut all = [first; 16];
-    let mut i: usize = 0;
-    while i < 16 {
-        let node = node_of(from(s, i * 29));
-        all[i] = node;
-        i += 1;
-    }
-    all
-}
-
-// The messages whose records start s.
-fn messages_of(s: &[u8]) -> [Message; 64]
-    ensures { result ≡ many spec.message_of 14 64 s.now }
-{
-    let first = message_of(s);
-    let mut all = [first; 64];
-    let mut i: usize = 0;
-    while i < 64 {
-        let m = message_of(from(s, i * 14));
-        all[i] = m;
-        i += 1;
-    }
-    all
-}
-
-// The counts whose bytes start s.
-fn counts_of(s: &[u8]) -> [u32; 256]
-    ensures { result ≡ many spec.count_of 4 256 s.now }
-{
-    let mut all: [u32; 256] = [0; 256];
-    let mut i: usize = 0;
-    while i < 256 {
-        all[i] = four(from(s, i * 4), 0);
-        i += 1;
-    }
-    all
-}
-
 // The limits that start s.
+#[tactic(auto, unfolding(crate::specs::Bytes::limits_of))]
 fn limits_of(s: &[u8]) -> Limits
     ensures { result ≡ spec.limits_of s.now }
 {
@@ -192,17 +157,15 @@ fn limits_of(s: &[u8]) -> Limits
 pub fn decode(bytes: &[u8]) -> Table
     ensures { result ≡ spec.decoded bytes.now }
 {
-    let nodes = nodes_of(from(bytes, 1));
-    let messages = messages_of(from(bytes, 465));
     Table {
         n: one(bytes, 0),
         limits: limits_of(from(bytes, 4434)),
-        nodes: nodes,
-        messages: messages,
+        nodes: read_many::<TableForm, _, _>(from(bytes, 1)),
+        messages: read_many::<TableForm, _, _>(from(bytes, 465)),
         waiting: one(bytes, 1361),
-        sent: counts_of(from(bytes, 1362)),
-        delivered: counts_of(from(bytes, 2386)),
-        lost: counts_of(from(bytes, 3410)),
+        sent: read_many::<TableForm, _, _>(from(bytes, 1362)),
+        delivered: read_many::<TableForm, _, _>(from(bytes, 2386)),
+        lost: read_many::<TableForm, _, _>(from(bytes, 3410)),
     }
 }
 
@@ -230,7 +193,7 @@ fn parts_of(a: Activity) -> Parts
 }
 
 fn put_parts(out: &mut [u8], at: usize, p: Parts)
-    requires { at ≤ 3000 }
+    requires { at ≤ 2 ^ 33 }
     ensures { out.new ≡ written out.old at (spec.parts_bytes p) }
 {
     put_one(out, at, p.tag);
@@ -243,74 +206,95 @@ fn put_parts(out: &mut [u8], at: usize, p: Parts)
 
 // The bytes of a node over those of out from a place on, as many as there is room for.
 pub fn put_node(out: &mut [u8], at: usize, node: Node)
-    requires { at ≤ 2000 }
+    requires { at ≤ 2 ^ 32 }
     ensures { out.new ≡ written out.old at (spec.node_bytes node) }
 {
-    let status = node.status;
-    let group = node.group;
-    let task = node.task;
-    let last = node.last;
-    let activity = node.activity;
-    let tag = status_number(status);
-    let parts = parts_of(activity);
-    put_one(out, at, tag);
+    put_one(out, at, status_number(node.status));
     put_four(out, at + 1, node.counter);
-    put_four(out, at + 5, group.number);
+    put_four(out, at + 5, node.group.number);
     put_one(out, at + 9, node.coordinator);
-    put_two(out, at + 10, task.number);
+    put_two(out, at + 10, node.task.number);
     put_two(out, at + 12, node.members);
-    put_four(out, at + 14, last.number);
-    put_parts(out, at + 18, parts)
+    put_four(out, at + 14, node.last.number);
+    put_parts(out, at + 18, parts_of(node.activity))
 }
 
 fn put_message(out: &mut [u8], at: usize, m: Message)
-    requires { at ≤ 2000 }
+    requires { at ≤ 2 ^ 32 }
     ensures { out.new ≡ written out.old at (spec.message_bytes m) }
 {
-    let call = m.call;
-    let group = m.group;
-    let task = m.task;
-    let yes = yes_number(m.yes);
     put_one(out, at, m.sender);
     put_one(out, at + 1, m.receiver);
     put_one(out, at + 2, m.kind);
-    put_four(out, at + 3, call.number);
-    put_four(out, at + 7, group.number);
-    put_two(out, at + 11, task.number);
-    put_one(out, at + 13, yes)
+    put_four(out, at + 3, m.call.number);
+    put_four(out, at + 7, m.group.number);
+    put_two(out, at + 11, m.task.number);
+    put_one(out, at + 13, yes_number(m.yes))
 }
 
-fn put_nodes(out: &mut [u8], t: Table)
-    ensures { out.new ≡ written out.old 1 (all spec.node_bytes t.nodes) }
-{
-    let mut i: usize = 0;
-    while i < 16 {
-        let node = t.nodes[i];
-        put_node(out, 1 + i * 29, node);
-        i += 1;
+// ── what a table has many of ──
+
+// The forms of nodes, messages and counts.
+struct TableForm;
+
+impl Form<Node> for TableForm {
+    ghost SIZE = { 29 };
+
+    ghost of_bytes = { spec.node_of };
+
+    ghost bytes = { spec.node_bytes };
+
+    const SIZE: usize = 29;
+
+    fn read(s: &[u8]) -> Node {
+        node_of(s)
     }
+
+    fn put(out: &mut [u8], at: usize, x: Node) {
+        put_node(out, at, x)
+    }
+
+    ghost long = { node_long };
 }
 
-fn put_messages(out: &mut [u8], t: Table)
-    ensures { out.new ≡ written out.old 465 (all spec.message_bytes t.messages) }
-{
-    let mut i: usize = 0;
-    while i < 64 {
-        let m = t.messages[i];
-        put_message(out, 465 + i * 14, m);
-        i += 1;
+impl Form<Message> for TableForm {
+    ghost SIZE = { 14 };
+
+    ghost of_bytes = { spec.message_of };
+
+    ghost bytes = { spec.message_bytes };
+
+    const SIZE: usize = 14;
+
+    fn read(s: &[u8]) -> Message {
+        message_of(s)
     }
+
+    fn put(out: &mut [u8], at: usize, x: Message) {
+        put_message(out, at, x)
+    }
+
+    ghost long = { message_long };
 }
 
-fn put_counts(out: &mut [u8], at: usize, counts: [u32; 256])
-    requires { at ≤ 3500 }
-    ensures { out.new ≡ written out.old at (all (bytes 4) counts) }
-{
-    let mut i: usize = 0;
-    while i < 256 {
-        put_four(out, at + i * 4, counts[i]);
-        i += 1;
+impl Form<u32> for TableForm {
+    ghost SIZE = { 4 };
+
+    ghost of_bytes = { spec.count_of };
+
+    ghost bytes = { bytes 4 };
+
+    const SIZE: usize = 4;
+
+    fn read(s: &[u8]) -> u32 {
+        four(s, 0)
     }
+
+    fn put(out: &mut [u8], at: usize, x: u32) {
+        put_four(out, at, x)
+    }
+
+    ghost long = { length_bytes 4 };
 }
 
 fn put_limits(out: &mut [u8], at: usize, limits: Limits)
@@ -325,28 +309,19 @@ fn put_limits(out: &mut [u8], at: usize, limits: Limits)
 pub fn encode(t: Table, out: &mut [u8])
     ensures { spec.Stored t out.old out.new }
 {
-    let sent = t.sent;
-    let delivered = t.delivered;
-    let lost = t.lost;
-    let limits = t.limits;
     put_one(out, 0, t.n);
-    put_nodes(out, t);
-    put_messages(out, t);
+    put_many::<TableForm, _>(out, 1, &t.nodes);
+    put_many::<TableForm, _>(out, 465, &t.messages);
     put_one(out, 1361, t.waiting);
-    put_counts(out, 1362, sent);
-    put_counts(out, 2386, delivered);
-    put_counts(out, 3410, lost);
-    put_limits(out, 4434, limits)
+    put_many::<TableForm, _>(out, 1362, &t.sent);
+    put_many::<TableForm, _>(out, 2386, &t.delivered);
+    put_many::<TableForm, _>(out, 3410, &t.lost);
+    put_limits(out, 4434, t.limits)
 }
 
 // The bytes of eight records, such as `machine::recovery` answers, one after another over the start of out, as `encode` writes those of a table.
 pub fn encode_records(records: [Node; 8], out: &mut [u8])
     ensures { spec.RecordsStored records out.old out.new }
 {
-    let mut i: usize = 0;
-    while i < 8 {
-        let node = records[i];
-        put_node(out, i * 29, node);
-        i += 1;
-    }
+    put_many::<TableForm, _>(out, 0, &records)
 }

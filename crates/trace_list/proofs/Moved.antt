@@ -15,8 +15,7 @@ use Rattle.model.specs.Step.{actor, reaction_to, remaining, sent, effect, none_w
 use Rattle.model.specs.Answers.{answer_number, result_number, is_accepted}
 use Rattle.model.specs.declared.Node.{Node}
 use Rattle.model.specs.declared.Message.{Message}
-use Rattle.model.specs.declared.Outgoing.{Outgoing}
-use Rattle.model.specs.declared.Outgoing.TheVariants.{Nothing, Send}
+use Rattle.std.specs.Prelude.{Option, Some, None}
 use Rattle.model.specs.declared.Table.{Table}
 use Rattle.model.specs.declared.Outcome.{Outcome}
 use Rattle.model.specs.declared.Event.{Event}
@@ -142,13 +141,13 @@ left_long s (Deliver a b) w = omega (arith, without_length a b s.queue (not-fals
 left_long s (Lose a b) w = omega (arith, without_length a b s.queue (not-false _ w))
 
 -- what stands behind the k messages of r, by how many there are then
-put_none : (r : List Message) (k w : ℕ) (o : Outgoing) → k ≡ length r → w ≡ length (r ++ sent o) → w ≤ k → sent_lines o ≡ []
-put_none r k w Nothing e f h = refl
-put_none r k w (Send m) e f h = absurd (omega (arith, e, f, h, length-append r (m ∷ [])))
+put_none : (r : List Message) (k w : ℕ) (o : Option Message) → k ≡ length r → w ≡ length (r ++ sent o) → w ≤ k → sent_lines o ≡ []
+put_none r k w None e f h = refl
+put_none r k w (Some m) e f h = absurd (omega (arith, e, f, h, length-append r (m ∷ [])))
 
-put_some : (r : List Message) (k w : ℕ) (o : Outgoing) → k ≡ length r → w ≡ length (r ++ sent o) → k < w → sent_lines o ≡ sent_line (get_or (r ++ sent o) k no_message) ∷ []
-put_some r k w Nothing e f h = absurd (omega (arith, e, f, h, length-append r []))
-put_some r k w (Send m) e f h =
+put_some : (r : List Message) (k w : ℕ) (o : Option Message) → k ≡ length r → w ≡ length (r ++ sent o) → k < w → sent_lines o ≡ sent_line (get_or (r ++ sent o) k no_message) ∷ []
+put_some r k w None e f h = absurd (omega (arith, e, f, h, length-append r []))
+put_some r k w (Some m) e f h =
     let z : length r + 0 ≡ k = omega (arith, e) in
     ap (λ (y : Message). sent_line y ∷ []) (sym (ap (λ (j : ℕ). get_or (r ++ (m ∷ [])) j no_message) (sym z) ∙ get_or-append-add r (m ∷ []) 0 no_message))
 

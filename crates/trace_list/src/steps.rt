@@ -1,16 +1,18 @@
-// The lines of a step, written into the free end of a lent buffer. The caller sees to the room. Each function answers the offset behind what it wrote.
-ghost use Rattle.std.specs.Prelude.{◌≡◌, true, [], ◌∷◌, ◌+◌, ◌-◌, ◌%◌, ◌≤◌, length, get_or};
+// The lines of a step, written into a lent buffer. The caller sees to the room.
+ghost use Rattle.std.specs.Prelude.{◌≡◌, true, [], ◌∷◌, ◌++◌, ◌+◌, ◌-◌, ◌%◌, ◌≤◌, length, get_or};
 ghost use Rattle.model.specs.Pick.{pick};
 ghost use Rattle.model.specs.State.{starting_node, no_message, first_of, view};
 ghost use Rattle.model.specs.Step as spec;
 ghost use Rattle.machine.specs.Parts as parts;
 ghost use Rattle.machine.specs.Stepped.{Stepped};
-ghost use Rattle.listing.specs.Printing.{joined, Appended};
-ghost use Rattle.trace_text.specs.Words.{record_line, same_node, taken_line, sent_line};
+ghost use Rattle.listing.specs.Ascii.{bytes};
+ghost use Rattle.listing.specs.Printing.{joined, HasRoom, Wrote};
+ghost use Rattle.trace_text.specs.Words.{record_line, same_node, message_words};
 ghost use Rattle.trace_text.specs.Trace.{detail_lines, step_lines};
 ghost use Rattle.trace_list.specs.Steps.{Moves};
 
 use crate::{records, words};
+use listing::TextBuffer;
 use model::{Event, Message, Node, Outcome, Table};
 
 // The record of the event's node.
@@ -36,81 +38,73 @@ fn message_at(messages: [Message; 64], k: u8) -> Message
 }
 
 // How many messages wait once the event's own is out.
+#[tactic(auto, unfolding(model::specs::Pick::pick))]
 fn left_waiting(waiting: u8, v: Event) -> u8
     requires { parts.takes v ≡ true → 1 ≤ waiting }
     ensures { result ≡ pick (parts.takes v) (waiting - 1) waiting }
 {
     if machine::takes(v) {
-        return waiting - 1;
+        waiting - 1
+    } else {
+        waiting
     }
-    waiting
 }
 
 // The line of node i, whose record was c and is d, if it changed.
-fn put_changed(out: &mut [u8], at: usize, i: u8, c: Node, d: Node) -> usize
-    requires { at + 240 ≤ length out.old }
-    ensures { Appended out.old at (joined (pick (same_node c d) [] (record_line i d ∷ []))) out.new result × (result ≤ at + 240) }
+fn put_changed(out: &mut TextBuffer, i: u8, c: Node, d: Node)
+    requires { HasRoom out.old 240 }
+    ensures { Wrote out.old (joined (pick (same_node c d) [] (record_line i d ∷ []))) out.new × (out.new.end ≤ out.old.end + 240) }
 {
-    if records::same_node(c, d) {
-        return at;
+    if !records::same_node(c, d) {
+        words::put_record(out, i, d);
     }
-    words::put_record(out, at, i, d)
 }
 
-// The line of the message m, if the event takes one out.
-fn put_taken_out(out: &mut [u8], at: usize, v: Event, m: Message) -> usize
-    requires { at + 112 ≤ length out.old }
-    ensures { Appended out.old at (joined (pick (parts.takes v) (taken_line m ∷ []) [])) out.new result × (result ≤ at + 112) }
-{
-    if machine::takes(v) {
-        return words::put_taken(out, at, m);
-    }
-    at
-}
-
-// The line of the message m, if one was put in.
-fn put_added(out: &mut [u8], at: usize, some: bool, m: Message) -> usize
-    requires { at + 112 ≤ length out.old }
-    ensures { Appended out.old at (joined (pick some (sent_line m ∷ []) [])) out.new result × (result ≤ at + 112) }
+// The line of the message m, if one was taken out or put in, which w says.
+// kept: the flag is `detail_lines`'s own; an Option would be made by the caller for this one test.
+fn put_moved(out: &mut TextBuffer, some: bool, w: &[u8], m: Message)
+    requires { HasRoom out.old (length w.now + 97) }
+    ensures { Wrote out.old (joined (pick some ((w.now ++ (message_words m ++ bytes "\n")) ∷ []) [])) out.new × (out.new.end ≤ out.old.end + length w.now + 97) }
 {
     if some {
-        return words::put_sent(out, at, m);
+        words::put_message_line(out, w, m);
     }
-    at
 }
 
 // All lines behind the first of an accepted event. No record but that of the event's node changes, and what was put in stands behind the messages that were left.
-fn put_details(out: &mut [u8], at: usize, t: Table, v: Event, u: Table) -> usize
-    requires { (at + 464 ≤ length out.old) × Moves t v u }
-    ensures { Appended out.old at (joined (detail_lines (view t) v (view u))) out.new result × (result ≤ at + 464) }
+fn put_details(out: &mut TextBuffer, t: Table, v: Event, u: Table)
+    requires { HasRoom out.old 464 × Moves t v u }
+    ensures { Wrote out.old (joined (detail_lines (view t) v (view u))) out.new × (out.new.end ≤ out.old.end + 464) }
 {
-    let old = t.nodes;
-    let new = u.nodes;
-    let messages = t.messages;
-    let waiting = t.waiting;
-    let left = left_waiting(waiting, v);
-    let rest = u.messages;
-    let p = put_changed(
+    let left = left_waiting(t.waiting, v);
+    put_changed(
         out,
-        at,
         node_step::actor(v),
-        node_of(old, v),
-        node_of(new, v),
+        node_of(t.nodes, v),
+        node_of(u.nodes, v),
     );
-    let q = put_taken_out(out, p, v, message_for(messages, waiting, v));
-    put_added(out, q, left < u.waiting, message_at(rest, left))
+    put_moved(
+        out,
+        machine::takes(v),
+        b"  taken ",
+        message_for(t.messages, t.waiting, v),
+    );
+    put_moved(
+        out,
+        left < u.waiting,
+        b"  sent ",
+        message_at(u.messages, left),
+    );
 }
 
 // The lines of event e, which is v, on the table t; o is its outcome.
-pub fn put_step(out: &mut [u8], e: u32, v: Event, t: Table, o: Outcome) -> usize
-    requires { (512 ≤ length out.old) × Stepped t v o }
-    ensures { Appended out.old 0 (joined (step_lines (view t) e v)) out.new result × (result ≤ 512) }
+pub fn put_step(out: &mut TextBuffer, e: u32, v: Event, t: Table, o: Outcome)
+    requires { HasRoom out.old 512 × Stepped t v o }
+    ensures { Wrote out.old (joined (step_lines (view t) e v)) out.new × (out.new.end ≤ out.old.end + 512) }
 {
-    let answer = o.answer;
-    if !predicates::is_accepted(answer) {
-        return words::put_refused_step(out, 0, e, v, predicates::answer_number(answer));
+    if !predicates::is_accepted(o.answer) {
+        return words::put_refused_step(out, e, v, predicates::answer_number(o.answer));
     }
-    let u = o.table;
-    let p = words::put_accepted(out, 0, e, v);
-    put_details(out, p, t, v, u)
+    words::put_accepted(out, e, v);
+    put_details(out, t, v, o.table);
 }

@@ -6,6 +6,7 @@ use mathlib.Core.Path.{◌≡◌, refl, ◌∙◌, ap}
 use mathlib.Core.List.{List, [], ◌∷◌, ◌++◌}
 use lib.Count.{ones_in, ones, count_leading_zeros}
 use lib.ListN.{length}
+use Rattle.std.specs.Prelude.{Ok}
 use Rattle.model.specs.Pick.{pick}
 use Rattle.model.specs.Limits.{tower, stand, traffic_end}
 use Rattle.model.specs.Counts.{total}
@@ -18,7 +19,6 @@ use Rattle.model.specs.declared.Limits.{Limits}
 use Rattle.model.specs.declared.Event.{Event}
 use Rattle.model.proofs.InRange.{run_in}
 use Rattle.model.proofs.Aside.{Room, by_between, room_after, room_below, start_room}
-use Rattle.event_list.specs.declared.First.{First}
 use Rattle.event_list.specs.Format.{Ending, length_of, cut_short, checked, event_of, next_at, limits_of, nodes_of, first_of, read_from, rest, reading}
 use Rattle.event_list.specs.Cases.{nodes, stand_nodes, crash, recover, check, timeout, tick, expire, finish, deliver, lose}
 use Rattle.event_list.proofs.Reading.{reading_begun}
@@ -49,7 +49,7 @@ quick_pieces_lem s e x (v ∷ vs) r h =
     ∙ ap (λ (y : Result). joined (answered_lines s e v y) ∷ quick_pieces (kept s y) (e + 1) x vs) (by_between s v r (room_below _ s.sent h))
 
 -- the text of a list of n nodes with these limits
-quick_trace : (l : List ℕ) (n : ℕ) (lim : Limits) → First.Nodes n lim ≡ first_of l → length (rest l 4).events < traffic_end →
+quick_trace : (l : List ℕ) (n : ℕ) (lim : Limits) → Ok (n, lim) ≡ first_of l → length (rest l 4).events < traffic_end →
     trace_text l ≡ joined (cabinets_line n ∷ quick_pieces (start n lim) 1 (rest l 4).ending (rest l 4).events)
 unfolding trace_pieces pieces_from
 quick_trace l n lim i k =

@@ -8,6 +8,7 @@ use lib.Dec.{eqb}
 use lib.ListN.{length, get_or, length-append}
 use lib.Seq.{get_or-append_seam, get_or-append-add}
 use borrow.Author.Tests.{ne_eqb}
+use Rattle.std.specs.Prelude.{Option, None, Some}
 use Rattle.model.specs.Pick.{pick, by_test}
 use Rattle.model.specs.State.{State, start, oldest}
 use Rattle.model.specs.Grounds.{Ground, judged}
@@ -15,8 +16,6 @@ use Rattle.model.specs.Step.{reaction_to, effect, grounds, Result, refused, acce
 use Rattle.model.specs.Answers.{result_number}
 use Rattle.model.specs.declared.Node.{Node}
 use Rattle.model.specs.declared.Message.{Message}
-use Rattle.model.specs.declared.Outgoing.{Outgoing}
-use Rattle.model.specs.declared.Outgoing.TheVariants.{Nothing, Send}
 use Rattle.model.specs.declared.Mark.{Mark}
 use Rattle.model.specs.declared.Event.{Event}
 use Rattle.model.specs.declared.Event.TheVariants.{Crash, Recover, Check, Timeout, Tick, Expire, Finish, Deliver, Lose}
@@ -165,9 +164,9 @@ taken_silent q (Finish i t) = tt
 taken_silent q (Deliver a b) = (indented_silent (taken_line (oldest a b q)) (taken_indented (oldest a b q)), tt)
 taken_silent q (Lose a b) = (indented_silent (taken_line (oldest a b q)) (taken_indented (oldest a b q)), tt)
 
-sent_silent : (o : Outgoing) → Each Silent (sent_lines o)
-sent_silent Nothing = tt
-sent_silent (Send m) = (indented_silent (sent_line m) (sent_indented m), tt)
+sent_silent : (o : Option Message) → Each Silent (sent_lines o)
+sent_silent None = tt
+sent_silent (Some m) = (indented_silent (sent_line m) (sent_indented m), tt)
 
 detail_silent : (s : State) (v : Event) (u : State) → Each Silent (detail_lines s v u)
 detail_silent s v u =

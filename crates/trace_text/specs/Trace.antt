@@ -1,12 +1,10 @@
 -- What `trace` prints: one definition from list bytes to printed bytes.
-use Rattle.std.specs.Prelude.{ℕ, ◌+◌, List, [], ◌∷◌, ◌++◌}
+use Rattle.std.specs.Prelude.{ℕ, ◌+◌, List, [], ◌∷◌, ◌++◌, Option, None, Some}
 use Rattle.model.specs.Pick.{pick}
 use Rattle.model.specs.State.{State, start, oldest}
 use Rattle.model.specs.Step.{reaction_to, Result, refused, accepted, step, after, run_from}
 use Rattle.model.specs.declared.Node.{Node}
 use Rattle.model.specs.declared.Message.{Message}
-use Rattle.model.specs.declared.Outgoing.{Outgoing}
-use Rattle.model.specs.declared.Outgoing.TheVariants.{Nothing, Send}
 use Rattle.model.specs.declared.Event.{Event}
 use Rattle.model.specs.declared.Event.TheVariants.{Crash, Recover, Check, Timeout, Tick, Expire, Finish, Deliver, Lose}
 use Rattle.event_list.specs.Format.{stop_number, Reading, Listed, failed, begun, reading}
@@ -47,9 +45,9 @@ taken_lines q (Deliver a b) = taken_line (oldest a b q) ∷ []
 taken_lines q (Lose a b) = taken_line (oldest a b q) ∷ []
 
 -- the message "put in"
-abbrev pub sent_lines : Outgoing → List (List ℕ)
-sent_lines Nothing = []
-sent_lines (Send m) = sent_line m ∷ []
+abbrev pub sent_lines : Option Message → List (List ℕ)
+sent_lines None = []
+sent_lines (Some m) = sent_line m ∷ []
 
 -- "after an accepted one": event v on the state s, which is then u
 abbrev pub detail_lines : State → Event → State → List (List ℕ)

@@ -1,5 +1,5 @@
 -- Laws of `listed`, of rows of counts and of the tests over all counts, for the loops.
-use Prim.Native.Nat.{ℕ, zero, suc, ◌+◌, ◌-◌, ◌≤◌, ◌<◌}
+use Prim.Native.Nat.{ℕ, zero, suc, ◌+◌, ◌-◌, ◌*◌, ◌≤◌, ◌<◌}
 use native.Mathlib.Nat.{not-suc-le-zero}
 use native.Mathlib.Numerals.{add-one}
 use native.Mathlib.Omega.{arith}
@@ -7,6 +7,7 @@ use mathlib.Core.Path.{◌≡◌, refl, sym, ◌∙◌, ap, ap₂}
 use mathlib.Core.Bool.{Bool, true, false, ◌&&◌, ◌||◌, and-true, and-false, or-true, true≢false}
 use mathlib.Core.List.{List, [], ◌∷◌, ◌++◌}
 use lib.Dec.{eqb, leb, ltb}
+use Rattle.std.proofs.lemmas.List.{length-take, length-drop, get_or-take, get_or-drop}
 use lib.ListN.{length, get_or, take, drop, set, length-set, drop_of_length-le, get_or-eq_default}
 use lib.Seq.{take-suc, take-suc-set, take_all, drop-cons, ext_get_or, get_or-set_same, get_or-set_other}
 use mir.Val.{Val}
@@ -74,6 +75,18 @@ module _ {A : Type 0} where
         rw (← e) (sym (take_all i xs (omega arith)) ∙ filled)
 
 -- ── rows ──
+-- the counts from node i + 1 are the 16 from place 16 i on
+pub row_slice : (l : List ℕ) (i m : ℕ) → length l ≡ 256 → i < 16 → m ≡ 16 → take m (drop (i * 16) l) ≡ listed (count_at l (1 + i)) 1 16
+row_slice l i m h b e =
+    rw e
+    (ext_get_or 0 _ _ (simp (length-take, length-drop, listed_long) (omega arith))
+    (λ j p.
+    let q : j < 16 = omega (arith, length-take 16 (drop (i * 16) l)) in
+    get_or-take 16 (drop (i * 16) l) j 0 q
+    ∙ get_or-drop (i * 16) l j 0
+    ∙ ap (λ (k : ℕ). get_or l k 0) (omega arith)
+    ∙ sym (listed_at (count_at l (1 + i)) 1 16 j 0 q)))
+
 pub rows_same : (f g : ℕ → ℕ → ℕ) → ((a b : ℕ) → Counting a b → f a b ≡ g a b) → rows_of f ≡ rows_of g
 rows_same f g h =
     listed_same _ _ 1 16 (λ a l u. listed_same (f a) (g a) 1 16 (λ b m v. h a b (record { low = l; high = omega arith; low_to = m; high_to = omega arith })))
@@ -192,7 +205,7 @@ most_is n k x = by_test (λ m. leb x m ≡ count_in_range n k x) (λ e. rw e (sy
         rw (lt-leb x 0 (omega arith)) (sym (and-false (leb x traffic_end)))
 
 -- three tests, each taken before what is left of its list
-in_order : (good r s t x y z : Bool) → (good && ((r && x) && (s && y) && (t && z))) ≡ ((good && r && s && t) && (x && y && z))
+in_order : (good r s t x y z : Bool) → (good && ((r && x) && (s && y) && (t && z))) ≡ ((good && (r && s && t)) && (x && y && z))
 in_order false r s t x y z = refl
 in_order true false s t x y z = refl
 in_order true true false t true y z = refl
@@ -208,15 +221,21 @@ module _ (n : ℕ) (x y z : List ℕ) where
   rest k = every (count_in_range n) k (drop k x) && every (count_in_range n) k (drop k y) && every (count_in_range n) k (drop k z)
 
   module _ (k : ℕ) (good : Bool) where
-    one_turn : (l : List ℕ) → k < length l → every (count_in_range n) k (drop k l) ≡ (leb (get_or l k 0) (most_at n k) && every (count_in_range n) (k + 1) (drop (k + 1) l))
+    -- the test at k, and those behind it
+    abbrev pub here : List ℕ → Bool
+    here l = leb (get_or l k 0) (most_at n k)
+
+    abbrev pub behind : List ℕ → Bool
+    behind l = every (count_in_range n) (k + 1) (drop (k + 1) l)
+
+    one_turn : (l : List ℕ) → k < length l → every (count_in_range n) k (drop k l) ≡ (here l && behind l)
     unfolding every
     one_turn l h =
         let d : drop k l ≡ get_or l k 0 ∷ drop (k + 1) l = rw (add-one k) (drop-cons l k 0 h) in
         rw (d, most_is n k (get_or l k 0))
 
-    pub each_turn : k < length x → k < length y → k < length z
-        → (good && rest k) ≡ ((good && leb (get_or x k 0) (most_at n k) && leb (get_or y k 0) (most_at n k) && leb (get_or z k 0) (most_at n k)) && rest (k + 1))
-    each_turn a b c = rw (one_turn x a, one_turn y b, one_turn z c) (in_order good _ _ _ _ _ _)
+    pub each_turn : k < length x → k < length y → k < length z → (good && rest k) ≡ ((good && (here x && here y && here z)) && rest (k + 1))
+    each_turn a b c = rw (one_turn x a, one_turn y b, one_turn z c) (in_order good (here x) (here y) (here z) (behind x) (behind y) (behind z))
 
     pub each_end : length x ≤ k → length y ≤ k → length z ≤ k → (good && rest k) ≡ good
     unfolding every

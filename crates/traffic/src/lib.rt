@@ -1,7 +1,8 @@
 // T-05, traffic totals: a table's counts as 16 rows of 16, the waiting messages counted by pair, and whether a table's counts are in range.
+// kept: the three counts are three parameters, as they are three fields of 01's table: one array of three counts would change its form in bytes.
 #![tactic(auto)]
 
-ghost use Rattle.std.specs.Prelude.{◌≡◌, ◌+◌, ◌≤◌, ◌<◌, eqb, length, []};
+ghost use Rattle.std.specs.Prelude.{◌≡◌, ◌+◌, ◌≤◌, ◌<◌, eqb, []};
 ghost use Rattle.model.specs.Counts.{count_at, listed, rows_of};
 ghost use Rattle.model.specs.Limits.{tower};
 ghost use Rattle.model.specs.Range as range;
@@ -14,41 +15,18 @@ use model::Message;
 
 // ── as rows ──
 
-// The counts from a.
-fn row(counts: &[u32; 256], a: usize) -> [u32; 16]
-    requires { (1 ≤ a) × (a ≤ 16) }
-    ensures { result ≡ listed (count_at counts.now a) 1 16 }
-{
-    let mut all = [0u32; 16];
-    let mut b: usize = 0;
-    while b < 16 {
-        all[b] = counts[(a - 1) * 16 + b];
-        b += 1;
-    }
-    all
-}
-
 // "16 rows of 16 counts": a row for each sender.
 pub fn rows(counts: [u32; 256]) -> [[u32; 16]; 16]
     ensures { result ≡ rows_of (count_at counts) }
 {
     let mut all = [[0u32; 16]; 16];
-    let mut a: usize = 0;
-    while a < 16 {
-        let one = row(&counts, a + 1);
-        all[a] = one;
-        a += 1;
+    for a in 0..16 {
+        all[a].copy_from_slice(&counts[a * 16..a * 16 + 16]);
     }
     all
 }
 
 // ── the waiting messages ──
-
-fn is_number(i: u8) -> bool
-    ensures { result ≡ range.is_node 16 i }
-{
-    (1 <= i) & (i <= 16)
-}
 
 // One more from a to b.
 fn raise(all: &mut [[u32; 16]; 16], a: u8, b: u8)
@@ -61,20 +39,22 @@ fn raise(all: &mut [[u32; 16]; 16], a: u8, b: u8)
 }
 
 // The same, for any numbers.
+#[tactic(auto, unfolding(crate::specs::Rows::one_more_in, model::specs::Pick::pick))]
 fn count(all: &mut [[u32; 16]; 16], a: u8, b: u8)
     requires { entry all.old a b < 4294967295 }
     ensures { all.new ≡ one_more_in all.old a b }
 {
-    if is_number(a) & is_number(b) {
+    if predicates::is_node(16, a) & predicates::is_node(16, b) {
         raise(all, a, b);
     }
 }
 
 // How many of the 64 places hold a waiting message.
+#[tactic(auto, unfolding(crate::specs::Rows::used_of, model::specs::Pick::pick))]
 fn used(waiting: u8) -> usize
     ensures { result ≡ used_of waiting }
 {
-    if waiting <= 64 { waiting as usize } else { 64 }
+    (waiting as usize).min(64)
 }
 
 // The waiting messages counted by pair. A message whose sender or receiver is not 1 to 16 counts nowhere, and of more than 64 only the 64 places count.
@@ -82,12 +62,8 @@ pub fn waiting_rows(messages: [Message; 64], waiting: u8) -> [[u32; 16]; 16]
     ensures { result ≡ rows_of (state.waiting (first_of waiting no_message messages)) }
 {
     let mut all = [[0u32; 16]; 16];
-    let end = used(waiting);
-    let mut k: usize = 0;
-    while k < end {
-        let m = messages[k];
+    for m in &messages[..used(waiting)] {
         count(&mut all, m.sender, m.receiver);
-        k += 1;
     }
     all
 }
@@ -95,6 +71,7 @@ pub fn waiting_rows(messages: [Message; 64], waiting: u8) -> [[u32; 16]; 16]
 // ── in range ──
 
 // An ordered pair of the n nodes.
+// kept: tried, and it misses a speed bar: predicates::is_pair, of u8, costs `traffic_in_range` a sixth more instructions.
 fn is_pair(n: u32, a: u32, b: u32) -> bool
     ensures { result ≡ range.is_pair n a b }
 {
@@ -102,6 +79,7 @@ fn is_pair(n: u32, a: u32, b: u32) -> bool
 }
 
 // The most that a count at place k may be: "a count that stands for no pair of its n cabinets is 0, and no count is above 33,554,430."
+#[tactic(auto, unfolding(crate::specs::Rows::most_at, model::specs::Pick::pick))]
 fn most(n: u32, k: u32) -> u32
     ensures { result ≡ most_at n k }
 {
@@ -112,27 +90,17 @@ fn most(n: u32, k: u32) -> u32
     }
 }
 
-// Each of the 256 counts of all three. The tests are joined with no branch between them.
-fn each_in_range(n: u8, sent: &[u32], delivered: &[u32], lost: &[u32]) -> bool
-    requires { (length sent.now ≡ 256) × (length delivered.now ≡ 256) × (length lost.now ≡ 256) }
-    ensures { result ≡ all_in_range n sent.now delivered.now lost.now }
-{
-    let mut good = true;
-    let mut k: u32 = 0;
-    while k < 256 {
-        let i = k as usize;
-        let end = most(n as u32, k);
-        good = good & (sent[i] <= end) & (delivered[i] <= end) & (lost[i] <= end);
-        k += 1;
-    }
-    good
-}
-
-// Whether the counts of messages sent, delivered and lost are in range for n nodes.
+// Whether the counts of messages sent, delivered and lost are in range for n nodes. The tests are joined with no branch between them.
 pub fn counts_in_range(n: u8, sent: &[u32; 256], delivered: &[u32; 256], lost: &[u32; 256]) -> bool
     ensures { result ≡ all_in_range n sent.now delivered.now lost.now }
 {
-    each_in_range(n, sent, delivered, lost)
+    let mut good = true;
+    for k in 0..256 {
+        let i = k as usize;
+        let end = most(n as u32, k);
+        good &= (sent[i] <= end) & (delivered[i] <= end) & (lost[i] <= end);
+    }
+    good
 }
 
 // "Sent is delivered plus lost plus those waiting", in 64 bits.
@@ -154,13 +122,10 @@ fn row_adds_up(
     requires { (1 ≤ a) × (a ≤ 16) × (n ≤ 16) }
     ensures { result ≡ up_to n (adding sent.now delivered.now lost.now waiting.now a) }
 {
-    let end = n as usize;
     let mut good = true;
-    let mut b: usize = 0;
-    while b < end {
+    for b in 0..n as usize {
         let k = (a - 1) * 16 + b;
-        good = good & sum_holds(sent[k], delivered[k], lost[k], waiting[a - 1][b]);
-        b += 1;
+        good &= sum_holds(sent[k], delivered[k], lost[k], waiting[a - 1][b]);
     }
     good
 }
@@ -176,12 +141,9 @@ pub fn adds_up(
     requires { n ≤ 16 }
     ensures { result ≡ up_to n (λ a. up_to n (adding sent.now delivered.now lost.now waiting.now a)) }
 {
-    let end = n as usize;
     let mut good = true;
-    let mut a: usize = 0;
-    while a < end {
-        good = good & row_adds_up(n, a + 1, sent, delivered, lost, waiting);
-        a += 1;
+    for a in 0..n as usize {
+        good &= row_adds_up(n, a + 1, sent, delivered, lost, waiting);
     }
     good
 }

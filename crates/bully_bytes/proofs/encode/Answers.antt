@@ -8,4 +8,4 @@ use Rattle.bully_bytes.proofs.encode.Goals as goal
 pub returns : goal.returns
 unfolding encoded
 returns c =
-    stored c.args.t (table_fits c.args.t c.well_formed.0) _ _ (then _ _ _ _ 1 c.put_one.ensures (length_bytes 1 _) c.put_nodes.ensures)
+    stored c.args.t (table_fits c.args.t c.well_formed.0) _ _ (then _ _ _ _ 1 c.put_one.ensures (length_bytes 1 _) c.put_many.ensures)

@@ -8,7 +8,7 @@ use Rattle.bully_bytes.proofs.put_node.Goals as goal
 pub returns : goal.returns
 unfolding bytes node_bytes parts_bytes
 returns c =
-    rw (← c.yes_number-runs.ensures, ← c.status_number-tag.ensures, ← c.parts_of-parts.ensures)
+    rw (← c.yes_number.ensures, ← c.status_number.ensures, ← c.parts_of.ensures)
     (then _ _ _ _ 8
     (then _ _ _ _ 6
     (then _ _ _ _ 5

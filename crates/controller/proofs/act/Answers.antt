@@ -1,35 +1,22 @@
 -- By the group of grounds that refuses, or what the node does.
-use mathlib.Core.Path.{refl, sym, ◌∙◌}
-use Rattle.model.proofs.Answers.{accepted_zero}
-use Rattle.controller.proofs.Steps.{wrong_state, at_end, all_clear, same_outcome, some_number}
+use mathlib.Core.Path.{sym}
+use Rattle.std.proofs.lemmas.Result.{err_from_is_err_and}
+use Rattle.controller.proofs.Steps.{wrong_state, at_end, all_clear}
 use Rattle.controller.proofs.act.Goals as goal
 
-pub returns-then-not-is_accepted : goal.returns-then-not-is_accepted
-returns-then-not-is_accepted c =
-    let a = c.node_answer-state in
-    let s = c.args in
-    let q = sym c.is_accepted.ensures ∙ c.if-not-is_accepted.true in
-    same_outcome (wrong_state s.n s.own s.node s.e s.input (some_number a.result q a.ensures)) (rw (← a.ensures) c.refused.ensures)
+pub returns-in_err-node_answer : goal.returns-in_err-node_answer
+returns-in_err-node_answer c =
+    let p = err_from_is_err_and c.from_residual.result c.from_residual.ensures.1 in
+    rw (p.1, p.2) (sym (wrong_state _ _ _ _ _ _ c.in_err-node_answer.ensures))
 
-pub react-r-requires : goal.react-r-requires
-react-r-requires c = c.requires
-
-pub returns-then-not-is_accepted-2 : goal.returns-then-not-is_accepted-2
-returns-then-not-is_accepted-2 c =
-    let b = c.own_end_answer-ends in
-    let a = c.node_answer-state in
-    let s = c.args in
-    let q = sym c.is_accepted-2.ensures ∙ c.if-not-is_accepted-2.true in
-    let p = sym a.ensures ∙ accepted_zero a.result (sym c.is_accepted.ensures ∙ c.if-not-is_accepted.false) in
-    let e = rw c.react-r.ensures at b.ensures in
-    same_outcome (at_end s.n s.own s.node s.e s.input p (some_number b.result q e)) (rw (← e) c.refused-then-not-is_accepted-2.ensures)
+pub returns-in_err-own_end_answer : goal.returns-in_err-own_end_answer
+returns-in_err-own_end_answer c =
+    let p = err_from_is_err_and c.from_residual-in_err-own_end_answer.result c.from_residual-in_err-own_end_answer.ensures.1 in
+    let e = rw c.react-r.ensures at c.in_err-own_end_answer.ensures in
+    rw (p.1, p.2) (sym (at_end _ _ _ _ _ c.in_ok-node_answer.ensures _ e))
 
 pub returns : goal.returns
 returns c =
-    let b = c.own_end_answer-ends in
-    let a = c.node_answer-state in
     let s = c.args in
-    let p = sym a.ensures ∙ accepted_zero a.result (sym c.is_accepted.ensures ∙ c.if-not-is_accepted.false) in
-    let e = rw c.react-r.ensures at b.ensures in
-    let q = sym e ∙ accepted_zero b.result (sym c.is_accepted-2.ensures ∙ c.if-not-is_accepted-2.false) in
-    same_outcome (all_clear s.n s.own s.node s.e s.input p q) (rw (← c.react-r.ensures) (record { answer = refl; node = refl; packet = c.packet_for.ensures }))
+    let e = rw c.react-r.ensures at c.in_ok-own_end_answer.ensures in
+    rw c.react-r.ensures (sym (all_clear s.n s.own s.node s.e s.input c.in_ok-node_answer.ensures e))

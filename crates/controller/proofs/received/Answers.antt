@@ -1,16 +1,14 @@
 -- By the receiver.
-use Rattle.controller.proofs.Steps.{other_message, own_message, same_outcome}
+use mathlib.Core.Path.{sym, ◌∙◌}
+use Rattle.controller.proofs.Steps.{other_message, own_message}
 use Rattle.controller.proofs.received.Goals as goal
 
 pub returns-then-m-own : goal.returns-then-m-own
 returns-then-m-own c =
     let s = c.args in
-    same_outcome (other_message s.n s.own s.node s.m c.if-m-own.true) c.refused.ensures
-
-pub act-requires : goal.act-requires
-act-requires c = c.requires
+    sym (other_message s.n s.own s.node s.m c.if-m-own.true)
 
 pub returns : goal.returns
 returns c =
     let s = c.args in
-    same_outcome (own_message s.n s.own s.node s.m c.if-m-own.false) c.act.ensures
+    c.act.ensures ∙ sym (own_message s.n s.own s.node s.m c.if-m-own.false)

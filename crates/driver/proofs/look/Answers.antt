@@ -3,7 +3,6 @@ use mathlib.Core.Bool.{not}
 use mathlib.Core.Path.{ap}
 use borrow.Author.Tests.{not-true, not-false}
 use mathlib.Core.Path.{sym, ◌∙◌}
-use Rattle.machine.proofs.Judged.{halted}
 use Rattle.driver.proofs.Turns.{small, nothing, delivered, losing}
 use Rattle.driver.proofs.look.Goals as goal
 
@@ -18,7 +17,7 @@ returns-then-not-some_wait c =
 pub lose-requires : goal.lose-requires
 lose-requires c =
     losing c.args.t c.args.p c.requires c.next_pair-next.result c.advance-o.result (sym c.some_wait.ensures ∙ not-false _ (ap not c.if-not-some_wait.false)) c.advance-o.ensures
-    (halted c.advance-o.result.answer c.is_accepted.ensures (ap not c.if-not-is_accepted.true)) c.next_pair-next.ensures
+    (sym c.is_accepted.ensures ∙ not-true _ (ap not c.if-not-is_accepted.true)) c.next_pair-next.ensures
 
 pub returns : goal.returns
 returns c =

@@ -1,13 +1,12 @@
 -- The length decides ground 5; `nodes_of` decides 6.
-use borrow.Author.Tests.{eq-eqb, ne_eqb}
-use Rattle.model.specs.Pick.{pick}
-use Rattle.event_list.specs.Parts.{counted_in}
+use Rattle.std.proofs.lemmas.Result.{err_from_is_err_and}
+use Rattle.event_list.proofs.Fields.{counted_by_sized}
 use Rattle.event_list.proofs.counted.Goals as goal
 
-pub returns-then-contents-ne1 : goal.returns-then-contents-ne1
-unfolding counted_in pick
-returns-then-contents-ne1 c = simp (ne_eqb _ _ c.if-contents-ne1.true)
+pub returns-in_err-n : goal.returns-in_err-n
+returns-in_err-n c =
+    let p = err_from_is_err_and c.from_residual.result c.from_residual.ensures.1 in
+    rw (p.1, p.2, counted_by_sized _ _ _ c.byte.ensures c.sized.ensures, c.in_err-n.was)
 
 pub returns : goal.returns
-unfolding counted_in pick
-returns c = rw (c.nodes_of.ensures, eq-eqb _ _ c.if-contents-ne1.false, c.byte.ensures)
+returns c = rw (counted_by_sized _ _ _ c.byte.ensures c.sized.ensures, c.in_ok-n.was, c.nodes_of.ensures)

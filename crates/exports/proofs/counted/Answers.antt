@@ -8,6 +8,6 @@ pub returns-then-number-eq0 : goal.returns-then-number-eq0
 unfolding pick plus_accepted
 returns-then-number-eq0 c = rw (eq-eqb _ _ c.if-number-eq0.true)
 
-pub returns : goal.returns
+pub returns-else-number-eq0 : goal.returns-else-number-eq0
 unfolding pick plus_accepted
-returns c = rw (ne_eqb _ _ c.if-number-eq0.false)
+returns-else-number-eq0 c = rw (ne_eqb _ _ c.if-number-eq0.false)

@@ -9,17 +9,17 @@ use Rattle.exports.proofs.nevraspu_fold.Goals as goal
 
 pub fold_from-requires : goal.fold_from-requires
 fold_from-requires c =
-    let g = first_good c.args.list.now c.first_of.ensures c.in-Nodes.is in
+    let g = first_good c.args.list.now c.first_of.ensures c.in-Ok.is in
     (g.0, g.1)
 
-pub returns-in-Stopped : goal.returns-in-Stopped
-returns-in-Stopped c =
-    sym (ap accepted_listed (reading_failed c.args.list.now c.first_of.ensures c.in-Stopped.is))
+pub returns-in-Err : goal.returns-in-Err
+returns-in-Err c =
+    sym (ap accepted_listed (reading_failed c.args.list.now c.first_of.ensures c.in-Err.is))
 
-pub returns-in-Nodes : goal.returns-in-Nodes
-returns-in-Nodes c =
+pub returns-in-Ok : goal.returns-in-Ok
+returns-in-Ok c =
     let l = c.args.list.now in
-    let n = c.in-Nodes.is in
+    let n = c.in-Ok.is in
     c.fold_from.ensures
-    ∙ ap (λ (s : State). accepted_from s (rest l 4).events) c.starting-begun.ensures.table
+    ∙ ap (λ (s : State). accepted_from s (rest l 4).events) c.starting.ensures.table
     ∙ sym (ap accepted_listed (reading_begun l c.first_of.ensures n))

@@ -6,10 +6,10 @@ use Rattle.exports_controller.proofs.nevraspu_controller_event.Goals as goal
 pub returns-then-out-lt-OUTCOME_SIZE : goal.returns-then-out-lt-OUTCOME_SIZE
 returns-then-out-lt-OUTCOME_SIZE c = event_short _ _ _ _ _ c.if-out-lt-OUTCOME_SIZE.true
 
-pub returns-in-Stopped : goal.returns-in-Stopped
-returns-in-Stopped c =
-    no_event _ _ _ _ _ c.if-out-lt-OUTCOME_SIZE.false (sym c.event_in.ensures ∙ c.in-Stopped.is) _ c.stop_number.ensures
+pub returns-in-Err : goal.returns-in-Err
+returns-in-Err c =
+    no_event _ _ _ _ _ c.if-out-lt-OUTCOME_SIZE.false (sym c.event_in.ensures ∙ c.in-Err.is) _ c.stop_number.ensures
 
-pub returns-in-Got : goal.returns-in-Got
-returns-in-Got c =
-    event_stepped _ _ _ _ _ c.if-out-lt-OUTCOME_SIZE.false (sym c.event_in.ensures ∙ c.in-Got.is) c.on_event-o.result (rw c.node_of.ensures at c.on_event-o.ensures) _ _ c.answered.ensures
+pub returns-in-Ok : goal.returns-in-Ok
+returns-in-Ok c =
+    event_stepped _ _ _ _ _ c.if-out-lt-OUTCOME_SIZE.false (sym c.event_in.ensures ∙ c.in-Ok.is) c.on_event-o.result (rw c.node_of.ensures at c.on_event-o.ensures) _ _ c.answered.ensures

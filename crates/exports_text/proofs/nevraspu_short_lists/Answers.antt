@@ -1,48 +1,27 @@
 -- `nevraspu_short_lists` meets its contract. The invariant: so much of the window stands in the buffer, and the rest of it is in what the search still gives. It ends, as each piece leaves
 -- less of the text.
 use native.Mathlib.Omega.{arith}
-use mathlib.Core.Path.{sym, ◌∙◌}
-use lib.Seq.{length-take-le}
-use Rattle.list_search.proofs.Ends.{less_left}
-use Rattle.exports_text.proofs.Window.{filled_begun, piece_full, piece_last, piece_next}
+use mathlib.Core.Path.{ap, ◌∙◌}
+use borrow.Author.Rules.{rules}
+use Rattle.list_search.specs.Search.{text_from}
+use Rattle.exports_text.proofs.Window.{piece_put, piece_full, filled_end, filled_there}
 use Rattle.exports_text.proofs.nevraspu_short_lists.Goals as goal
 
-pub loop-piece-init : goal.loop-piece-init
-loop-piece-init c = (c.begin-s.ensures.sound, filled_begun _ _ _ _ c.begin-s.ensures)
+pub returns-then-text : goal.returns-then-text
+returns-then-text c =
+    let f = rw c.in-Some.is at c.loop-next.invariant.filled in
+    filled_there (piece_full _ _ _ _ _ _ _ _ _ _ _ c.next_lines-p.ensures f c.put_window.ensures.appended c.if-text.true) _ (search rules)
 
-pub next_lines-p-requires : goal.next_lines-p-requires
-next_lines-p-requires c = c.loop-piece.invariant.0
+pub put_window-requires : goal.put_window-requires
+put_window-requires c = let f = c.loop-next.invariant.filled in omega (arith, f.long, f.fits)
 
-pub slice_bounds-piece-end : goal.slice_bounds-piece-end
-slice_bounds-piece-end c = c.next_lines-p.ensures.fits
+pub loop-next-preserved : goal.loop-next-preserved
+loop-next-preserved c =
+    let f = rw c.in-Some.is at c.loop-next.invariant.filled in record {
+      sound = c.next_lines-p.ensures.sound;
+      same = c.put_window.ensures.same ∙ c.loop-next.invariant.same;
+      filled = rw c.saturating_sub-skip.ensures (piece_put _ _ _ _ _ _ _ _ _ _ _ c.next_lines-p.ensures f c.put_window.ensures.appended);
+    }
 
-pub slice_bounds-put_window-end : goal.slice_bounds-put_window-end
-slice_bounds-put_window-end c = sym (length-take-le _ _ c.next_lines-p.ensures.fits)
-
-pub put_window-at-requires : goal.put_window-at-requires
-put_window-at-requires c = let f = c.loop-piece.invariant.1 in let l = f.long in let h = f.fits in omega arith
-
-pub shape_of-out-then-p : goal.shape_of-out-then-p
-shape_of-out-then-p c =
-    c.put_window-at.ensures.long ∙ c.loop-piece.invariant.1.long
-
-pub returns-then-p : goal.returns-then-p
-returns-then-p c =
-    piece_last _ _ _ _ _ _ _ _ _ _ _ c.next_lines-p.ensures c.loop-piece.invariant.1 c.put_window-at.ensures c.if-p.true
-
-pub shape_of-out-then-at-out : goal.shape_of-out-then-at-out
-shape_of-out-then-at-out c =
-    c.put_window-at.ensures.long ∙ c.loop-piece.invariant.1.long
-
-pub returns-then-at-out : goal.returns-then-at-out
-returns-then-at-out c =
-    piece_full _ _ _ _ _ _ _ _ _ _ _ c.next_lines-p.ensures c.loop-piece.invariant.1 c.put_window-at.ensures c.if-at-out.true
-
-pub loop-piece-smaller : goal.loop-piece-smaller
-loop-piece-smaller c = less_left _ _ _ c.next_lines-p.ensures c.if-p.false
-
-pub loop-piece-preserved : goal.loop-piece-preserved
-loop-piece-preserved c = (
-  c.next_lines-p.ensures.sound,
-  piece_next _ _ _ _ _ _ _ _ _ _ _ c.next_lines-p.ensures c.loop-piece.invariant.1 c.put_window-at.ensures c.if-p.false _ c.still_skipped-skip.ensures,
-)
+pub returns : goal.returns
+returns c = filled_there (filled_end _ _ _ _ _ _ _ c.loop-next.invariant.filled (ap text_from c.in_default.is)) _ (search rules)

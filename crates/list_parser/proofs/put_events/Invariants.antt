@@ -6,9 +6,14 @@ use Rattle.list_text.specs.Script.{said_from}
 use Rattle.list_parser.specs.Made.{filled_by}
 use Rattle.list_parser.proofs.put_events.Given as goal
 
-abbrev pub invariant-loop-q : goal.invariant-loop-q
-invariant-loop-q l =
-    (l.p ≤ length l.t) × (4 ≤ l.k) × (l.k ≤ 65536) × (length l.out ≡ 65536) × (filled_by (take l.k l.out) (said_from l.t l.p (65536 - l.k)) ≡ filled_by (take 4 l.initial.out) (said_from l.t l.from 65532))
+abbrev pub invariant-loop-e : goal.invariant-loop-e
+invariant-loop-e l = record {
+  text : l.p.text ≡ l.from.text;
+  start : 4 ≤ l.out.end;
+  room : l.out.end ≤ 65536;
+  long : length l.out.bytes.now ≡ 65536;
+  is : filled_by (take l.out.end l.out.bytes.now) (said_from l.from.text.now l.p.at (65536 - l.out.end)) ≡ filled_by (take 4 l.initial.out.bytes.now) (said_from l.from.text.now l.from.at 65532);
+}
 
-abbrev pub decreases-loop-q : goal.decreases-loop-q
-decreases-loop-q l = length l.t - l.p
+abbrev pub decreases-loop-e : goal.decreases-loop-e
+decreases-loop-e l = length l.from.text.now - l.p.at

@@ -1,50 +1,46 @@
--- `list_printer::put_events` meets its contract. The invariant: what is left, printed from p on, is all of it printed from the start.
-use borrow.Author.Rules.{rules}
+-- `list_printer::put_events` meets its contract. The invariant: to write what is left is to write all of it.
 use native.Mathlib.Omega.{arith}
-use mathlib.Core.Path.{refl, sym, ◌∙◌}
+use mathlib.Core.Path.{refl, ◌∙◌, ap}
+use Rattle.std.specs.Prelude.{Ok}
 use Rattle.event_list.proofs.Reading.{next_past}
 use Rattle.listing.specs.Printing.{printed}
-use Rattle.list_printer.proofs.Laws.{left_done, left_stopped, turn_next, turn_refused}
+use Rattle.listing.proofs.Written.{lines_then, lines_refused}
+use Rattle.run_list.proofs.Laws.{event_there}
+use Rattle.list_printer.proofs.Laws.{left_done, left_stopped, left_got}
 use Rattle.list_printer.proofs.put_events.Goals as goal
 
-pub loop-s-init : goal.loop-s-init
-loop-s-init c = (c.requires.0, refl, refl)
+pub loop-event-init : goal.loop-event-init
+loop-event-init c = (c.requires.0, λ r d w. w)
 
 -- the list's end
-pub returns-in-Done : goal.returns-in-Done
+pub returns-in-Ok-None : goal.returns-in-Ok-None
 unfolding printed
-returns-in-Done c =
-    let l = c.loop-s in
-    let s = c.args in
-    rw (left_done s.list.now l.at c.event_at.ensures c.in-Done.is) at l.invariant.2
+returns-in-Ok-None c =
+    let l = c.loop-event in
+    l.invariant.1 _ _ (rw (left_done c.args.list.now l.at c.event_at.ensures (c.in-Ok-None.is ∙ ap Ok c.in-Ok-None.field-0-is)) (record { same = refl; lines = refl }))
 
 -- a refusal of the list
-pub returns-in-Stopped : goal.returns-in-Stopped
-returns-in-Stopped c =
-    let l = c.loop-s in
-    let s = c.args in
-    c.put_stopped.ensures ∙ rw (c.stop_number.ensures, ← left_stopped s.list.now l.at c.event_at.ensures c.in-Stopped.is) l.invariant.2
+pub returns-in-Err : goal.returns-in-Err
+returns-in-Err c =
+    let l = c.loop-event in
+    l.invariant.1 _ _ (rw (left_stopped c.args.list.now l.at c.event_at.ensures c.in-Err.is, ← c.stop_number.ensures) c.put_stopped.ensures)
 
 -- an event whose line has no room
-pub returns-in-NoRoom : goal.returns-in-NoRoom
-returns-in-NoRoom c =
-    let l = c.loop-s in
-    let s = c.args in
-    sym (turn_refused s.list.now l.at c.event_at.ensures c.in-Got.is _ _ _ _ c.put_event_line.ensures c.in-NoRoom.is) ∙ l.invariant.2
+pub returns-in_err-put_event_line-in-Ok-Some : goal.returns-in_err-put_event_line-in-Ok-Some
+returns-in_err-put_event_line-in-Ok-Some c =
+    let l = c.loop-event in
+    let e = left_got c.args.list.now l.at c.event_at.ensures (event_there c.in-Ok-Some.is c.in-Ok-Some.field-0-is c.in-Ok-Some.event-is c.in-Ok-Some.next-is) in
+    l.invariant.1 _ _ (rw e (lines_refused _ c.put_event_line.ensures c.in_err-put_event_line-in-Ok-Some.was c.from_residual.ensures.0))
 
-pub loop-s-smaller : goal.loop-s-smaller
-loop-s-smaller c =
-    let l = c.loop-s in
-    let s = c.args in
-    let z = next_past s.list.now l.at c.event_at.ensures c.in-Got.is in
+pub loop-event-smaller : goal.loop-event-smaller
+loop-event-smaller c =
+    let l = c.loop-event in
+    let z = next_past c.args.list.now l.at c.event_at.ensures (event_there c.in-Ok-Some.is c.in-Ok-Some.field-0-is c.in-Ok-Some.event-is c.in-Ok-Some.next-is) in
     omega arith
 
-pub loop-s-preserved : goal.loop-s-preserved
-loop-s-preserved c =
-    let l = c.loop-s in
-    let s = c.args in
-    let z = next_past s.list.now l.at c.event_at.ensures c.in-Got.is in (
-      z.1,
-      search rules,
-      sym (turn_next s.list.now l.at c.event_at.ensures c.in-Got.is _ _ _ _ c.put_event_line.ensures _ c.in-Next.is) ∙ l.invariant.2,
-    )
+pub loop-event-preserved : goal.loop-event-preserved
+loop-event-preserved c =
+    let l = c.loop-event in
+    let s = c.args.list.now in
+    let g = event_there c.in-Ok-Some.is c.in-Ok-Some.field-0-is c.in-Ok-Some.event-is c.in-Ok-Some.next-is in
+    ((next_past s l.at c.event_at.ensures g).1, λ r d w. l.invariant.1 r d (rw (left_got s l.at c.event_at.ensures g) (lines_then c.put_event_line.ensures c.in_ok-put_event_line-in-Ok-Some.was w)))

@@ -1,15 +1,13 @@
--- `list_printer::put_events` meets its contract. The invariant: what is left, printed from p on, is all of it printed from the start.
+-- `list_printer::put_events` meets its contract. The invariant: to write what is left is to write all of it.
 use Prim.Native.Nat.{◌≤◌, ◌-◌}
-use mathlib.Core.Path.{◌≡◌}
 use lib.ListN.{length}
-use Rattle.listing.specs.Printing.{printed}
+use Rattle.listing.specs.Printing.{WroteLines}
 use Rattle.list_printer.proofs.Laws.{left}
 use Rattle.list_printer.proofs.put_events.Given as goal
 
-abbrev pub invariant-loop-s : goal.invariant-loop-s
-invariant-loop-s l =
-    (l.at ≤ length l.list) × (length l.out ≡ length l.initial.out) × (printed l.out l.p (left l.list l.at) ≡ printed l.initial.out l.from (left l.list 4))
+abbrev pub invariant-loop-event : goal.invariant-loop-event
+invariant-loop-event l = (l.at ≤ length l.list) × ((r : _) (d : _) → WroteLines l.out (left l.list l.at) r d → WroteLines l.initial.out (left l.list 4) r d)
 
 -- An event takes at least four bytes.
-abbrev pub decreases-loop-s : goal.decreases-loop-s
-decreases-loop-s l = length l.list - l.at
+abbrev pub decreases-loop-event : goal.decreases-loop-event
+decreases-loop-event l = length l.list - l.at

@@ -5,10 +5,10 @@ use Rattle.list_search.specs.Search.{text_left}
 use Rattle.list_search.proofs.Loop.{Kept, turns_of}
 use Rattle.list_search.proofs.lines_on.Given as goal
 
-abbrev pub invariant-loop-tried : goal.invariant-loop-tried
-invariant-loop-tried l =
-    Kept (text_left l.s) l.out l.n l.length l.levels l.height (record { nodes = l.nodes; words = l.words; waiting = l.waiting; tried = l.tried; line = l.line; end = l.end }) l.given l.at × (l.count ≡ size_of l.n) × Holds l.n l.events
+abbrev pub invariant-loop-top : goal.invariant-loop-top
+invariant-loop-top l =
+    Kept (text_left l.fn.s) l.out.bytes.now l.n l.length l.levels l.height l.top l.given l.out.end × (l.count ≡ size_of l.n) × Holds l.n l.events × (l.out.bytes.ghost_name ≡ l.initial.out.bytes.ghost_name)
 
-abbrev pub decreases-loop-tried : goal.decreases-loop-tried
-decreases-loop-tried l =
-    turns_of l.n l.length l.levels l.height (record { nodes = l.nodes; words = l.words; waiting = l.waiting; tried = l.tried; line = l.line; end = l.end })
+abbrev pub decreases-loop-top : goal.decreases-loop-top
+decreases-loop-top l =
+    turns_of l.n l.length l.levels l.height l.top

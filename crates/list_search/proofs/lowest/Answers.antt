@@ -13,6 +13,6 @@ returns c =
       nodes = ap (λ (t : Table). length t.nodes) s.exact;
       words = c.none.ensures;
       tried = refl;
-      space = c.blank_line.ensures;
+      space = refl;
       end = refl;
     }

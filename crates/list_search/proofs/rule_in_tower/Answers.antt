@@ -2,4 +2,4 @@
 use Rattle.list_search.proofs.rule_in_tower.Goals as goal
 
 pub returns : goal.returns
-returns c = rw c.tower-limits.ensures at c.rule.ensures
+returns c = rw c.tower.ensures at c.rule.ensures

@@ -1,72 +1,57 @@
 -- `advance` meets its contract: the judgement of the event, by proofs/Judged, with the record and the message as read from the table.
-use mathlib.Core.Bool.{not}
-use borrow.Author.Tests.{not-false, ltb-true}
-use native.Mathlib.Omega.{arith}
 use Prim.Native.Nat.{ℕ, ◌+◌, ◌%◌}
-use lib.ListN.{get_or}
-use mathlib.Core.Path.{refl, sym, ◌∙◌, ap}
+use mathlib.Core.Path.{refl, ◌∙◌, ap}
 use Rattle.machine.proofs.Laws.{sized}
 use Rattle.machine.proofs.Places.{small, counts_small, left_is, place_below}
-use Rattle.machine.proofs.Judged.{halted, judging, seated, room, accepts, last_refused, verdict_accepted, pair_below}
+use Rattle.machine.proofs.Judged.{judging, all_refuses, judged, seated, room, all_accept}
 use Rattle.machine.proofs.advance.Goals as goal
 
 pub place_for-k-requires : goal.place_for-k-requires
 place_for-k-requires c =
     (small c.args.t (sized c.args.t c.well_formed.0) c.requires c.args.e).2
 
-pub judge-v-requires : goal.judge-v-requires
-judge-v-requires c =
+pub judge_all-requires : goal.judge_all-requires
+judge_all-requires c =
     let t = c.args.t in
-    judging t (sized t c.well_formed.0) c.requires c.args.e _ c.place_for-k.ensures.0 c.place_for-k.ensures.1 _ (ap (λ (i : ℕ). (i + 15) % 16) c.actor.ensures) _ _ refl _ _ refl
+    judging t (sized t c.well_formed.0) c.requires c.args.e _ c.place_for-k.ensures.0 c.place_for-k.ensures.1 _ (c.seat_of-at.ensures.0 ∙ ap (λ (i : ℕ). (i + 15) % 16) c.actor.ensures) _ _ refl _ _ refl
 
-pub bounds-t-p : goal.bounds-t-p
-bounds-t-p c = omega (arith, c.sent_place-p.ensures.1, (sized c.args.t c.well_formed.0).sent)
-
-pub returns-then-not-is_accepted : goal.returns-then-not-is_accepted
-returns-then-not-is_accepted c =
+pub returns-in-Err : goal.returns-in-Err
+returns-in-Err c =
     let t = c.args.t in
-    last_refused t (sized t c.well_formed.0) c.requires c.args.e _ c.place_for-k.ensures.0 c.place_for-k.ensures.1 _ (ap (λ (i : ℕ). (i + 15) % 16) c.actor.ensures) _ _ refl _ _ refl _ c.judge-v.ensures
-    _ (ap (λ (i : ℕ). get_or t.sent i 0) c.sent_place-p.ensures.0) c.with_last-answer.result c.with_last-answer.ensures (halted c.with_last-answer.result c.is_accepted.ensures (ap not c.if-not-is_accepted.true))
+    all_refuses t (sized t c.well_formed.0) c.requires c.args.e _ c.place_for-k.ensures.0 c.place_for-k.ensures.1 _ (c.seat_of-at.ensures.0 ∙ ap (λ (i : ℕ). (i + 15) % 16) c.actor.ensures) _ _ refl _ _ refl _ c.in-Err.ensures
 
-pub overflow_cast-waiting : goal.overflow_cast-waiting
-overflow_cast-waiting c =
-    record { fits = omega (arith, (small c.args.t (sized c.args.t c.well_formed.0) c.requires c.args.e).2) }
-
-pub left_of-requires : goal.left_of-requires
-left_of-requires c q =
-    omega (arith, ltb-true c.place_for-k.result c.args.t.waiting q)
-
-pub stored-next-requires : goal.stored-next-requires
-stored-next-requires c =
+pub stored-requires-clause-waiting_bound : goal.stored-requires-clause-waiting_bound
+stored-requires-clause-waiting_bound c =
     let t = c.args.t in
     let z = sized t c.well_formed.0 in
     let e = c.args.e in
     let k = c.place_for-k.ensures in
-    let at = ap (λ (i : ℕ). (i + 15) % 16) c.actor.ensures in
-    let x = ap (λ (i : ℕ). get_or t.sent i 0) c.sent_place-p.ensures.0 in
-    let yes = verdict_accepted t z c.requires e _ k.0 k.1 _ at _ _ refl _ _ refl _ c.judge-v.ensures _ x c.with_last-answer.result c.with_last-answer.ensures (sym c.is_accepted.ensures ∙ not-false _ (ap not c.if-not-is_accepted.false)) in
-    let hl = c.left_of.ensures in
-    let s = small t z c.requires e in record {
-      waiting_bound = (
-        s.2,
-        place_below t z c.requires e _ k.0 k.1 _ hl,
-        left_is t z c.requires e c.place_for-k.result k.0 k.1 c.left_of.result hl,
-        seated t z c.requires e _ k.0 k.1 _ at _ _ refl _ _ refl _ c.judge-v.ensures yes,
-        s.1,
-      );
-      room = rw hl (room t z c.requires e _ k.0 k.1 _ at _ _ refl _ _ refl _ c.judge-v.ensures yes);
-      small = counts_small t c.requires;
-    }
+    let at = c.seat_of-at.ensures.0 ∙ ap (λ (i : ℕ). (i + 15) % 16) c.actor.ensures in
+    let hl = c.left_of-left.ensures in
+    let j = judged t z c.requires e _ k.0 k.1 _ at _ _ refl _ _ refl _ c.in-Ok.ensures in
+    let s = small t z c.requires e in (
+      s.2,
+      place_below t z c.requires e _ k.0 k.1 _ hl,
+      left_is t z c.requires e c.place_for-k.result k.0 k.1 c.left_of-left.result hl,
+      seated t z c.requires e _ k.0 k.1 _ at _ _ refl _ _ refl _ j,
+      s.1,
+    )
+
+pub stored-requires-clause-room : goal.stored-requires-clause-room
+stored-requires-clause-room c =
+    let t = c.args.t in
+    let z = sized t c.well_formed.0 in
+    let k = c.place_for-k.ensures in
+    let at = c.seat_of-at.ensures.0 ∙ ap (λ (i : ℕ). (i + 15) % 16) c.actor.ensures in
+    let j = judged t z c.requires c.args.e _ k.0 k.1 _ at _ _ refl _ _ refl _ c.in-Ok.ensures in
+    rw c.left_of-left.ensures (room t z c.requires c.args.e _ k.0 k.1 _ at _ _ refl _ _ refl _ j)
+
+pub stored-requires-clause-small : goal.stored-requires-clause-small
+stored-requires-clause-small c = counts_small c.args.t c.requires
 
 pub returns : goal.returns
 returns c =
     let t = c.args.t in
-    let z = sized t c.well_formed.0 in
-    let e = c.args.e in
     let k = c.place_for-k.ensures in
-    let at = ap (λ (i : ℕ). (i + 15) % 16) c.actor.ensures in
-    let x = ap (λ (i : ℕ). get_or t.sent i 0) c.sent_place-p.ensures.0 in
-    let r = sym c.is_accepted.ensures ∙ not-false _ (ap not c.if-not-is_accepted.false) in
-    let yes = verdict_accepted t z c.requires e _ k.0 k.1 _ at _ _ refl _ _ refl _ c.judge-v.ensures _ x c.with_last-answer.result c.with_last-answer.ensures r in
-    let below = pair_below t z c.requires e _ k.0 k.1 _ at _ _ refl _ _ refl _ c.judge-v.ensures _ x c.with_last-answer.result c.with_last-answer.ensures r in
-    accepts t z c.requires e _ k.0 k.1 _ at _ _ refl _ _ refl _ c.judge-v.ensures yes below _ c.stored-next.ensures
+    let at = c.seat_of-at.ensures.0 ∙ ap (λ (i : ℕ). (i + 15) % 16) c.actor.ensures in
+    all_accept t (sized t c.well_formed.0) c.requires c.args.e _ k.0 k.1 _ at _ _ refl _ _ refl _ c.in-Ok.ensures _ c.stored.ensures

@@ -1,13 +1,9 @@
 -- `step` meets its contract: ground 1, and then `advance`.
 use mathlib.Core.Bool.{not}
-use mathlib.Core.Path.{ap}
-use borrow.Author.Tests.{not-true, not-false}
-use mathlib.Core.Path.{sym, ◌∙◌}
+use mathlib.Core.Path.{ap, sym, ◌∙◌}
+use borrow.Author.Tests.{not-true}
 use Rattle.machine.proofs.Parts.{range_refuses}
 use Rattle.machine.proofs.step.Goals as goal
 
 pub returns-then-not-in_range : goal.returns-then-not-in_range
 returns-then-not-in_range c = range_refuses _ _ (sym c.in_range.ensures ∙ not-true _ (ap not c.if-not-in_range.true))
-
-pub advance-requires : goal.advance-requires
-advance-requires c = sym c.in_range.ensures ∙ not-false _ (ap not c.if-not-in_range.false)

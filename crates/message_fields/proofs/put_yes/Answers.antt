@@ -7,4 +7,4 @@ use Rattle.message_fields.proofs.put_yes.Goals as goal
 pub returns : goal.returns
 unfolding bytes
 returns c =
-    rw (← c.yes_number-yes.ensures) (then _ _ _ _ 3 c.put_head.ensures refl c.put_one.ensures)
+    rw (← c.yes_number.ensures) (then _ _ _ _ 3 c.put_head.ensures refl c.put_one.ensures)

@@ -1,5 +1,5 @@
 -- `remove` meets its contract: without its message at j, the row is what it is to be.
-use Prim.Native.Nat.{◌≤◌, ◌-◌, ◌+◌}
+use Prim.Native.Nat.{◌+◌}
 use mathlib.Core.Path.{◌≡◌}
 use lib.ListN.{length, take}
 use Rattle.machine.specs.Parts.{without}
@@ -7,7 +7,4 @@ use Rattle.packed.specs.Packed.{held}
 use Rattle.packed.proofs.remove.Given as goal
 
 abbrev pub invariant-loop-j : goal.invariant-loop-j
-invariant-loop-j l = (l.k ≤ l.j) × (l.j ≤ l.end) × (length l.q ≡ 256) × (without l.j (take (l.end + 1) (held l.q)) ≡ without l.k (take (l.end + 1) (held l.initial.q)))
-
-abbrev pub decreases-loop-j : goal.decreases-loop-j
-decreases-loop-j l = l.end - l.j
+invariant-loop-j l = (length l.q ≡ 256) × (without l.j (take (l.end + 1) (held l.q)) ≡ without l.k (take (l.end + 1) (held l.initial.q)))

@@ -1,18 +1,15 @@
 -- `rest_list::put_rest` meets its contract: a line, and the table behind it.
-use mathlib.Core.Path.{sym, ◌∙◌}
-use mathlib.Core.List.{[], ◌∷◌}
 use Rattle.listing.specs.Lines.{table_lines}
-use Rattle.rest_bound.specs.Turns.{table_at_rest}
+use Rattle.listing.proofs.Written.{lines_then, lines_refused}
 use Rattle.model.specs.State.{view}
-use Rattle.listing.proofs.Printing.{then_next, then_refused}
 use Rattle.rest_list.proofs.put_rest.Goals as goal
 
-pub returns-in-NoRoom : goal.returns-in-NoRoom
-returns-in-NoRoom c =
-    let t = c.args.t in
-    sym (rw (← c.turns_to_rest-r.ensures.turns) (then_refused _ _ _ _ (_ ∷ []) (table_lines (table_at_rest (view t))) c.put_turns.ensures c.in-NoRoom.is))
+pub returns-in_err-put_turns : goal.returns-in_err-put_turns
+returns-in_err-put_turns c =
+    let r = c.turns_to_rest-r in
+    rw (← r.ensures.turns, ← r.ensures.table) (lines_refused (table_lines (view r.result.table)) c.put_turns.ensures c.in_err-put_turns.was c.from_residual.ensures.0)
 
-pub returns-in-Next : goal.returns-in-Next
-returns-in-Next c =
-    let t = c.args.t in
-    c.put_table.ensures ∙ rw c.turns_to_rest-r.ensures.table (sym (rw (← c.turns_to_rest-r.ensures.turns) (then_next _ _ _ _ _ (_ ∷ []) (table_lines (table_at_rest (view t))) c.put_turns.ensures c.in-Next.is)))
+pub returns : goal.returns
+returns c =
+    let r = c.turns_to_rest-r.ensures in
+    rw (← r.turns, ← r.table) (lines_then c.put_turns.ensures c.in_ok-put_turns.was c.put_table.ensures)

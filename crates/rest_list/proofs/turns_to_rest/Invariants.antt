@@ -6,8 +6,8 @@ use Rattle.rest_bound.specs.Turns.{turn_bound}
 use Rattle.rest_list.proofs.Turns.{Made}
 use Rattle.rest_list.proofs.turns_to_rest.Given as goal
 
-abbrev pub invariant-loop-p : goal.invariant-loop-p
-invariant-loop-p l = Made (view l.initial.u) l.u l.p l.k
+abbrev pub invariant-loop-u : goal.invariant-loop-u
+invariant-loop-u l = Made (view l.initial.u) l.u l.p l.k
 
-abbrev pub decreases-loop-p : goal.decreases-loop-p
-decreases-loop-p l = turn_bound (view l.initial.u) - l.k
+abbrev pub decreases-loop-u : goal.decreases-loop-u
+decreases-loop-u l = turn_bound (view l.initial.u) - l.k

@@ -19,16 +19,16 @@ returns c =
     (then _ _ _ _ 1362
     (then _ _ _ _ 1361
     (then _ _ _ _ 465
-    (then _ _ _ _ 1 c.put_one.ensures (length_bytes 1 _) c.put_nodes.ensures)
+    (then _ _ _ _ 1 c.put_one.ensures (length_bytes 1 _) c.put_many.ensures)
     (nodes_end t l)
-    c.put_messages.ensures)
+    c.put_many-2.ensures)
     (messages_end t l)
     c.put_one-2.ensures)
     (waiting_end t l)
-    c.put_counts.ensures)
+    c.put_many-3.ensures)
     (sent_end t l)
-    c.put_counts-2.ensures)
+    c.put_many-4.ensures)
     (delivered_end t l)
-    c.put_counts-3.ensures)
+    c.put_many-5.ensures)
     (lost_end t l)
     c.put_limits.ensures)

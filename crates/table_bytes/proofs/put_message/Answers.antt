@@ -8,7 +8,7 @@ use Rattle.table_bytes.proofs.put_message.Goals as goal
 pub returns : goal.returns
 unfolding bytes message_bytes
 returns c =
-    rw (← c.yes_number-yes.ensures)
+    rw (← c.yes_number.ensures)
     (then _ _ _ _ 13
     (then _ _ _ _ 11
     (then _ _ _ _ 7

@@ -8,7 +8,7 @@ use Rattle.table_bytes.proofs.put_node.Goals as goal
 pub returns : goal.returns
 unfolding bytes node_bytes parts_bytes
 returns c =
-    rw (← c.status_number-tag.ensures, ← c.parts_of-parts.ensures)
+    rw (← c.status_number.ensures, ← c.parts_of.ensures)
     (then _ _ _ _ 18
     (then _ _ _ _ 14
     (then _ _ _ _ 12

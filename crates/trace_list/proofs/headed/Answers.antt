@@ -1,7 +1,8 @@
 -- `headed` meets its contract: there is room for the line, and the table is the starting one.
 use native.Mathlib.Omega.{arith}
+use mathlib.Core.Path.{refl}
 use Rattle.trace_list.proofs.Given.{head_piece}
 use Rattle.trace_list.proofs.headed.Goals as goal
 
 pub returns : goal.returns
-returns c = head_piece _ _ _ _ _ c.put_cabinets.result _ (omega arith) c.requires c.put_cabinets.ensures c.behind.ensures c.starting-begun.ensures.table
+returns c = head_piece refl (omega arith) _ _ _ c.requires c.put_cabinets.ensures c.starting-begun.ensures.table

@@ -5,5 +5,4 @@ use Rattle.trace_list.proofs.Given.{stop_piece}
 use Rattle.trace_list.proofs.stopped.Goals as goal
 
 pub returns : goal.returns
-returns c =
-    (stop_piece c.args.t c.requires.0 _ _ _ _ _ _ c.put_stopped.result c.put_table.result (omega arith) c.requires.1 c.requires.2 c.put_stopped.ensures c.behind-p.ensures c.put_table.ensures c.behind.ensures, refl)
+returns c = stop_piece refl (omega arith) c.args.t c.requires.0 _ c.requires.1 c.requires.2 c.put_stopped.ensures c.put_table.ensures

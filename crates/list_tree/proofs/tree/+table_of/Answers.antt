@@ -8,9 +8,9 @@ use Rattle.list_tree.proofs.tree.+table_of.Goals as goal
 
 pub returns-then-b-eq0 : goal.returns-then-b-eq0
 returns-then-b-eq0 t c =
-    let b = rw c.tower.ensures at c.starting-begun.ensures in
-    b.table ∙ sym (run_first c.args.t c.requires.0 (start c.args.t.n tower) c.args.b c.if-b-eq0.true)
+    let b = rw c.tower.ensures at c.starting.ensures in
+    b.table ∙ sym (run_first c.args.t.now c.requires.0 (start c.args.t.now.n tower) c.args.b c.if-b-eq0.true)
 
 pub returns : goal.returns
 returns t c =
-    run_next c.args.t c.requires.0 (start c.args.t.n tower) c.args.b (omega (arith, c.if-b-eq0.false)) c.requires.1 _ _ c.table_of-before.ensures c.step-o.ensures.table
+    run_next c.args.t.now c.requires.0 (start c.args.t.now.n tower) c.args.b (omega (arith, c.if-b-eq0.false)) c.requires.1 _ _ c.table_of.ensures c.step.ensures.table

@@ -1,10 +1,6 @@
--- `list_tree::tree::tree_of` meets its contract. The invariant: the tree has the lists of up to k events.
-use Prim.Native.Nat.{◌-◌, ◌≤◌}
+-- `list_tree::tree::tree_of` meets its contract. The invariant: the tree has the lists of up to so many events as there were turns.
 use Rattle.list_tree.proofs.Complete.{Complete}
 use Rattle.list_tree.proofs.tree.tree_of.Given as goal
 
-abbrev pub invariant-loop-k : goal.invariant-loop-k
-invariant-loop-k l = (l.k ≤ l.most) × Complete l.n l.k l.first l.t
-
-abbrev pub decreases-loop-k : goal.decreases-loop-k
-decreases-loop-k l = l.most - l.k
+abbrev pub invariant-loop : goal.invariant-loop
+invariant-loop l = Complete l.n l.counter l.first l.t

@@ -1,37 +1,24 @@
--- `judge` meets its contract: by the group of grounds that refuses, or by the last.
-use mathlib.Core.Bool.{not}
-use mathlib.Core.Path.{ap}
-use borrow.Author.Tests.{ltb-true}
-use native.Mathlib.Omega.{arith}
-use Rattle.machine.proofs.Judged.{passed, halted, by_numbers, by_state, by_ends}
+-- `judge` meets its contract: by the group of grounds that refuses, or by none.
+use Rattle.std.proofs.lemmas.Result.{err_from_is_err_and}
+use Rattle.machine.proofs.Judged.{by_numbers, by_state, by_ends, by_none}
 use Rattle.machine.proofs.grounds.judge.Goals as goal
 
-pub returns-then-not-is_accepted : goal.returns-then-not-is_accepted
-returns-then-not-is_accepted c =
-    let a = c.number_answer-numbers in
-    by_numbers _ _ _ _ _ _ _ _ _ (halted a.result c.is_accepted.ensures (ap not c.if-not-is_accepted.true)) a.ensures
+pub returns-in_err-number_answer : goal.returns-in_err-number_answer
+returns-in_err-number_answer c =
+    let p = err_from_is_err_and c.from_residual.result c.from_residual.ensures.1 in
+    rw (p.1, p.2) (by_numbers _ _ _ _ _ _ _ _ c.in_err-number_answer.ensures)
 
-pub returns-then-not-is_accepted-2 : goal.returns-then-not-is_accepted-2
-returns-then-not-is_accepted-2 c =
-    let a2 = c.state_answer-state in
-    let a = c.number_answer-numbers in
-    by_state _ _ _ _ _ _ _ (passed a.result a.ensures c.is_accepted.ensures (ap not c.if-not-is_accepted.false)) _ _ (halted a2.result c.is_accepted-2.ensures (ap not c.if-not-is_accepted-2.true)) a2.ensures
+pub returns-in_err-state_answer : goal.returns-in_err-state_answer
+returns-in_err-state_answer c =
+    let p = err_from_is_err_and c.from_residual-in_err-state_answer.result c.from_residual-in_err-state_answer.ensures.1 in
+    rw (p.1, p.2) (by_state _ _ _ _ _ _ _ c.in_ok-number_answer.ensures _ c.in_err-state_answer.ensures)
 
-pub reacts_to-r-requires : goal.reacts_to-r-requires
-reacts_to-r-requires c =
-    let a2 = c.state_answer-state in
-    let a = c.number_answer-numbers in
-    let clear = passed a.result a.ensures c.is_accepted.ensures (ap not c.if-not-is_accepted.false) in
-    let p = c.requires in
-    (p.node clear, p.message clear (passed a2.result a2.ensures c.is_accepted-2.ensures (ap not c.if-not-is_accepted-2.false)))
-
-pub left_of-requires : goal.left_of-requires
-left_of-requires c q =
-    let s = c.args in
-    omega (arith, ltb-true s.k s.waiting q)
+pub returns-in_err-end_answer : goal.returns-in_err-end_answer
+returns-in_err-end_answer c =
+    let p = err_from_is_err_and c.from_residual-in_err-end_answer.result c.from_residual-in_err-end_answer.ensures.1 in
+    rw (p.1, p.2)
+    (by_ends _ _ _ _ _ _ _ c.in_ok-number_answer.ensures c.in_ok-state_answer.ensures _ _ c.reacts_to-r.ensures c.left_of.ensures _ c.in_err-end_answer.ensures)
 
 pub returns : goal.returns
 returns c =
-    let a2 = c.state_answer-state in
-    let a = c.number_answer-numbers in
-    by_ends _ _ _ _ _ _ _ (passed a.result a.ensures c.is_accepted.ensures (ap not c.if-not-is_accepted.false)) (passed a2.result a2.ensures c.is_accepted-2.ensures (ap not c.if-not-is_accepted-2.false)) _ _ _ c.reacts_to-r.ensures c.left_of.ensures c.end_answer-ends.ensures
+    by_none _ _ _ _ _ _ _ c.in_ok-number_answer.ensures c.in_ok-state_answer.ensures _ _ c.reacts_to-r.ensures c.left_of.ensures c.in_ok-end_answer.ensures

@@ -4,6 +4,8 @@ use borrow.Author.Tests.{not-true, not-false}
 use mathlib.Core.Path.{sym, ◌∙◌, ap₂}
 use mathlib.Core.Path.{◌≡◌}
 use mathlib.Core.Bool.{Bool, false, not, ◌&&◌}
+use Rattle.std.proofs.Common.{rules}
+use Rattle.model.specs.Range.{node_in_range, message_in_range}
 use Rattle.model.specs.declared.Table.{Table}
 use Rattle.machine.specs.Parts.{within_limits}
 use Rattle.machine.proofs.Laws.{sized, WithinLimits, within_is, outside_limits, in_range_is, traffic_of}
@@ -18,14 +20,6 @@ returns-then-not-within_limits c =
     let t = c.args.t in
     sym (outside_limits t (sym c.within_limits.ensures ∙ not-true _ (ap not c.if-not-within_limits.true)))
 
-pub nodes_in_range-requires : goal.nodes_in_range-requires
-nodes_in_range-requires c =
-    (known c.args.t _ c.within_limits.ensures (ap not c.if-not-within_limits.false)).small
-
-pub messages_in_range-requires : goal.messages_in_range-requires
-messages_in_range-requires c =
-    (known c.args.t _ c.within_limits.ensures (ap not c.if-not-within_limits.false)).few
-
 pub traffic_in_range-requires : goal.traffic_in_range-requires
 traffic_in_range-requires c =
     (known c.args.t _ c.within_limits.ensures (ap not c.if-not-within_limits.false)).small
@@ -33,5 +27,7 @@ traffic_in_range-requires c =
 pub returns : goal.returns
 returns c =
     let t = c.args.t in
-    ap₂ (λ (x y : Bool). x && y) (ap₂ (λ (x y : Bool). x && y) c.nodes_in_range.ensures c.messages_in_range.ensures) (c.traffic_in_range.ensures ∙ traffic_of t)
+    let nodes = c.all_from_one.ensures (node_in_range t.n) (λ i x b l h e. search rules) in
+    let messages = c.all_from_one-2.ensures (λ k. message_in_range t.n) (λ i x b l h e. search rules) in
+    ap₂ (λ (x y : Bool). x && y) (ap₂ (λ (x y : Bool). x && y) nodes messages) (c.traffic_in_range.ensures ∙ traffic_of t)
     ∙ sym (in_range_is t (sized t c.well_formed.0) (known t _ c.within_limits.ensures (ap not c.if-not-within_limits.false)))

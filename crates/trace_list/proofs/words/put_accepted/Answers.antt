@@ -11,5 +11,6 @@ pub returns : goal.returns
 unfolding accepted_line
 returns c =
     let a = c.args in
-    let n = c.put_event_number-p.ensures in
-    (put_third (decimal a.e) (bytes " ") (event_text a.v) _ n.0 c.put_bytes.ensures, omega arith)
+    let n = c.put_event_number.ensures in
+    let p = c.put.ensures in
+    (put_third (decimal a.e) (bytes " ") (event_text a.v) _ n.0 p, omega (arith, n.1, p.appended.next))

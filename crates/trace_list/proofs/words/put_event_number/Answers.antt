@@ -1,10 +1,11 @@
 -- `put_event_number` meets its contract: three pieces.
 use native.Mathlib.Omega.{arith}
-use Rattle.listing.proofs.Appended.{appended_twice}
+use Rattle.listing.proofs.Appended.{wrote_twice}
 use Rattle.trace_list.proofs.words.put_event_number.Goals as goal
 
 pub returns : goal.returns
 returns c =
-    let n = c.number-p.ensures in
+    let n = c.number.ensures in
+    let p = c.put.ensures in
     let v = c.put_event.ensures in
-    (appended_twice n.0 (appended_twice c.put_bytes-q.ensures v.0), omega arith)
+    (wrote_twice n.0 (wrote_twice p v.0), omega (arith, n.1, p.appended.next, v.1))

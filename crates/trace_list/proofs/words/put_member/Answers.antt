@@ -12,9 +12,7 @@ put_field-requires c =
     omega arith
 
 pub returns-then-contains : goal.returns-then-contains
-returns-then-contains c =
-    let a = c.args in
-    member_in a.s a.i (sym c.contains.ensures ∙ c.if-contains.true) (omega arith) c.put_field.ensures
+returns-then-contains c = member_in c.args.s c.args.i (sym c.contains.ensures ∙ c.if-contains.true) (omega arith) c.put_field.ensures
 
-pub returns : goal.returns
-returns c = let a = c.args in member_out a.out.now a.at a.s a.i (sym c.contains.ensures ∙ c.if-contains.false) (omega arith)
+pub returns-else-contains : goal.returns-else-contains
+returns-else-contains c = member_out _ c.args.s c.args.i (sym c.contains.ensures ∙ c.if-contains.false) (omega arith)

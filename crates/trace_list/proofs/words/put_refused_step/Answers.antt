@@ -1,6 +1,6 @@
 -- `put_refused_step` meets its contract: four pieces, the first of which is three.
 use native.Mathlib.Omega.{arith}
-use Rattle.listing.proofs.Appended.{appended_twice}
+use Rattle.listing.proofs.Appended.{wrote_twice}
 use Rattle.listing.specs.Ascii.{bytes}
 use Rattle.listing.specs.Decimal.{decimal}
 use Rattle.listing.specs.Lines.{row}
@@ -14,6 +14,8 @@ pub returns : goal.returns
 unfolding refused_step_line row
 returns c =
     let a = c.args in
-    let n = c.put_event_number-p.ensures in
-    let f = c.field-s.ensures in
-    (put_third (decimal a.e) (bytes " ") (event_text a.v) _ n.0 (appended_twice c.put_bytes-q.ensures (appended_twice (rw (spaced_one a.r) at f.0) c.put_bytes.ensures)), omega arith)
+    let n = c.put_event_number.ensures in
+    let p = c.put.ensures in
+    let f = c.field.ensures in
+    let q = c.put-2.ensures in
+    (put_third (decimal a.e) (bytes " ") (event_text a.v) _ n.0 (wrote_twice p (wrote_twice (rw (spaced_one a.r) at f.0) q)), omega (arith, n.1, p.appended.next, f.1, q.appended.next))
