@@ -1,5 +1,5 @@
--- Laws for the code over a table: what a table's array is, the record of a node, and one stored.
-use Prim.Native.Nat.{ℕ, zero, suc, ◌-◌, ◌≤◌}
+-- Laws for the code over a table: what a table's array is, the record of a node and one stored, and the bounds of a set's highest node.
+use Prim.Native.Nat.{ℕ, zero, suc, ◌-◌, ◌≤◌, ◌<◌}
 use native.Mathlib.Omega.{arith}
 use mathlib.Core.Path.{◌≡◌, refl, sym, ap}
 use mathlib.Core.List.{List}
@@ -9,6 +9,8 @@ use mir.Val.{Val}
 use denote.Laws.{Is}
 use denote.Struct.Declared.{row}
 use borrow.Author.Tests.{le-leb, eq-eqb}
+use Rattle.node_set.specs.NodeSet.{highest}
+use Rattle.node_set.proofs.Laws.{lt_within, highest_in}
 use Rattle.model.specs.State.{every, first_of}
 use Rattle.model.proofs.Lists.{first_take, first_length, first_set, first_replicate}
 use Rattle.bully_model.specs.Range.{node_in_range}
@@ -17,6 +19,10 @@ use Rattle.bully_model.specs.declared.Node.{Node}
 use Rattle.bully_model.specs.declared.Table.{Table}
 use Rattle.bully_model.specs.contracts.Table as T
 use Rattle.bully_machine.specs.Stepped.{starting_table}
+
+-- the highest node of a set that is not empty can be taken out of it
+pub highest_fits : (s : ℕ) → s < 65536 → (s ≡ 0 → ⊥) → (1 ≤ highest s) × (highest s ≤ 16)
+highest_fits s h n = highest_in 16 s (omega arith) (lt_within 16 s h) (omega arith)
 
 -- ── a table's array: its first n records ──
 

@@ -1,14 +1,15 @@
 -- Places that are no part of a table: clearing them one by one, and that a state is read back from its table.
-use Prim.Native.Nat.{ℕ, min, zero, suc, ◌-◌}
+use Prim.Native.Nat.{ℕ, min, zero, suc, ◌+◌, ◌-◌, ◌≤◌, ◌<◌}
 use native.Mathlib.Omega.{arith}
+use native.Mathlib.Numerals.{add-one}
 use mathlib.Core.Path.{◌≡◌, refl, sym, ◌∙◌, ap}
-use mathlib.Core.List.{List, [], ◌∷◌, ◌++◌, append-nil}
+use mathlib.Core.List.{List, [], ◌∷◌, ◌++◌, append_assoc, append-nil}
 use mathlib.Core.Bool.{Bool, true, false}
 use lib.Dec.{leb}
 use borrow.Author.Tests.{leb-true, leb-false}
 use borrow.Rule.Slice.PartMut.{put_mid}
-use lib.ListN.{length, take, drop, replicate, length-drop, drop_of_length-le}
-use lib.Seq.{take_all, length-take-le}
+use lib.ListN.{length, take, drop, set, replicate, length-drop, drop_of_length-le}
+use lib.Seq.{take-suc-set, take_all, length-take-le}
 use Rattle.model.specs.State.{starting_node, no_message, first_of, view, table_of}
 use Rattle.model.specs.declared.Table.{Table}
 use Rattle.model.proofs.Lists.{first_length}
@@ -18,6 +19,16 @@ module _ {A : Type 0} (d : A) where
   -- l, of length k, with d from i on
   abbrev pub filled : ℕ → ℕ → List A → List A
   filled k i l = take i l ++ replicate (k - i) d
+
+  pub filled_turn : (k i : ℕ) (l : List A) → length l ≡ k → i < k → filled k (i + 1) (set l i d) ≡ filled k i l
+  filled_turn k i l long h =
+      let e : k - i ≡ suc (k - suc i) = omega arith in
+      rw (add-one i, take-suc-set l i d (omega arith), append_assoc, e)
+
+  pub filled_end : (k i : ℕ) (l : List A) → length l ≡ k → k ≤ i → filled k i l ≡ l
+  filled_end k i l long h =
+      let e : k - i ≡ 0 = omega arith in
+      rw (e, append-nil, take_all i l (omega arith))
 
   first_none : (k : ℕ) → first_of k d [] ≡ replicate k d
   unfolding first_of

@@ -6,8 +6,11 @@ ghost use Rattle.short_lists_text.specs.Text.{spaced, event_text};
 use listing::TextBuffer;
 use model::Event;
 
+// Inlined, here and below: a buffer that is handed on keeps its end in memory, and a list as text then took half as long again in the archive.
+
 // A name and a number behind it.
 #[tactic(auto, using(short_lists_text::proofs::Spaced::one_long))]
+#[inline(always)]
 fn put_one(out: &mut TextBuffer, w: &[u8], i: u8)
     requires { HasRoom out.old (length w.now + length (spaced (i ∷ []))) }
     ensures { Wrote out.old (w.now ++ spaced (i ∷ [])) out.new }
@@ -18,6 +21,7 @@ fn put_one(out: &mut TextBuffer, w: &[u8], i: u8)
 
 // A name and two numbers behind it.
 #[tactic(auto, using(short_lists_text::proofs::Spaced::two_long))]
+#[inline(always)]
 fn put_two(out: &mut TextBuffer, w: &[u8], i: u8, x: u16)
     requires { HasRoom out.old (length w.now + length (spaced (i ∷ x ∷ []))) }
     ensures { Wrote out.old (w.now ++ spaced (i ∷ x ∷ [])) out.new }
@@ -28,6 +32,7 @@ fn put_two(out: &mut TextBuffer, w: &[u8], i: u8, x: u16)
 
 // The event's name and numbers.
 #[tactic(auto, using(short_lists_text::proofs::Spaced::one_short, short_lists_text::proofs::Spaced::two_short, short_lists_text::proofs::Spaced::task_short), unfolding(short_lists_text::specs::Text::event_text, short_lists_text::specs::Text::name_of))]
+#[inline(always)]
 pub fn put_event(out: &mut TextBuffer, e: Event)
     requires { HasRoom out.old 16 }
     ensures { Wrote out.old (event_text e) out.new × (out.new.end ≤ out.old.end + 16) }

@@ -6,7 +6,7 @@ use mathlib.Core.Bool.{Bool, true, false, not, ◌&&◌}
 use mathlib.Core.List.{List, [], ◌∷◌}
 use lib.ListN.{length, get_or, take, drop, drop_of_length-le, length-drop}
 use lib.Seq.{drop-cons}
-use lib.Dec.{leb, ltb}
+use lib.Dec.{eqb, leb, ltb}
 use borrow.Author.Tests.{not-false, leb-true}
 use Rattle.std.specs.Prelude.{Option, Some, None, MatchOption, HoldsAt, bytes_eq}
 use Rattle.std.specs.List.{AllWithin}
@@ -21,6 +21,21 @@ pub left_at : (l : List ℕ) (i : ℕ) → i < length l → drop i l ≡ get_or 
 left_at l i h = let e : suc i ≡ i + 1 = omega arith in drop-cons l i 0 h ∙ ap (λ k. get_or l i 0 ∷ drop k l) e
 
 -- ── a stretch of one kind ──
+
+-- a byte of the kind is passed
+pub past_on : (f : ℕ → Bool) (t : List ℕ) (i : ℕ) → i < length t → f (get_or t i 0) ≡ true → past f t i ≡ past f t (i + 1)
+unfolding past span pick
+past_on f t i h e = rw (left_at t i h, e) (omega arith)
+
+-- at another one the stretch ends
+pub past_here : (f : ℕ → Bool) (t : List ℕ) (i : ℕ) → i < length t → f (get_or t i 0) ≡ false → past f t i ≡ i
+unfolding past span pick
+past_here f t i h e = rw (left_at t i h, e) (omega arith)
+
+-- and at the end of the text
+pub past_end : (f : ℕ → Bool) (t : List ℕ) (i : ℕ) → length t ≤ i → past f t i ≡ i
+unfolding past span
+past_end f t i h = rw (drop_of_length-le t {i = i} h) (omega arith)
 
 -- what `position` finds among the bytes s: the first that is not of the kind, if there is one
 abbrev pub FirstOther : (ℕ → Bool) → List ℕ → Option ℕ → Type 0
@@ -78,6 +93,30 @@ same_is [] [] = refl
 same_is [] (y ∷ w) = refl
 same_is (x ∷ v) [] = refl
 same_is (x ∷ v) (y ∷ w) = rw (same_is v w)
+
+-- words of different lengths are not the same
+pub other_long : (v w : List ℕ) → (length v ≡ length w → ⊥) → false ≡ same v w
+unfolding same
+other_long [] [] h = absurd (h refl)
+other_long [] (y ∷ w) h = refl
+other_long (x ∷ v) [] h = refl
+other_long (x ∷ v) (y ∷ w) h = ends (eqb x y) (same v w) (other_long v w (λ e. h (ap suc e)))
+  where
+    ends : (p q : Bool) → false ≡ q → false ≡ (p && q)
+    ends true q e = e
+    ends false q e = refl
+
+pub same_on : (v w : List ℕ) (i : ℕ) → i < length v → i < length w → eqb (get_or v i 0) (get_or w i 0) ≡ true → same (drop i v) (drop i w) ≡ same (drop (i + 1) v) (drop (i + 1) w)
+unfolding same
+same_on v w i h k e = rw (left_at v i h, left_at w i k, e) refl
+
+pub same_not : (v w : List ℕ) (i : ℕ) → i < length v → i < length w → eqb (get_or v i 0) (get_or w i 0) ≡ false → same (drop i v) (drop i w) ≡ false
+unfolding same
+same_not v w i h k e = rw (left_at v i h, left_at w i k, e) refl
+
+pub same_end : (v w : List ℕ) (i : ℕ) → length v ≤ i → length w ≤ i → same (drop i v) (drop i w) ≡ true
+unfolding same
+same_end v w i h k = rw (drop_of_length-le v {i = i} h, drop_of_length-le w {i = i} k) refl
 
 -- ── a number ──
 

@@ -8,6 +8,8 @@ use crate::words::same_word;
 use list_text::{Expected, Opening, Part, Wrong};
 use model::{Event, TaskNo};
 
+// Inlined from `part_at` down to the name of an event: with calls a text of ticks took a quarter more instructions.
+
 // The first field's tag by the word; none where it is neither of the two.
 // kept: tried, and the proof didn't close: a match on byte strings leaves a goal for each byte at which two words differ
 #[tactic(auto, unfolding(list_text::specs::Script::opening_tag, model::specs::Pick::pick))]
@@ -45,6 +47,7 @@ pub fn opening_at(c: Cursor) -> Opening
 // The tag of the event that a word names; none where it names none. Tags are bytes of the list, as `event_of` of event_list/specs/Format takes them.
 // kept: ifs and no match, tried, and the proof didn't close. And an enum of the names is no plainer: the definitions take the tag (`numbers_at`, `with_one`, `with_two`, `with_second`, `event_of_two`), so that each clause below would say `tag_of name` for it.
 #[tactic(auto, unfolding(list_text::specs::Script::event_named, model::specs::Pick::pick))]
+#[inline(always)]
 fn event_named(w: &[u8]) -> Option<u8>
     ensures { result ≡ spec.event_named w.now }
 {
@@ -154,6 +157,7 @@ fn two_at(tag: u8, c: Cursor) -> Part
 
 // The numbers of an event with a tag, from c on.
 #[tactic(auto, unfolding(list_text::specs::Script::numbers_at, model::specs::Pick::pick))]
+#[inline(always)]
 fn numbers_at(tag: u8, c: Cursor) -> Part
     ensures { result ≡ spec.numbers_at tag c.entry.text.now c.entry.at }
 {
@@ -165,6 +169,7 @@ fn numbers_at(tag: u8, c: Cursor) -> Part
 
 // The event that starts at c.
 #[tactic(auto, using(crate::proofs::Names::own_word), unfolding(list_text::specs::Script::event_at))]
+#[inline(always)]
 fn event_at(c: Cursor) -> Part
     ensures { result ≡ spec.event_at c.entry.text.now c.entry.at }
 {
@@ -180,6 +185,7 @@ fn event_at(c: Cursor) -> Part
 
 // Behind a line end or a comment: the next event, or the text's end.
 #[tactic(auto, unfolding(list_text::specs::Script::event_from, model::specs::Pick::pick))]
+#[inline(always)]
 fn event_from(c: Cursor) -> Part
     ensures { result ≡ spec.event_from c.entry.text.now c.entry.at }
 {
@@ -198,6 +204,7 @@ fn ends_line(b: u8) -> bool
 
 // What follows where the first byte behind the last part, blanks left out, stands at c.
 #[tactic(auto, unfolding(list_text::specs::Script::separated_at, model::specs::Pick::pick))]
+#[inline(always)]
 fn separated_at(c: Cursor) -> Part
     ensures { result ≡ spec.separated_at c.entry.text.now c.entry.at }
 {
@@ -219,6 +226,7 @@ fn separated_at(c: Cursor) -> Part
 
 // What follows behind the part that ends at c.
 #[tactic(auto, unfolding(list_text::specs::Script::part_at))]
+#[inline(always)]
 pub fn part_at(c: Cursor) -> Part
     ensures { result ≡ spec.part_at c.entry.text.now c.entry.at }
 {

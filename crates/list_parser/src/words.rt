@@ -29,6 +29,7 @@ pub fn comment_behind(c: bool, b: u8) -> bool
 }
 
 // Two words are the same.
+#[inline(always)]
 pub fn same_word(w: &[u8], name: &[u8]) -> bool
     ensures { result ≡ spec.same w.now name.now }
 {

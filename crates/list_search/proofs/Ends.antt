@@ -27,9 +27,10 @@ use Rattle.short_lists_text.specs.Text.{count_line, fits, text_of}
 use Rattle.short_lists_text.proofs.Few.{few_lists}
 use Rattle.short_lists_text.proofs.Refuses.{fits_are, stopped}
 use Rattle.list_search.specs.declared.Search.{Search}
+use Rattle.list_search.specs.declared.Piece.{Piece}
 use Rattle.list_search.specs.Stack.{Frame, frame, path, lists_left, stack_text}
 use Rattle.list_search.specs.Line.{beginning}
-use Rattle.list_search.specs.Search.{no_level, frame_of, frames_of, stack_of, missing, text_left, text_from, SoundLevel, Going, Sound, First, Begun, GaveInto, Call, written_by, Calls, search_after, EndsLine, AllPieces}
+use Rattle.list_search.specs.Search.{no_level, frame_of, frames_of, stack_of, missing, text_left, text_from, SoundLevel, Going, Sound, First, Begun, Gave, GaveInto, Call, written_by, Calls, search_after, EndsLine, AllPieces}
 use Rattle.list_search.proofs.Stack.{all_left, whole_text, left_given, left_none, text_given, text_over}
 use Rattle.list_search.proofs.Lines.{line_empty}
 use Rattle.list_search.proofs.Loop.{text_of_lem, ends_after, count_ends}
@@ -164,7 +165,21 @@ gave_whole s {b} {o} x q z w l e =
       };
     }
 
+pub not_refused : (s : Search) → Sound s → (s.n ≡ 0 → ⊥) → Going s (s.height - 1)
+not_refused s (inl q) d = absurd (d q)
+not_refused s (inr g) d = g
+
 -- ── the pieces put together ──
+
+-- after a piece less is left
+pub less_left : (s : Search) (o : List ℕ) (p : Piece) (n : Search) → Gave s o p → p.next ≡ Some n → length (text_left n) < length (text_left s)
+less_left s o p n g d =
+    let t : text_left s ≡ take p.written o ++ text_left n = rw d at g.text in
+    let e = ap length t in
+    let a = length-append (take p.written o) (text_left n) in
+    let w : length (take p.written o) ≡ p.written = length-take-le p.written o g.fits in
+    let i = g.some in
+    omega (arith, e, a, w, i)
 
 -- of a piece that gives a search
 next_text : (o : Option Search) (s : Search) → IsSome o → text_from o ≡ text_left (unwrap_or o s)

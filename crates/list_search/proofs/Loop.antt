@@ -378,6 +378,14 @@ module _ {x o : List ℕ} {n len : ℕ} {ls : List Level} {g at h : ℕ} {t : Le
     sound = let i : h + 1 - 1 ≡ h = omega arith in inr (subst (Going goes_on) (sym i) going);
   }
 
+-- the topmost level is one of the seven
+pub top_place : (s : Search) (h : ℕ) → Going s h → h < 7
+top_place s h c = by c.below
+  where
+    by : (h < s.length) ⊎ ((s.length ≡ 0) × (h ≡ 0)) → h < 7
+    by (inl q) = omega (arith, q, c.long)
+    by (inr q) = omega (arith, q.1)
+
 -- ── as the code has it; c: how many events there are ──
 
 same_step : (s : State) (d e : Event) (r : Result) → d ≡ e → step s d ≡ r → step s e ≡ r

@@ -2,11 +2,11 @@
 use Prim.Native.Nat.{ℕ, zero, suc, max, ◌+◌, ◌-◌, ◌*◌, ◌/◌, ◌%◌, ◌^◌, ◌≤◌, ◌<◌}
 use native.Mathlib.Nat.{pow-suc, one-le-pow}
 use native.Mathlib.Omega.{arith}
-use mathlib.Core.Path.{◌≡◌, refl, ◌∙◌}
+use mathlib.Core.Path.{◌≡◌, refl, ◌∙◌, ap}
 use mathlib.Core.List.{List, [], ◌∷◌, ◌++◌}
 use lib.ListN.{length, get_or, length-append}
 use lib.Dec.{ltb}
-use borrow.Author.Tests.{ltb-true, ltb-false}
+use borrow.Author.Tests.{ltb-true, ltb-false, lt-ltb, le-ltb}
 use Rattle.model.specs.Pick.{pick, by_test}
 use Rattle.listing.specs.Decimal.{digits, decimal, value_from, value_of}
 use Rattle.listing.specs.Claims.{DecimalDenotes}
@@ -104,9 +104,33 @@ pub decimal_one : (x : ℕ) → x < 10 → 1 ≡ length (decimal x)
 unfolding decimal
 decimal_one x h = let o = digits_some 19 x in let s = digits_short 20 0 x (omega arith) in omega arith
 
+digits_long : (p x : ℕ) → length (digits p x) ≤ p
+unfolding digits
+digits_long zero x = omega arith
+digits_long (suc p) x = simp length-append (by_test (λ (l : List ℕ). length l + 1 ≤ suc p) (λ t. omega arith) (λ t. let i = digits_long p (x / 10) in omega arith))
+
+pub decimal_long : (x : ℕ) → length (decimal x) ≤ 20
+unfolding decimal
+decimal_long x = digits_long 20 x
+
 -- A number of 32 bits has at most ten.
 pub decimal_32_long : (x : ℕ) → x < 2 ^ 32 → length (decimal x) ≤ 10
 decimal_32_long x h = decimal_short 10 {x = x} (omega arith) (omega arith)
+
+-- The digits of x / 10, and then the last.
+digits_last : (p x : ℕ) → 10 ≤ x → digits (suc p) x ≡ digits p (x / 10) ++ ((48 + x % 10) ∷ [])
+unfolding digits pick
+digits_last p x h = rw (le-ltb x 10 h)
+
+-- A place more than x has digits changes nothing.
+digits_enough : (p x : ℕ) → x < 10 ^ suc p → digits (suc (suc p)) x ≡ digits (suc p) x
+unfolding digits pick
+digits_enough zero x h = let b : x < 10 = omega arith in rw (lt-ltb x 10 b)
+digits_enough (suc p) x h = ap (λ (l : List ℕ). pick (ltb x 10) [] l ++ ((48 + x % 10) ∷ [])) (digits_enough p (x / 10) (tenth (suc p) h))
+
+pub decimal_more : (x : ℕ) → 10 ≤ x → x < 2 ^ 64 → length (decimal x) ≡ length (decimal (x / 10)) + 1
+unfolding decimal
+decimal_more x h b = rw (digits_last 19 x h, digits_enough 18 (x / 10) (omega arith)) (length-append (digits 19 (x / 10)) ((48 + x % 10) ∷ []))
 
 pub decimal_each : (x k : ℕ) → k < length (decimal x) → (48 ≤ get_or (decimal x) k 0) × (get_or (decimal x) k 0 ≤ 57)
 unfolding decimal

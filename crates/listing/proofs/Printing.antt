@@ -13,7 +13,7 @@ use Rattle.model.specs.Pick.{pick, pick_true, pick_false, by_test}
 use Rattle.model.proofs.Local.{both_left, both_right}
 use Rattle.std.specs.Prelude.{Ok, Err}
 use Rattle.std.specs.Result.{result_unwrap_or}
-use Rattle.listing.specs.Printing.{Put, refused, put_number, put_next, Print, shown, room, written, printed, joined, Printed, Whole, no_room, put_length, lines_number, LinesExported}
+use Rattle.listing.specs.Printing.{Put, refused, put_number, put_next, Print, shown, room, written, printed, end_of, joined, Printed, Whole, no_room, put_length, lines_number, LinesExported}
 
 -- What follows a print: the lines ys, unless it was refused.
 abbrev and_then : Print → List (List ℕ) → Print
@@ -36,6 +36,25 @@ then_next b o p q a xs ys e f = printed_append b p xs ys ∙ rw (← e, f)
 pub then_refused : (b o : List ℕ) (p : ℕ) (a : Put) (xs ys : List (List ℕ)) → shown a o ≡ printed b p xs → a ≡ refused → printed b p (xs ++ ys) ≡ shown refused o
 unfolding pick
 then_refused b o p a xs ys e f = printed_append b p xs ys ∙ rw (← e, f)
+
+-- Where writing ends, in the same two cases.
+end_append : (b : List ℕ) (p : ℕ) (xs ys : List (List ℕ)) → end_of b p (xs ++ ys) ≡ pick (eqb (printed b p xs).refusal 0) (end_of (printed b p xs).bytes (printed b p xs).next ys) (end_of b p xs)
+unfolding printed end_of pick
+end_append b p [] ys = refl
+end_append b p (x ∷ xs) ys = by (room b p x) _ _ (printed (written b p x) (p + length x) xs) (end_append (written b p x) (p + length x) xs ys)
+  where
+    by : (t : Bool) (n k : ℕ) (m : Print) → n ≡ pick (eqb m.refusal 0) (end_of m.bytes m.next ys) k
+        → pick t n p ≡ pick (eqb (pick t m (shown refused b)).refusal 0) (end_of (pick t m (shown refused b)).bytes (pick t m (shown refused b)).next ys) (pick t k p)
+    by true n k m e = e
+    by false n k m e = refl
+
+pub end_next : (b o : List ℕ) (p q : ℕ) (a : Put) (xs ys : List (List ℕ)) → shown a o ≡ printed b p xs → a ≡ Ok q → end_of b p (xs ++ ys) ≡ end_of o q ys
+unfolding pick
+end_next b o p q a xs ys e f = end_append b p xs ys ∙ rw (← e, f)
+
+pub end_refused : (b o : List ℕ) (p : ℕ) (a : Put) (xs ys : List (List ℕ)) → shown a o ≡ printed b p xs → a ≡ refused → end_of b p (xs ++ ys) ≡ end_of b p xs
+unfolding pick
+end_refused b o p a xs ys e f = end_append b p xs ys ∙ rw (← e, f)
 
 -- The answer, from 01's number and the offset.
 pub answer_next : (a : Put) (q : ℕ) → put_number a ≡ 0 → put_next a ≡ q → a ≡ Ok q
@@ -168,6 +187,23 @@ pub line_next : (b o s : List ℕ) (p q : ℕ) → q ≡ p + length s → q ≤ 
 unfolding printed pick
 line_next b o s p q e h f = rw (e, f, le-leb p (length b) (omega arith), le-leb (length s) (length b - p) (omega arith))
 
+-- Where one line ends: behind it, or where it was to begin.
+module _ (b s : List ℕ) (p : ℕ) where
+  end_by : (t : Bool) → room b p s ≡ t → end_of b p (s ∷ []) ≡ pick t (p + length s) p
+  unfolding end_of
+  end_by t q = rw q
+
+  pub line_ends : p + length s ≤ length b → p + length s ≡ end_of b p (s ∷ [])
+  unfolding pick
+  line_ends h = sym (end_by true (rw (le-leb p (length b) (omega arith), le-leb (length s) (length b - p) (omega arith))))
+
+  pub line_stays : length b < p + length s → p ≡ end_of b p (s ∷ [])
+  line_stays h = by (room b p s) refl
+    where
+      by : (t : Bool) → room b p s ≡ t → p ≡ end_of b p (s ∷ [])
+      by true q = let k = room_fits b s p q in let v : ⊥ = omega arith in absurd v
+      by false q = sym (end_by false q ∙ pick_false (p + length s) p)
+
 -- A line written at the start of the free end from at on: the buffer has it at at.
 module _ (b s last : List ℕ) (at : ℕ) (a : Put) (h : at ≤ length b) (e : shown a last ≡ printed (take (length b - at) (drop at b)) 0 (s ∷ [])) where
   free_all : take (length b - at) (drop at b) ≡ drop at b
@@ -203,6 +239,16 @@ module _ (b s last : List ℕ) (at : ℕ) (a : Put) (h : at ≤ length b) (e : s
   put_next_lem n w =
       by_room _ (λ q i j. let y : n ≡ length s = cc in rw (q, y, j, free_ends, append-nil, drop-drop))
       (λ q i j. let y : ◌≡◌ {A = ℕ} 0 1 = cc in let v : ⊥ = omega arith in absurd v)
+
+  pub put_ends : (n : ℕ) → a ≡ Ok n → at + n ≡ end_of b at (s ∷ [])
+  put_ends n w =
+      by_room _ (λ q i j. let y : n ≡ length s = cc in let k = room_fits b s at q in rw y (line_ends b s at k))
+      (λ q i j. let y : ◌≡◌ {A = ℕ} 0 1 = cc in let v : ⊥ = omega arith in absurd v)
+
+  pub put_stays : a ≡ refused → at ≡ end_of b at (s ∷ [])
+  put_stays w =
+      by_room _ (λ q i j. let y : ◌≡◌ {A = ℕ} 0 1 = cc in let v : ⊥ = omega arith in absurd v)
+      (λ q i j. sym (end_by b s at false q ∙ pick_false (at + length s) at))
 
   pub put_refused : a ≡ refused → shown refused (take at b ++ (last ++ drop (length b - at) (drop at b))) ≡ printed b at (s ∷ [])
   unfolding printed pick

@@ -6,7 +6,7 @@ use Rattle.std.specs.Prelude.{Result, Ok, Err, IsErr}
 use Rattle.listing.specs.declared.NoRoom.{NoRoom}
 use Rattle.listing.specs.declared.buffer.TextBuffer.{TextBuffer}
 use Rattle.listing.specs.Printing.{Put, Printed, WroteLines, answer_at, refused, printed}
-use Rattle.listing.proofs.Printing.{then_next, then_refused, printed_holds}
+use Rattle.listing.proofs.Printing.{then_next, then_refused, end_next, end_refused, printed_holds}
 
 -- A refusal is refusal 15, wherever the buffer's end is.
 pub refused_at : (r : Result (Unit {0}) NoRoom) (p : ℕ) → IsErr r → answer_at r p ≡ refused
@@ -20,6 +20,7 @@ module _ {b c : TextBuffer} {xs : List (List ℕ)} {a : Result (Unit {0}) NoRoom
       record {
         same = v.same ∙ w.same;
         lines = v.lines ∙ sym (then_next b.bytes.now c.bytes.now b.end c.end (answer_at a c.end) xs ys w.lines (rw e));
+        ends = v.ends ∙ sym (end_next b.bytes.now c.bytes.now b.end c.end (answer_at a c.end) xs ys w.lines (rw e));
       }
 
   -- They were refused, and so are any lines that were to come behind them.
@@ -28,6 +29,7 @@ module _ {b c : TextBuffer} {xs : List (List ℕ)} {a : Result (Unit {0}) NoRoom
       record {
         same = w.same;
         lines = rw (refused_at r c.end h) (sym (then_refused b.bytes.now c.bytes.now b.end (answer_at a c.end) xs ys w.lines (rw e)));
+        ends = w.ends ∙ sym (end_refused b.bytes.now c.bytes.now b.end (answer_at a c.end) xs ys w.lines (rw e));
       }
 
 -- A buffer over all of some bytes, of which none are written, and what the bytes then hold, is printing from their start.

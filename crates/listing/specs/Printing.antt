@@ -49,6 +49,11 @@ unfoldable pub printed : List ℕ → ℕ → List (List ℕ) → Print
 printed b p [] = record { refusal = 0; next = p; bytes = b }
 printed b p (x ∷ xs) = pick (room b p x) (printed (written b p x) (p + length x) xs) (record { refusal = 15; next = 0; bytes = b })
 
+-- where writing them ends: behind the last of them, or behind those in front of the first that has no room
+unfoldable pub end_of : List ℕ → ℕ → List (List ℕ) → ℕ
+end_of b p [] = p
+end_of b p (x ∷ xs) = pick (room b p x) (end_of (written b p x) (p + length x) xs) p
+
 -- the bytes of lines after one another
 unfoldable pub joined : List (List ℕ) → List ℕ
 joined [] = []
@@ -97,6 +102,8 @@ pub record WroteLines (b : TextBuffer) (xs : List (List ℕ)) (a : Result (Unit 
   -- the same lent bytes
   pub same : o.bytes.ghost_name ≡ b.bytes.ghost_name
   pub lines : shown (answer_at a o.end) o.bytes.now ≡ printed b.bytes.now b.end xs
+  -- the buffer's end is behind those that are written: where the first of them has no room, it is as it was
+  pub ends : o.end ≡ end_of b.bytes.now b.end xs
 
 -- ── printing as a function that Rust or C calls ──
 

@@ -1,18 +1,20 @@
 -- The bytes of a message by its kind; when bytes are the same; a packet's bytes.
-use Prim.Native.Nat.{ℕ, zero, suc, ◌≤◌}
+use Prim.Native.Nat.{ℕ, zero, suc, ◌+◌, ◌≤◌, ◌<◌}
+use native.Mathlib.Numerals.{add-one}
 use native.Mathlib.Omega.{arith}
-use mathlib.Core.Bool.{Bool, true, false}
+use mathlib.Core.Bool.{Bool, true, false, ◌&&◌}
 use mathlib.Core.Path.{◌≡◌, refl, ap}
 use mathlib.Core.List.{List, ◌++◌}
-use lib.Dec.{leb}
-use lib.ListN.{length, take, replicate}
-use lib.Seq.{take-append_seam}
+use lib.Dec.{eqb, leb}
+use lib.ListN.{length, get_or, take, drop, replicate, drop_of_length-le}
+use lib.Seq.{drop-cons, take-append_seam}
 use borrow.Author.Tests.{eq-eqb, ne_eqb, le-leb, lt-leb}
 use Rattle.model.specs.Pick.{pick}
 use Rattle.model.specs.Range.{carries_group}
 use Rattle.model.specs.declared.Message.{Message}
+use Rattle.model.proofs.Lists.{left_turn, left_end}
 use Rattle.model.proofs.Local.{right_fails}
-use Rattle.number_bytes.specs.Bytes.{bytes}
+use Rattle.number_bytes.specs.Bytes.{bytes, same_bytes}
 use Rattle.number_bytes.proofs.Numbers.{written_over}
 use Rattle.message_fields.specs.declared.Packet.{Packet}
 use Rattle.message_fields.specs.Fields.{group_field, task_field, yes_field, carries_task, carries_yes, only_if, fields, most_bytes, Packed}
@@ -99,3 +101,16 @@ at_most m = by (kind_of m.kind)
 -- the bytes of a packet that are the message's
 pub unpacked : (p : Packet) (m : Message) → Packed p (fields m) → take p.length p.bytes ≡ fields m
 unpacked p m h = rw (h.bytes, h.length, written_over (replicate most_bytes 0) (fields m) (at_most m)) (take-append_seam (fields m) _)
+
+-- ── the same bytes ──
+-- at place i of s and of the first k of b
+module _ (s b : List ℕ) (k : ℕ) (h : k ≤ length b) (e : length s ≡ k) (i : ℕ) where
+  pub same_turn : i < k → same_bytes (drop i s) (drop i (take k b)) ≡ eqb (get_or s i 0) (get_or b i 0) && same_bytes (drop (i + 1) s) (drop (i + 1) (take k b))
+  unfolding same_bytes
+  same_turn p = rw (left_turn b k h i p 0, drop-cons s i 0 (omega arith), add-one i)
+
+  pub same_end : k ≤ i → same_bytes (drop i s) (drop i (take k b)) ≡ true
+  unfolding same_bytes
+  same_end p =
+      let q : length s ≤ i = omega arith in
+      rw (left_end b k h i p, drop_of_length-le)

@@ -1,13 +1,14 @@
--- Laws of `first_of` and `map`, for the loops over a table's arrays: the first k of a list, and one element of it stored.
+-- Laws of `first_of`, `map` and `every`, for the loops over a table's arrays: the first k of a list, one element of it stored, and a test of each.
 use Prim.Native.Nat.{ℕ, zero, suc, ◌+◌, ◌≤◌, ◌<◌}
 use native.Mathlib.Nat.{not-suc-le-zero}
 use native.Mathlib.Numerals.{add-one}
 use native.Mathlib.Omega.{arith}
 use mathlib.Core.Path.{◌≡◌, refl, ap}
 use mathlib.Core.List.{List, [], ◌∷◌, ◌++◌, map}
+use mathlib.Core.Bool.{Bool, true, false, ◌&&◌}
 use lib.ListN.{length, get_or, take, drop, set, length-set, replicate, drop_of_length-le}
 use lib.Seq.{drop-cons, take-set-lt, get_or-take, length-take-le}
-use Rattle.model.specs.State.{first_of}
+use Rattle.model.specs.State.{every, first_of}
 
 -- ── the first k of a list ──
 pub first_take : {A : Type 0} (k : ℕ) (d : A) (l : List A) → k ≤ length l → first_of k d l ≡ take k l
@@ -48,3 +49,20 @@ module _ {A : Type 0} (l : List A) (w : ℕ) (h : w ≤ length l) (k : ℕ) wher
   left_end p =
       let q : length (take w l) ≤ k = simp length-take-le (omega arith) in
       rw drop_of_length-le
+
+  -- r is the test's result in the code, and d what the read takes past the end
+  module _ (f : ℕ → A → Bool) (i : ℕ) where
+    module _ (p : k < w) (d : A) (r : Bool) (e : r ≡ f i (get_or l k d)) where
+      every_turn : every f i (drop k (take w l)) ≡ r && every f (i + 1) (drop (k + 1) (take w l))
+      unfolding every
+      every_turn = rw (left_turn p d, ← e)
+
+      pub every_hit : r ≡ true → every f i (drop k (take w l)) ≡ every f (i + 1) (drop (k + 1) (take w l))
+      every_hit y = rw (every_turn, y)
+
+      pub every_miss : r ≡ false → every f i (drop k (take w l)) ≡ false
+      every_miss y = rw (every_turn, y)
+
+    pub every_end : w ≤ k → every f i (drop k (take w l)) ≡ true
+    unfolding every
+    every_end p = rw (left_end p)

@@ -15,8 +15,8 @@ use Rattle.event_list.proofs.Reading.{rest_done, rest_stopped, rest_got, reading
 use Rattle.listing.specs.declared.NoRoom.{NoRoom}
 use Rattle.listing.specs.declared.buffer.TextBuffer.{TextBuffer}
 use Rattle.listing.specs.Lines.{stopped_line, table_lines}
-use Rattle.listing.specs.Printing.{WroteLines, shown, printed}
-use Rattle.listing.proofs.Printing.{then_next, then_refused}
+use Rattle.listing.specs.Printing.{WroteLines, shown, printed, end_of}
+use Rattle.listing.proofs.Printing.{then_next, then_refused, end_next, end_refused}
 use Rattle.listing.proofs.Written.{refused_at}
 use Rattle.run_list.specs.Text.{note_lines, lines_with, Headed}
 use Rattle.run_list.proofs.Laws.{left, left_done, left_stopped, left_got, lines_begun, headed_refused, headed_ended, headed_nodes}
@@ -29,6 +29,12 @@ module _ {b c : TextBuffer} {xs : List (List ℕ)} {a : Result (Unit {0}) NoRoom
 
   pub refused_printed : {d : NoRoom} → a ≡ Err d → shown (Err d) c.bytes.now ≡ printed b.bytes.now b.end (xs ++ ys)
   refused_printed e = sym (then_refused b.bytes.now c.bytes.now b.end _ xs ys w.lines (rw e))
+
+  pub next_ends : {u : Unit {0}} → a ≡ Ok u → end_of c.bytes.now c.end ys ≡ end_of b.bytes.now b.end (xs ++ ys)
+  next_ends e = sym (end_next b.bytes.now c.bytes.now b.end c.end _ xs ys w.lines (rw e))
+
+  pub refused_ends : {d : NoRoom} → a ≡ Err d → c.end ≡ end_of b.bytes.now b.end (xs ++ ys)
+  refused_ends e = w.ends ∙ sym (end_refused b.bytes.now c.bytes.now b.end _ xs ys w.lines (rw e))
 
 -- ── at a field ──
 module _ (l : List ℕ) (s : State) (at : ℕ) {x : Next} (i : x ≡ next_at l at) where
@@ -48,6 +54,7 @@ module _ (l : List ℕ) (s : State) (at : ℕ) {x : Next} (i : x ≡ next_at l a
 pub record Left (l : List ℕ) (s : State) (b : TextBuffer) (at e : ℕ) (t : State) (o : TextBuffer) : Type 0 where
   pub same : o.bytes.ghost_name ≡ b.bytes.ghost_name
   pub lines : (f : State → List (List ℕ)) → printed o.bytes.now o.end (left f l t at e) ≡ printed b.bytes.now b.end (left f l s 4 1)
+  pub ends : (f : State → List (List ℕ)) → end_of o.bytes.now o.end (left f l t at e) ≡ end_of b.bytes.now b.end (left f l s 4 1)
   pub table : run_from t (rest l at).events ≡ run_from s (rest l 4).events
 
 module _ {l : List ℕ} {s : State} {b : TextBuffer} {at e : ℕ} (t : Table) {o : TextBuffer} (h : Left l s b at e (view t) o) {x : Next} (i : x ≡ next_at l at) where
@@ -56,7 +63,13 @@ module _ {l : List ℕ} {s : State} {b : TextBuffer} {at e : ℕ} (t : Table) {o
 
   -- at the list's end
   pub ends_done : x ≡ Ok None → Ends o (Ok (Some t))
-  ends_done g = record { same = h.same; lines = λ f. ap (printed o.bytes.now o.end) (sym (left_done f l (view t) at e i g)) ∙ h.lines f; table = sym (events_done l (view t) at i g) ∙ h.table }
+  ends_done g =
+      record {
+        same = h.same;
+        lines = λ f. ap (printed o.bytes.now o.end) (sym (left_done f l (view t) at e i g)) ∙ h.lines f;
+        ends = λ f. ap (end_of o.bytes.now o.end) (sym (left_done f l (view t) at e i g)) ∙ h.ends f;
+        table = sym (events_done l (view t) at i g) ∙ h.table;
+      }
 
   -- at a field that stops the list, the number of which is k
   module _ {r : Stop} (g : x ≡ Err r) {k : ℕ} (j : k ≡ stop_number r) {u : TextBuffer} {a : Result (Unit {0}) NoRoom} (w : WroteLines o (stopped_line at k ∷ []) a u) where
@@ -65,11 +78,23 @@ module _ {l : List ℕ} {s : State} {b : TextBuffer} {at e : ℕ} (t : Table) {o
 
     -- whose line is written,
     pub ends_stopped : {v : Unit {0}} → a ≡ Ok v → Ends u (Ok (Some t))
-    ends_stopped y = record { same = w.same ∙ h.same; lines = λ f. next_printed (f (view t)) w y ∙ rw (← stop_line f) (h.lines f); table = sym (events_stopped l (view t) at i g) ∙ h.table }
+    ends_stopped y =
+        record {
+          same = w.same ∙ h.same;
+          lines = λ f. next_printed (f (view t)) w y ∙ rw (← stop_line f) (h.lines f);
+          ends = λ f. next_ends (f (view t)) w y ∙ rw (← stop_line f) (h.ends f);
+          table = sym (events_stopped l (view t) at i g) ∙ h.table;
+        }
 
     -- or refused
     pub stop_refused : {d : NoRoom} → a ≡ Err d → Ends u (Err d)
-    stop_refused y = record { same = w.same ∙ h.same; lines = λ f. refused_printed (f (view t)) w y ∙ rw (← stop_line f) (h.lines f); table = tt }
+    stop_refused y =
+        record {
+          same = w.same ∙ h.same;
+          lines = λ f. refused_printed (f (view t)) w y ∙ rw (← stop_line f) (h.lines f);
+          ends = λ f. refused_ends (f (view t)) w y ∙ rw (← stop_line f) (h.ends f);
+          table = tt;
+        }
 
   -- an event that is answered with the number r and leaves the table n
   module _ {v : Event} {next : ℕ} (g : x ≡ Ok (Some (v, next))) {r : ℕ} (j : r ≡ result_number (step (view t) v)) {n : State} (k : n ≡ after (view t) v)
@@ -78,19 +103,31 @@ module _ {l : List ℕ} {s : State} {b : TextBuffer} {at e : ℕ} (t : Table) {o
     got_lines f = left_got f l (view t) at e i g r j n k
 
     pub goes_on : {y : Unit {0}} → a ≡ Ok y → Left l s b next (e + 1) n u
-    goes_on y = record { same = w.same ∙ h.same; lines = λ f. next_printed (left f l n next (e + 1)) w y ∙ rw (← got_lines f) (h.lines f); table = sym (events_got l (view t) at i g k) ∙ h.table }
+    goes_on y =
+        record {
+          same = w.same ∙ h.same;
+          lines = λ f. next_printed (left f l n next (e + 1)) w y ∙ rw (← got_lines f) (h.lines f);
+          ends = λ f. next_ends (left f l n next (e + 1)) w y ∙ rw (← got_lines f) (h.ends f);
+          table = sym (events_got l (view t) at i g k) ∙ h.table;
+        }
 
     -- its line has no room
     pub note_refused : {d : NoRoom} → a ≡ Err d → Ends u (Err d)
-    note_refused y = record { same = w.same ∙ h.same; lines = λ f. refused_printed (left f l n next (e + 1)) w y ∙ rw (← got_lines f) (h.lines f); table = tt }
+    note_refused y =
+        record {
+          same = w.same ∙ h.same;
+          lines = λ f. refused_printed (left f l n next (e + 1)) w y ∙ rw (← got_lines f) (h.lines f);
+          ends = λ f. refused_ends (left f l n next (e + 1)) w y ∙ rw (← got_lines f) (h.ends f);
+          table = tt;
+        }
 
 -- ── all of a list ──
 module _ {l : List ℕ} {b o : TextBuffer} where
   pub all_refused : {e : NoRoom} → Headed l b o (Err e) → RanAll l b o (Err e)
-  all_refused {e} h = record { same = h.line.same; lines = λ f. (headed_refused f l {r = Err e} h refl).lines; table = tt }
+  all_refused {e} h = record { same = h.line.same; lines = λ f. (headed_refused f l {r = Err e} h refl).lines; ends = λ f. (headed_refused f l {r = Err e} h refl).ends; table = tt }
 
   pub all_ended : Headed l b o (Ok None) → RanAll l b o (Ok None)
-  all_ended h = record { same = h.line.same; lines = λ f. (headed_ended f l h).lines; table = tt }
+  all_ended h = record { same = h.line.same; lines = λ f. (headed_ended f l h).lines; ends = λ f. (headed_ended f l h).ends; table = tt }
 
 last_more : (P Q : State → Type 0) (x : Result (Option Table) NoRoom) → ((u : State) → P u → Q u) → LastTable P x → LastTable Q x
 last_more P Q (Err e) f h = tt
@@ -104,6 +141,7 @@ all_run {l} {b} {o} {n} {lim} hd {s} e {u} {y} r =
     record {
       same = r.same ∙ hd.line.same;
       lines = λ f. r.lines f ∙ rw (e, lines_begun f l refl first) (next_printed (left f l (start n lim) 4 1) (rw first at hd.line) refl);
+      ends = λ f. r.ends f ∙ rw (e, lines_begun f l refl first) (next_ends (left f l (start n lim) 4 1) (rw first at hd.line) refl);
       table = last_more (λ v. v ≡ run_from s (rest l 4).events) (RunTable l) y
           (λ v q. record {
             n = n;
@@ -119,11 +157,11 @@ all_run {l} {b} {o} {n} {lim} hd {s} e {u} {y} r =
 -- what is printed behind it
 module _ (f : State → List (List ℕ)) {l : List ℕ} {b o : TextBuffer} where
   pub none_behind : RanAll l b o (Ok None) → WroteLines b (lines_with f l) (Ok tt) o
-  none_behind h = record { same = h.same; lines = h.lines f }
+  none_behind h = record { same = h.same; lines = h.lines f; ends = h.ends f }
 
   pub last_behind : {t : Table} → RanAll l b o (Ok (Some t)) → {r : Result (Unit {0}) NoRoom} {d : TextBuffer} → WroteLines o (f (view t)) r d → WroteLines b (lines_with f l) r d
-  last_behind h w = record { same = w.same ∙ h.same; lines = w.lines ∙ h.lines f }
+  last_behind h w = record { same = w.same ∙ h.same; lines = w.lines ∙ h.lines f; ends = w.ends ∙ h.ends f }
 
   -- a refusal, as it is handed on
   pub refused_behind : {e : NoRoom} → RanAll l b o (Err e) → {r : Result (Unit {0}) NoRoom} → IsErr r → WroteLines b (lines_with f l) r o
-  refused_behind {e} h {r} i = record { same = h.same; lines = rw (refused_at r o.end i) (h.lines f) }
+  refused_behind {e} h {r} i = record { same = h.same; lines = rw (refused_at r o.end i) (h.lines f); ends = h.ends f }

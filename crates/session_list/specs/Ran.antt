@@ -9,7 +9,7 @@ use Rattle.model.specs.declared.Table.{Table}
 use Rattle.event_list.specs.Format.{Reading, begun, reading}
 use Rattle.listing.specs.declared.NoRoom.{NoRoom}
 use Rattle.listing.specs.declared.buffer.TextBuffer.{TextBuffer}
-use Rattle.listing.specs.Printing.{Print, shown, printed}
+use Rattle.listing.specs.Printing.{Print, shown, printed, end_of}
 use Rattle.run_list.specs.Text.{run_lines_with, lines_with}
 
 -- what printing the last table, if there is one, answers, behind what is written in the buffer o, where f says what is printed of a table
@@ -22,6 +22,12 @@ abbrev pub printed_behind : (State → List (List ℕ)) → TextBuffer → Resul
 printed_behind f o (Ok x) = table_behind f o x
 printed_behind f o (Err e) = shown (Err e) o.bytes.now
 
+-- where the buffer's end is then
+abbrev pub end_behind : (State → List (List ℕ)) → TextBuffer → Result (Option Table) NoRoom → ℕ
+end_behind f o (Ok (Some t)) = end_of o.bytes.now o.end (f (view t))
+end_behind f o (Ok None) = o.end
+end_behind f o (Err e) = o.end
+
 -- P, of the last table, where one is left to print
 abbrev pub LastTable : (State → Type 0) → Result (Option Table) NoRoom → Type 0
 LastTable P x = IfOk x (λ r. IfSome r (λ t. P (view t)))
@@ -32,6 +38,7 @@ pub record RanFrom (s : State) (r : Reading) (b o : TextBuffer) (x : Result (Opt
   pub same : o.bytes.ghost_name ≡ b.bytes.ghost_name
   -- with whatever is printed of the last table behind it, these are the lines of the run
   pub lines : (f : State → List (List ℕ)) → printed_behind f o x ≡ printed b.bytes.now b.end (run_lines_with f s 1 r)
+  pub ends : (f : State → List (List ℕ)) → end_behind f o x ≡ end_of b.bytes.now b.end (run_lines_with f s 1 r)
   -- that table is the one after r's events: where a list stops, "the events accepted before it keep their effect"
   pub table : LastTable (λ u. u ≡ run_from s r.events) x
 
@@ -49,4 +56,5 @@ pub record RanAll (l : List ℕ) (b o : TextBuffer) (x : Result (Option Table) N
   -- the same lent bytes
   pub same : o.bytes.ghost_name ≡ b.bytes.ghost_name
   pub lines : (f : State → List (List ℕ)) → printed_behind f o x ≡ printed b.bytes.now b.end (lines_with f l)
+  pub ends : (f : State → List (List ℕ)) → end_behind f o x ≡ end_of b.bytes.now b.end (lines_with f l)
   pub table : LastTable (RunTable l) x

@@ -2,7 +2,7 @@
 // says why; a program's own message goes there as well. No contract can say which bytes standard input gives, or which reach standard output.
 #![tactic(auto)]
 
-ghost use Rattle.std.specs.Prelude.{◌≡◌, ℕ, ◌<◌, ◌≤◌, ◌^◌, length, take, IfOk};
+ghost use Rattle.std.specs.Prelude.{◌≡◌, ℕ, ◌<◌, ◌≤◌, ◌^◌, length, take, IfOk, None};
 ghost use Rattle.std.specs.Io.{ReadsAtMost};
 ghost use Rattle.std.specs.Io.KnownBytes.{Consumes, IsAtEnd};
 ghost use Rattle.standard_io.specs.Input.{Within, Counted};
@@ -32,6 +32,14 @@ fn read_whole<R: Read>(from: &mut R, buf: &mut [u8]) -> io::Result<usize>
     Ok(at)
 }
 
+// A failed read, which standard error is told of, gives nothing.
+fn read_failed<R: Eprint>(rt: &R, e: io::Error) -> Option<usize>
+    ensures { result ≡ None }
+{
+    let _ = eprintln!(rt; "standard input: {e}");
+    None
+}
+
 // Reads standard input to its end, or until buf is full: whether there is more is then not known. A read of nothing is the end, so on a terminal it is given once.
 // The answer is how many bytes were read; none where a read failed: standard error is told why, and what was read before counts for nothing.
 pub fn read_all<R: io::Input + Eprint>(rt: &R, buf: &mut [u8]) -> Option<usize>
@@ -40,10 +48,7 @@ pub fn read_all<R: io::Input + Eprint>(rt: &R, buf: &mut [u8]) -> Option<usize>
 {
     match read_whole(&mut rt.reader(), buf) {
         Ok(n) => Some(n),
-        Err(e) => {
-            let _ = eprintln!(rt; "standard input: {e}");
-            None
-        }
+        Err(e) => read_failed(rt, e),
     }
 }
 

@@ -17,7 +17,7 @@ use Rattle.std.specs.Prelude.{Option, Some, None, Result as Answer, Ok, Err}
 use Rattle.event_list.specs.Format.{Next, First, stop_number, next_at, first_of}
 use Rattle.event_list.proofs.Reading.{rest_done, rest_stopped, rest_got, next_past, reading_failed, reading_begun, first_good}
 use Rattle.listing.specs.Lines.{cabinets_line, stopped_line, table_lines}
-use Rattle.listing.specs.Printing.{put_next, answer_at, printed, joined, Wrote, WroteLines}
+use Rattle.listing.specs.Printing.{put_next, answer_at, printed, end_of, joined, Wrote, WroteLines}
 use Rattle.listing.specs.declared.NoRoom.{NoRoom}
 use Rattle.listing.specs.declared.buffer.TextBuffer.{TextBuffer}
 use Rattle.listing.proofs.Appended.{appended, wrote_twice}
@@ -155,8 +155,8 @@ after_other l p t e = rw e
 
 -- no lines
 pub no_lines : (b : TextBuffer) → WroteLines b [] (Ok tt) b
-unfolding printed
-no_lines b = record { same = refl; lines = refl }
+unfolding printed end_of
+no_lines b = record { same = refl; lines = refl; ends = refl }
 
 -- how far the list still goes, where a trace goes on
 abbrev pub bytes_left : List ℕ → Option Trace → ℕ

@@ -6,7 +6,7 @@ use mathlib.Core.Path.{◌≡◌, refl, sym, ap}
 use mathlib.Core.Bool.{Bool, true, false}
 use mathlib.Core.List.{List, [], ◌∷◌, ◌++◌, append_assoc, append-nil}
 use lib.ListN.{length, take}
-use borrow.Author.Tests.{ne_eqb}
+use borrow.Author.Tests.{eq-eqb, ne_eqb}
 use Rattle.node_set.specs.NodeSet.{has}
 use Rattle.model.specs.Pick.{pick, pick_true, pick_false}
 use Rattle.model.specs.declared.Message.{Message}
@@ -18,7 +18,7 @@ use Rattle.listing.proofs.Appended.{wrote_twice}
 use Rattle.listing.proofs.Decimal.{decimal_short}
 use Rattle.short_lists_text.specs.Text.{spaced}
 use Rattle.short_lists_text.proofs.Spaced.{spaced_one}
-use Rattle.trace_text.specs.Words.{nodes_from, numbered, carried_text}
+use Rattle.trace_text.specs.Words.{nodes_from, set_text, numbered, kind_text, carried_text}
 
 -- ── pieces ──
 
@@ -98,7 +98,59 @@ nodes_more {b} {o} {u} k s f g =
     rw (add-one k, nodes_last k 1 s, spaced_append (nodes_from k 1 s) (pick (has s (1 + k)) ((1 + k) ∷ []) []), z, add-one k) in
     rw e (wrote_twice f g)
 
+pub set_none : (s : ℕ) → s ≡ 0 → set_text s ≡ bytes " none"
+unfolding set_text
+set_none s e = rw (eq-eqb s 0 e, pick_true)
+
+pub set_some : (s : ℕ) → (s ≡ 0 → ⊥) → set_text s ≡ spaced (nodes_from 16 1 s)
+unfolding set_text
+set_some s e = rw (ne_eqb s 0 e, pick_false)
+
 -- ── a message ──
+
+module _ (k : ℕ) where
+  pub kind_one : k ≡ 1 → kind_text k ≡ bytes "AreYouCoordinator"
+  unfolding kind_text pick
+  kind_one e = rw (eq-eqb k 1 e)
+
+  module _ (n1 : k ≡ 1 → ⊥) where
+    pub kind_two : k ≡ 2 → kind_text k ≡ bytes "AreYouThere"
+    unfolding kind_text pick
+    kind_two e = rw (ne_eqb k 1 n1, eq-eqb k 2 e)
+
+    module _ (n2 : k ≡ 2 → ⊥) where
+      pub kind_three : k ≡ 3 → kind_text k ≡ bytes "Invitation"
+      unfolding kind_text pick
+      kind_three e = rw (ne_eqb k 1 n1, ne_eqb k 2 n2, eq-eqb k 3 e)
+
+      module _ (n3 : k ≡ 3 → ⊥) where
+        pub kind_four : k ≡ 4 → kind_text k ≡ bytes "Accept"
+        unfolding kind_text pick
+        kind_four e = rw (ne_eqb k 1 n1, ne_eqb k 2 n2, ne_eqb k 3 n3, eq-eqb k 4 e)
+
+        module _ (n4 : k ≡ 4 → ⊥) where
+          pub kind_five : k ≡ 5 → kind_text k ≡ bytes "Ready"
+          unfolding kind_text pick
+          kind_five e = rw (ne_eqb k 1 n1, ne_eqb k 2 n2, ne_eqb k 3 n3, ne_eqb k 4 n4, eq-eqb k 5 e)
+
+          pub kind_other : (k ≡ 5 → ⊥) → kind_text k ≡ bytes "reply"
+          unfolding kind_text pick
+          kind_other n5 = rw (ne_eqb k 1 n1, ne_eqb k 2 n2, ne_eqb k 3 n3, ne_eqb k 4 n4, ne_eqb k 5 n5)
+
+module _ (m : Message) where
+  pub carried_one : m.kind ≡ 1 → carried_text m ≡ []
+  unfolding carried_text pick
+  carried_one e = rw (eq-eqb m.kind 1 e)
+
+  module _ (n1 : m.kind ≡ 1 → ⊥) where
+    pub carried_yes : m.kind ≡ 6 → carried_text m ≡ pick m.yes (bytes " yes") (bytes " no")
+    unfolding carried_text
+    carried_yes e = rw (ne_eqb m.kind 1 n1, eq-eqb m.kind 6 e, pick_true, pick_false)
+
+    module _ (n6 : m.kind ≡ 6 → ⊥) where
+      pub carried_five : m.kind ≡ 5 → carried_text m ≡ numbered (bytes " group") m.group.number ++ numbered (bytes " task") m.task.number
+      unfolding carried_text pick
+      carried_five e = rw (ne_eqb m.kind 1 n1, ne_eqb m.kind 6 n6, eq-eqb m.kind 5 e)
 
 pub carried_group : (m : Message) → (m.kind ≡ 1 → ⊥) → (m.kind ≡ 6 → ⊥) → (m.kind ≡ 5 → ⊥) → carried_text m ≡ numbered (bytes " group") m.group.number
 unfolding carried_text pick

@@ -3,7 +3,7 @@ use native.Mathlib.Omega.{arith}
 use mathlib.Core.Path.{refl, ◌∙◌, ap}
 use Rattle.std.specs.Prelude.{Ok}
 use Rattle.event_list.proofs.Reading.{next_past}
-use Rattle.listing.specs.Printing.{printed}
+use Rattle.listing.specs.Printing.{printed, end_of}
 use Rattle.listing.proofs.Written.{lines_then, lines_refused}
 use Rattle.run_list.proofs.Laws.{event_there}
 use Rattle.list_printer.proofs.Laws.{left_done, left_stopped, left_got}
@@ -14,10 +14,10 @@ loop-event-init c = (c.requires.0, λ r d w. w)
 
 -- the list's end
 pub returns-in-Ok-None : goal.returns-in-Ok-None
-unfolding printed
+unfolding printed end_of
 returns-in-Ok-None c =
     let l = c.loop-event in
-    l.invariant.1 _ _ (rw (left_done c.args.list.now l.at c.event_at.ensures (c.in-Ok-None.is ∙ ap Ok c.in-Ok-None.field-0-is)) (record { same = refl; lines = refl }))
+    l.invariant.1 _ _ (rw (left_done c.args.list.now l.at c.event_at.ensures (c.in-Ok-None.is ∙ ap Ok c.in-Ok-None.field-0-is)) (record { same = refl; lines = refl; ends = refl }))
 
 -- a refusal of the list
 pub returns-in-Err : goal.returns-in-Err
