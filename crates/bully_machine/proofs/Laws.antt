@@ -7,6 +7,7 @@ use lib.ListN.{length, get_or, take, set}
 use lib.Seq.{get_or-take}
 use mir.Val.{Val}
 use denote.Laws.{Is}
+use denote.Array.{Array}
 use denote.Struct.Declared.{row}
 use borrow.Author.Tests.{le-leb, eq-eqb}
 use Rattle.node_set.specs.NodeSet.{highest}
@@ -17,6 +18,7 @@ use Rattle.bully_model.specs.Range.{node_in_range}
 use Rattle.bully_model.specs.State.{State, starting_node, start, node_at, stored, in_range, view}
 use Rattle.bully_model.specs.declared.Node.{Node}
 use Rattle.bully_model.specs.declared.Table.{Table}
+use Rattle.bully_model.specs.contracts.Node as node
 use Rattle.bully_model.specs.contracts.Table as T
 use Rattle.bully_machine.specs.Stepped.{starting_table}
 
@@ -29,6 +31,9 @@ highest_fits s h n = highest_in 16 s (omega arith) (lt_within 16 s h) (omega ari
 -- how long it is: `c.well_formed` has the relation, of each parameter
 pub sized : (t : Table) {vs : List Val} → Is (row T.the_type) t vs → length t.nodes ≡ 16
 sized t g = g.1.1.1.0.1.0.1
+
+pub nodes_long : (cs : List Node) {vs : List Val} → Is (Array (row node.the_type) 16) cs vs → length cs ≡ 16
+nodes_long cs g = g.1.0.1
 
 -- 0 is nobody's number
 pub nobody : (t : Table) (i : ℕ) → i ≡ 0 → starting_node ≡ node_at (view t) i

@@ -5,7 +5,7 @@ use Prim.Native.Nat.{ℕ}
 use Rattle.std.specs.Prelude.{Result, Ok, Err, IsErr}
 use Rattle.listing.specs.declared.NoRoom.{NoRoom}
 use Rattle.listing.specs.declared.buffer.TextBuffer.{TextBuffer}
-use Rattle.listing.specs.Printing.{Put, Printed, WroteLines, answer_at, refused, printed}
+use Rattle.listing.specs.Printing.{Put, Printed, LinesIn, WroteLines, answer_at, refused, printed}
 use Rattle.listing.proofs.Printing.{then_next, then_refused, end_next, end_refused, printed_holds}
 
 -- A refusal is refusal 15, wherever the buffer's end is.
@@ -32,8 +32,12 @@ module _ {b c : TextBuffer} {xs : List (List ℕ)} {a : Result (Unit {0}) NoRoom
         ends = w.ends ∙ sym (end_refused b.bytes.now c.bytes.now b.end (answer_at a c.end) xs ys w.lines (rw e));
       }
 
+-- What was written, the buffer's end left aside.
+pub lines_in : {b c : TextBuffer} {xs : List (List ℕ)} {a : Result (Unit {0}) NoRoom} → WroteLines b xs a c → LinesIn b xs a c
+lines_in w = record { same = w.same; lines = w.lines }
+
 -- A buffer over all of some bytes, of which none are written, and what the bytes then hold, is printing from their start.
-pub printed_whole_buffer : {b c : TextBuffer} {xs : List (List ℕ)} {a : Result (Unit {0}) NoRoom} → b.end ≡ 0 → WroteLines b xs a c → (o : List ℕ) → o ≡ c.bytes.now → (r : Put) → r ≡ answer_at a c.end → Printed xs b.bytes.now o r
+pub printed_whole_buffer : {b c : TextBuffer} {xs : List (List ℕ)} {a : Result (Unit {0}) NoRoom} → b.end ≡ 0 → LinesIn b xs a c → (o : List ℕ) → o ≡ c.bytes.now → (r : Put) → r ≡ answer_at a c.end → Printed xs b.bytes.now o r
 printed_whole_buffer {b} {c} {xs} {a} z w o e r f = printed_holds xs b.bytes.now o r (rw (e, f) (w.lines ∙ ap (λ (k : ℕ). printed b.bytes.now k xs) z))
 
 pub refused_there : (r : Put) → IsErr r → {a : Result (Unit {0}) NoRoom} {d : NoRoom} → a ≡ Err d → (p : ℕ) → r ≡ answer_at a p

@@ -97,7 +97,13 @@ pub record Wrote (b : TextBuffer) (s : List ℕ) (o : TextBuffer) : Type 0 where
   pub same : o.bytes.ghost_name ≡ b.bytes.ghost_name
   pub appended : Appended b.bytes.now b.end s o.bytes.now o.end
 
--- What writing the lines xs into the buffer b answers, a, and leaves, o: they are written one after the other behind what was written.
+-- The lines xs are written one after the other behind what was written in the buffer b: what is answered, a, and what the lent bytes then hold; o is what the buffer then is.
+pub record LinesIn (b : TextBuffer) (xs : List (List ℕ)) (a : Result (Unit {0}) NoRoom) (o : TextBuffer) : Type 0 where
+  -- the same lent bytes
+  pub same : o.bytes.ghost_name ≡ b.bytes.ghost_name
+  pub lines : shown (answer_at a o.end) o.bytes.now ≡ printed b.bytes.now b.end xs
+
+-- What writing the lines xs into the buffer b answers, a, and leaves, o: the same, and where its end then is.
 pub record WroteLines (b : TextBuffer) (xs : List (List ℕ)) (a : Result (Unit {0}) NoRoom) (o : TextBuffer) : Type 0 where
   -- the same lent bytes
   pub same : o.bytes.ghost_name ≡ b.bytes.ghost_name

@@ -2,7 +2,7 @@
 ghost use Rattle.std.specs.Prelude.{List, ℕ, ◌≡◌, ◌∷◌, ◌+◌, ◌≤◌, length};
 ghost use Rattle.listing.specs.Decimal.{decimal};
 ghost use Rattle.listing.specs.Parts.{padded};
-ghost use Rattle.listing.specs.Printing.{Appended, Wrote, HasRoom, WroteLines, Printed};
+ghost use Rattle.listing.specs.Printing.{Appended, Wrote, HasRoom, LinesIn, Printed};
 
 use crate::NoRoom;
 
@@ -97,7 +97,7 @@ pub fn print_into<F: FnOnce(&mut TextBuffer) -> Result<(), NoRoom>>(
     lines: F,
 ) -> Result<usize, NoRoom>
     requires { F.IsAlwaysCallable lines }
-    ensures { (xs : List (List ℕ)) → ((b : _) (r : _) (o : _) → F.post lines b r o → WroteLines b.now xs r o.now) → Printed xs out.old out.new result }
+    ensures { (xs : List (List ℕ)) → ((b : _) (r : _) (o : _) → F.post lines b r o → LinesIn b.now xs r o.now) → Printed xs out.old out.new result }
 {
     let mut text = TextBuffer { bytes: out, end: 0 };
     lines(&mut text)?;

@@ -213,7 +213,7 @@ module _ (t : Table) (z : Sized t) (ok : in_range (view t) ≡ true) (e : Event)
       pub model_accepts : step (view t) e ≡ accepted (effect (view t) e) (reaction_to (view t) e).mark
       model_accepts = step_accepts t e ok c (node_is clear) _ found clear later.0 r reacts _ (left_counts t z ok e k hk reach _ refl) ends p
 
-      accepts : (u : Table) → view u ≡ stored (view t) e k at r → Stepped t e (record { answer = Accepted; table = u })
+      pub accepts : (u : Table) → view u ≡ stored (view t) e k at r → Stepped t e (record { answer = Accepted; table = u })
       accepts u h =
           all_clear t e ok c (node_is clear) _ found clear later.0 r reacts _ (left_counts t z ok e k hk reach _ refl) ends p u (h ∙ stores)
 
@@ -238,9 +238,9 @@ module _ (t : Table) (z : Sized t) (ok : in_range (view t) ≡ true) (e : Event)
     pub judged : Judged t.n t.limits.messages t.waiting k c m e (Ok r)
     judged = record { answer = sym (first_none before _ refl (sym j.answer)).0; reaction = j.reaction }
 
-    below : pair_at_end t.sent r.outgoing ≡ false
+    pub pair_below : pair_at_end t.sent r.outgoing ≡ false
     unfolding pick
-    below = sym (at_end r judged) ∙ rw j.reaction (not_met 17 all refl (sym j.answer))
+    pair_below = sym (at_end r judged) ∙ rw j.reaction (not_met 17 all refl (sym j.answer))
 
     pub all_accept : (u : Table) → view u ≡ stored (view t) e k at r → Stepped t e (record { answer = Accepted; table = u })
-    all_accept u h = accepts r judged below u h
+    all_accept u h = accepts r judged pair_below u h

@@ -25,6 +25,7 @@ use Rattle.model.specs.declared.Node.{Node}
 use Rattle.model.specs.declared.Message.{Message}
 use Rattle.model.specs.declared.Table.{Table}
 use Rattle.model.specs.contracts.Message as message
+use Rattle.model.specs.contracts.Node as node
 use Rattle.model.specs.contracts.Table as T
 use Rattle.model.proofs.Local.{both_left, both_right}
 use Rattle.model.proofs.Pairs.{pair_within}
@@ -52,6 +53,9 @@ sized t g = record {
 }
 
 -- the same of an array by itself
+pub nodes_long : (cs : List Node) {vs : List Val} → Is (Array (row node.the_type) 16) cs vs → length cs ≡ 16
+nodes_long cs g = g.1.0.1
+
 pub messages_long : (ms : List Message) {vs : List Val} → Is (Array (row message.the_type) 64) ms vs → length ms ≡ 64
 messages_long ms g = g.1.0.1
 

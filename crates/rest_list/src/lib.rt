@@ -70,6 +70,7 @@ fn print_lines(list: &[u8], out: &mut TextBuffer) -> Result<(), NoRoom>
 }
 
 // The text of list at the start of out, and its length; or refusal 15, and then its lines up to the first that has no room.
+#[tactic(auto, using(listing::proofs::Written::lines_in))]
 pub fn print(list: &[u8], out: &mut [u8]) -> Result<usize, NoRoom>
     ensures { Printed (rest_lines_of list.now) out.old out.new result }
 {

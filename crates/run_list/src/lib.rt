@@ -111,6 +111,7 @@ fn print_lines(list: &[u8], out: &mut TextBuffer) -> Result<(), NoRoom>
 }
 
 // The text of list at the start of out, and its length; or refusal 15.
+#[tactic(auto, using(listing::proofs::Written::lines_in))]
 pub fn print(list: &[u8], out: &mut [u8]) -> Result<usize, NoRoom>
     ensures { Printed (lines_of list.now) out.old out.new result }
 {
