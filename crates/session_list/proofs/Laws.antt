@@ -15,15 +15,15 @@ use Rattle.event_list.proofs.Reading.{rest_done, rest_stopped, rest_got, reading
 use Rattle.listing.specs.declared.NoRoom.{NoRoom}
 use Rattle.listing.specs.declared.buffer.TextBuffer.{TextBuffer}
 use Rattle.listing.specs.Lines.{stopped_line, table_lines}
-use Rattle.listing.specs.Printing.{WroteLines, shown, printed, end_of}
+use Rattle.listing.specs.Printing.{LinesIn, WroteLines, shown, printed, end_of}
 use Rattle.listing.proofs.Printing.{then_next, then_refused, end_next, end_refused}
-use Rattle.listing.proofs.Written.{refused_at}
+use Rattle.listing.proofs.Written.{refused_at, lines_in}
 use Rattle.run_list.specs.Text.{note_lines, lines_with, Headed}
 use Rattle.run_list.proofs.Laws.{left, left_done, left_stopped, left_got, lines_begun, headed_refused, headed_ended, headed_nodes}
 use Rattle.session_list.specs.Ran.{LastTable, RanFrom, RunTable, RanAll}
 
 -- Lines that were written, x behind them none other; and that were refused.
-module _ {b c : TextBuffer} {xs : List (List ℕ)} {a : Result (Unit {0}) NoRoom} (ys : List (List ℕ)) (w : WroteLines b xs a c) where
+module _ {b c : TextBuffer} {xs : List (List ℕ)} {a : Result (Unit {0}) NoRoom} (ys : List (List ℕ)) (w : LinesIn b xs a c) where
   pub next_printed : {u : Unit {0}} → a ≡ Ok u → printed c.bytes.now c.end ys ≡ printed b.bytes.now b.end (xs ++ ys)
   next_printed e = sym (then_next b.bytes.now c.bytes.now b.end c.end _ xs ys w.lines (rw e))
 
@@ -33,8 +33,9 @@ module _ {b c : TextBuffer} {xs : List (List ℕ)} {a : Result (Unit {0}) NoRoom
   pub next_ends : {u : Unit {0}} → a ≡ Ok u → end_of c.bytes.now c.end ys ≡ end_of b.bytes.now b.end (xs ++ ys)
   next_ends e = sym (end_next b.bytes.now c.bytes.now b.end c.end _ xs ys w.lines (rw e))
 
-  pub refused_ends : {d : NoRoom} → a ≡ Err d → c.end ≡ end_of b.bytes.now b.end (xs ++ ys)
-  refused_ends e = w.ends ∙ sym (end_refused b.bytes.now c.bytes.now b.end _ xs ys w.lines (rw e))
+-- the end that a refusal leaves
+pub refused_ends : {b c : TextBuffer} {xs : List (List ℕ)} {a : Result (Unit {0}) NoRoom} (ys : List (List ℕ)) → WroteLines b xs a c → {d : NoRoom} → a ≡ Err d → c.end ≡ end_of b.bytes.now b.end (xs ++ ys)
+refused_ends {b} {c} {xs} ys w e = w.ends ∙ sym (end_refused b.bytes.now c.bytes.now b.end _ xs ys w.lines (rw e))
 
 -- ── at a field ──
 module _ (l : List ℕ) (s : State) (at : ℕ) {x : Next} (i : x ≡ next_at l at) where
@@ -81,8 +82,8 @@ module _ {l : List ℕ} {s : State} {b : TextBuffer} {at e : ℕ} (t : Table) {o
     ends_stopped y =
         record {
           same = w.same ∙ h.same;
-          lines = λ f. next_printed (f (view t)) w y ∙ rw (← stop_line f) (h.lines f);
-          ends = λ f. next_ends (f (view t)) w y ∙ rw (← stop_line f) (h.ends f);
+          lines = λ f. next_printed (f (view t)) (lines_in w) y ∙ rw (← stop_line f) (h.lines f);
+          ends = λ f. next_ends (f (view t)) (lines_in w) y ∙ rw (← stop_line f) (h.ends f);
           table = sym (events_stopped l (view t) at i g) ∙ h.table;
         }
 
@@ -91,7 +92,7 @@ module _ {l : List ℕ} {s : State} {b : TextBuffer} {at e : ℕ} (t : Table) {o
     stop_refused y =
         record {
           same = w.same ∙ h.same;
-          lines = λ f. refused_printed (f (view t)) w y ∙ rw (← stop_line f) (h.lines f);
+          lines = λ f. refused_printed (f (view t)) (lines_in w) y ∙ rw (← stop_line f) (h.lines f);
           ends = λ f. refused_ends (f (view t)) w y ∙ rw (← stop_line f) (h.ends f);
           table = tt;
         }
@@ -106,8 +107,8 @@ module _ {l : List ℕ} {s : State} {b : TextBuffer} {at e : ℕ} (t : Table) {o
     goes_on y =
         record {
           same = w.same ∙ h.same;
-          lines = λ f. next_printed (left f l n next (e + 1)) w y ∙ rw (← got_lines f) (h.lines f);
-          ends = λ f. next_ends (left f l n next (e + 1)) w y ∙ rw (← got_lines f) (h.ends f);
+          lines = λ f. next_printed (left f l n next (e + 1)) (lines_in w) y ∙ rw (← got_lines f) (h.lines f);
+          ends = λ f. next_ends (left f l n next (e + 1)) (lines_in w) y ∙ rw (← got_lines f) (h.ends f);
           table = sym (events_got l (view t) at i g k) ∙ h.table;
         }
 
@@ -116,7 +117,7 @@ module _ {l : List ℕ} {s : State} {b : TextBuffer} {at e : ℕ} (t : Table) {o
     note_refused y =
         record {
           same = w.same ∙ h.same;
-          lines = λ f. refused_printed (left f l n next (e + 1)) w y ∙ rw (← got_lines f) (h.lines f);
+          lines = λ f. refused_printed (left f l n next (e + 1)) (lines_in w) y ∙ rw (← got_lines f) (h.lines f);
           ends = λ f. refused_ends (left f l n next (e + 1)) w y ∙ rw (← got_lines f) (h.ends f);
           table = tt;
         }
@@ -140,8 +141,8 @@ all_run {l} {b} {o} {n} {lim} hd {s} e {u} {y} r =
     let first : first_of l ≡ Ok (n, lim) = (headed_nodes table_lines l hd).first in
     record {
       same = r.same ∙ hd.line.same;
-      lines = λ f. r.lines f ∙ rw (e, lines_begun f l refl first) (next_printed (left f l (start n lim) 4 1) (rw first at hd.line) refl);
-      ends = λ f. r.ends f ∙ rw (e, lines_begun f l refl first) (next_ends (left f l (start n lim) 4 1) (rw first at hd.line) refl);
+      lines = λ f. r.lines f ∙ rw (e, lines_begun f l refl first) (next_printed (left f l (start n lim) 4 1) (lines_in (rw first at hd.line)) refl);
+      ends = λ f. r.ends f ∙ rw (e, lines_begun f l refl first) (next_ends (left f l (start n lim) 4 1) (lines_in (rw first at hd.line)) refl);
       table = last_more (λ v. v ≡ run_from s (rest l 4).events) (RunTable l) y
           (λ v q. record {
             n = n;

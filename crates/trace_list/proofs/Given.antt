@@ -17,7 +17,7 @@ use Rattle.std.specs.Prelude.{Option, Some, None, Result as Answer, Ok, Err}
 use Rattle.event_list.specs.Format.{Next, First, stop_number, next_at, first_of}
 use Rattle.event_list.proofs.Reading.{rest_done, rest_stopped, rest_got, next_past, reading_failed, reading_begun, first_good}
 use Rattle.listing.specs.Lines.{cabinets_line, stopped_line, table_lines}
-use Rattle.listing.specs.Printing.{put_next, answer_at, printed, end_of, joined, Wrote, WroteLines}
+use Rattle.listing.specs.Printing.{put_next, answer_at, printed, end_of, joined, Wrote, LinesIn, WroteLines}
 use Rattle.listing.specs.declared.NoRoom.{NoRoom}
 use Rattle.listing.specs.declared.buffer.TextBuffer.{TextBuffer}
 use Rattle.listing.proofs.Appended.{appended, wrote_twice}
@@ -32,7 +32,7 @@ use Rattle.trace_list.proofs.Moved.{joined_single}
 
 -- ── what was written where there was room ──
 
-module _ {b o : TextBuffer} {xs : List (List ℕ)} {a : Answer (Unit {0}) NoRoom} (w : WroteLines b xs a o) where
+module _ {b o : TextBuffer} {xs : List (List ℕ)} {a : Answer (Unit {0}) NoRoom} (w : LinesIn b xs a o) where
   -- the buffer's end is behind what was written
   end_at : (k : ℕ) → (x : Answer (Unit {0}) NoRoom) → answer_at x o.end ≡ Ok k → o.end ≡ k
   end_at k (Ok u) q = ap put_next q
@@ -43,7 +43,7 @@ module _ {b o : TextBuffer} {xs : List (List ℕ)} {a : Answer (Unit {0}) NoRoom
       let r = printed_whole b.bytes.now o.bytes.now b.end (answer_at a o.end) xs w.lines h in
       record { same = w.same; appended = appended b.bytes.now o.bytes.now (joined xs) b.end o.end h r.1 (end_at (b.end + length (joined xs)) a r.0) }
 
-line_put : {b o : TextBuffer} {x : List ℕ} {a : Answer (Unit {0}) NoRoom} → WroteLines b (x ∷ []) a o → b.end + length x ≤ length b.bytes.now → Wrote b x o
+line_put : {b o : TextBuffer} {x : List ℕ} {a : Answer (Unit {0}) NoRoom} → LinesIn b (x ∷ []) a o → b.end + length x ≤ length b.bytes.now → Wrote b x o
 line_put {b} {o} {x} w h =
     let j = joined_single x in
     rw j at (fits_put w (rw j (omega (arith, h))))
@@ -67,22 +67,22 @@ table_fits : (t : Trace) → in_range (view t.table) ≡ true → length (joined
 table_fits t range = let m = table_long (view t.table) range in let n = (in_range_size (view t.table) range).1 in omega (arith, m, n)
 
 module _ {b o : TextBuffer} {a : Answer (Unit {0}) NoRoom} (z : b.end ≡ 0) (l : length b.bytes.now ≡ 1024) where
-  pub stop_alone : (r : ℕ) → r ≤ 22 → WroteLines b (stopped_line 0 r ∷ []) a o → EndPiece (stopped_line 0 r) o.bytes.now (record { written = o.end; next = None })
+  pub stop_alone : (r : ℕ) → r ≤ 22 → LinesIn b (stopped_line 0 r ∷ []) a o → EndPiece (stopped_line 0 r) o.bytes.now (record { written = o.end; next = None })
   stop_alone r h w =
       let n = stopped_long 0 r (omega arith) h in
       end_piece z (line_put w (omega (arith, n, l, z))) (omega (arith, n))
 
-  pub head_piece : (n : ℕ) (lim : Limits) (t : Table) → n ≤ 16 → WroteLines b (cabinets_line n ∷ []) a o → view t ≡ start n lim
+  pub head_piece : (n : ℕ) (lim : Limits) (t : Table) → n ≤ 16 → LinesIn b (cabinets_line n ∷ []) a o → view t ≡ start n lim
       → MidPiece 4 1 (start n lim) (cabinets_line n) o.bytes.now (record { written = o.end; next = Some (record { at = 4; event = 1; table = t }) })
   head_piece n lim t h w v =
       let m = cabinets_long n h in
       mid_piece z (line_put w (omega (arith, m, l, z))) (omega (arith, m)) (record { at = 4; event = 1; table = t }) (start n lim) v
 
   module _ (t : Trace) (range : in_range (view t.table) ≡ true) where
-    pub table_piece : WroteLines b (table_lines (view t.table)) a o → EndPiece (joined (table_lines (view t.table))) o.bytes.now (record { written = o.end; next = None })
+    pub table_piece : LinesIn b (table_lines (view t.table)) a o → EndPiece (joined (table_lines (view t.table))) o.bytes.now (record { written = o.end; next = None })
     table_piece w = let n = table_fits t range in end_piece z (fits_put w (omega (arith, n, l, z))) (omega (arith, n))
 
-    pub stop_piece : {u : TextBuffer} {y : Answer (Unit {0}) NoRoom} (r : ℕ) → t.at ≤ 65536 → r ≤ 22 → WroteLines b (stopped_line t.at r ∷ []) a o → WroteLines o (table_lines (view t.table)) y u
+    pub stop_piece : {u : TextBuffer} {y : Answer (Unit {0}) NoRoom} (r : ℕ) → t.at ≤ 65536 → r ≤ 22 → LinesIn b (stopped_line t.at r ∷ []) a o → LinesIn o (table_lines (view t.table)) y u
         → EndPiece (joined (stopped_line t.at r ∷ table_lines (view t.table))) u.bytes.now (record { written = u.end; next = None })
     unfolding joined
     stop_piece r h i w v =
